@@ -1,0 +1,5 @@
+pub mod Limits
+pub mod Signed
+pub mod Machine
+pub mod Operations
+pub mod Division

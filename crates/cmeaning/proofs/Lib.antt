@@ -1,0 +1,9 @@
+pub mod Value
+pub mod Do
+pub mod Flat
+pub mod Mentions
+pub mod Lengths
+pub mod Distinct
+pub mod Switches
+pub mod Runs
+pub mod Grows

@@ -1,0 +1,57 @@
+-- The rules of a switch, arm by arm.
+use Rattle.std.proofs.Common.{◌≡◌, ℕ, ◌&&◌, Bool, List, [], ◌∷◌, ◌++◌, map, true, false, refl, sym, ap, ◌∙◌}
+use Rattle.cmeaning.specs.declared.tree.CFunction.{CFunction}
+use Rattle.cmeaning.specs.declared.tree.Expr.{Expr}
+use Rattle.cmeaning.specs.declared.tree.Arm.{Arm}
+use Rattle.cmeaning.specs.declared.tree.Stmt.{Stmt, fold-roll-Stmt}
+use Rattle.cmeaning.specs.declared.tree.Stmt.TheFolds.{fold_out-Arm}
+use Rattle.cmeaning.specs.declared.tree.Stmt.TheOpen.{Stmt-F}
+use Rattle.cmeaning.specs.declared.tree.Stmt.TheVariants as S
+use Rattle.cmeaning.specs.Do.{widths_in}
+use Rattle.cmeaning.specs.Shape.{shape_of}
+use Rattle.cmeaning.specs.Valid.{Rule, Cased, rule_step, cased_step, rule_of, cased_of, cases_of, all_cases, has_case, all_hold, arms_hold, are_cases_of}
+use Rattle.cmeaning.specs.Arms.{arms_right}
+
+cased_is : (f : CFunction) (labels : ℕ) (a : Arm) → cased_of f labels a ≡ record { cases = a.cases; body = map (rule_of f labels) a.body }
+unfolding cased_of rule_of
+cased_is f labels a = fold_out-Arm Rule Cased (rule_step f labels) cased_step a
+
+cases_are : (f : CFunction) (labels : ℕ) (arms : List Arm) → all_cases (map (cased_of f labels) arms) ≡ cases_of arms
+cases_are f labels [] = refl
+cases_are f labels (a ∷ rest) = ap (λ c. c.cases ++ all_cases (map (cased_of f labels) rest)) (cased_is f labels a) ∙ ap (λ xs. a.cases ++ xs) (cases_are f labels rest)
+
+arms_are : (f : CFunction) (labels : ℕ) (arms : List Arm) (room : ℕ) → arms_hold (map (cased_of f labels) arms) room ≡ arms_right f labels arms room
+arms_are f labels [] room = refl
+arms_are f labels (a ∷ rest) room =
+    ap (λ c. has_case c.cases && (all_hold false c.body false room && arms_hold (map (cased_of f labels) rest) room)) (cased_is f labels a)
+    ∙ ap (λ b. has_case a.cases && (all_hold false (map (rule_of f labels) a.body) false room && b)) (arms_are f labels rest room)
+
+switch_is : (f : CFunction) (labels : ℕ) (e : Expr) (arms : List Arm) → rule_of f labels (S.Switch e arms) ≡ rule_step f labels (Stmt-F.Switch e (map (cased_of f labels) arms))
+unfolding rule_of cased_of
+switch_is f labels e arms = ap (rule_of f labels) (sym (S.rolls-Switch e arms)) ∙ fold-roll-Stmt Rule Cased (rule_step f labels) cased_step (Stmt-F.Switch e arms)
+
+pub switch_holds : (f : CFunction) (labels : ℕ) (e : Expr) (arms : List Arm) (after_call in_loop : Bool) (room : ℕ)
+    → (rule_of f labels (S.Switch e arms)).holds after_call in_loop room ≡ are_cases_of (cases_of arms) (shape_of (widths_in f) e) && arms_right f labels arms room
+switch_holds f labels e arms after_call in_loop room =
+    ap (λ r. r.holds after_call in_loop room) (switch_is f labels e arms)
+    ∙ ap (λ xs. are_cases_of xs (shape_of (widths_in f) e) && arms_hold (map (cased_of f labels) arms) room) (cases_are f labels arms)
+    ∙ ap (λ b. are_cases_of (cases_of arms) (shape_of (widths_in f) e) && b) (arms_are f labels arms room)
+
+-- the two tests of a switch, the second where the first holds
+pub switch_then : (f : CFunction) (labels : ℕ) (s : Stmt) (e : Expr) (arms xs ys : List Arm) (after_call in_loop cases right : Bool) (room : ℕ)
+    → s ≡ S.Switch e arms → xs ≡ arms → cases ≡ are_cases_of (cases_of xs) (shape_of (widths_in f) e) → cases ≡ true
+    → ys ≡ arms → right ≡ arms_right f labels ys room → right ≡ (rule_of f labels s).holds after_call in_loop room
+switch_then f labels s e arms xs ys after_call in_loop cases right room is x first pass y second =
+    second ∙ ap (λ zs. arms_right f labels zs room) y
+    ∙ ap (λ b. b && arms_right f labels arms room) (sym pass ∙ first ∙ ap (λ zs. are_cases_of (cases_of zs) (shape_of (widths_in f) e)) x)
+    ∙ sym (switch_holds f labels e arms after_call in_loop room)
+    ∙ ap (λ z. (rule_of f labels z).holds after_call in_loop room) (sym is)
+
+pub switch_else : (f : CFunction) (labels : ℕ) (s : Stmt) (e : Expr) (arms xs : List Arm) (after_call in_loop cases : Bool) (room : ℕ)
+    → s ≡ S.Switch e arms → xs ≡ arms → cases ≡ are_cases_of (cases_of xs) (shape_of (widths_in f) e) → cases ≡ false
+    → cases ≡ (rule_of f labels s).holds after_call in_loop room
+switch_else f labels s e arms xs after_call in_loop cases room is x first fail =
+    fail
+    ∙ ap (λ b. b && arms_right f labels arms room) (sym fail ∙ first ∙ ap (λ zs. are_cases_of (cases_of zs) (shape_of (widths_in f) e)) x)
+    ∙ sym (switch_holds f labels e arms after_call in_loop room)
+    ∙ ap (λ z. (rule_of f labels z).holds after_call in_loop room) (sym is)

@@ -1,0 +1,11 @@
+pub mod Value
+pub mod Do
+pub mod Flat
+pub mod Step
+pub mod Agree
+pub mod Shape
+pub mod Mentions
+pub mod Valid
+pub mod Arms
+pub mod Examples
+pub mod Worked

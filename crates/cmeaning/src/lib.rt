@@ -1,0 +1,22 @@
+//! The subset of C that is printed: its tree, and what a run of it is.
+#![tactic(auto)]
+
+mod body;
+mod cases;
+pub mod numbering;
+mod rules;
+pub mod shape;
+pub mod tree;
+pub mod worked;
+
+pub use numbering::Next;
+pub use rules::{has_name_form, valid};
+pub use shape::Shape;
+pub use tree::{
+    ArithmeticOp, Arm, Arms, Body, CFunction, CName, CalleeDecl, CalleeDecls, CompareOp, CountOp,
+    DivisionOp, Expr, Exprs, ExtendOp, Local, Locals, OverflowOp, Param, Params, ShiftOp,
+    SignedCompareOp, SignedDivisionOp, StatementDivision, Stmt, UnaryOp, Values, Widths,
+};
+
+#[cfg(test)]
+mod tests;

@@ -1,0 +1,355 @@
+//! The rules of a valid tree, but for those of expressions, case values and bodies.
+
+ghost use Rattle.std.specs.Prelude.{◌≡◌, ◌==◌, ◌++◌, ◌&&◌, ◌<◌, ◌^◌, ◌↔◌, IsTrue, List, length, map, nat_le, nat_lt, not, true, false};
+ghost use Rattle.cmeaning.specs.declared.tree.CFunction.{CFunction as Function};
+ghost use Rattle.cmeaning.specs.Do.{same_name as is_same_name, widths_in};
+ghost use Rattle.cmeaning.specs.Shape.{shape_of, is_right, has_width as is_wide, is_condition};
+ghost use Rattle.cmeaning.specs.Valid.{is_letter, is_letter_or_digit, all_letters_or_digits, begins_well, is_name, is_storage, is_before, is_either_before, may_precede, precedes_all, are_params, is_callee_name, result_fits, same_callee_name, are_apart, is_apart_from, is_callee, are_callees, declared_in, is_variable, is_target, is_space, are_right, have_widths, takes, is_call, is_assigned, is_returned, is_long, is_complete, IsValid};
+
+use crate::body::body_holds;
+use crate::numbering::{Next, number_body};
+use crate::shape::{has_width, obeys, variable_width};
+use crate::tree::{CFunction, CName, CalleeDecl, Expr, Param};
+use bits_core::Width;
+use pcode_model::{Name, ParamStorage};
+
+// ---- names
+
+fn letter(c: u8) -> bool
+    ensures { result ≡ is_letter c }
+{
+    (c >= 65 && c <= 90) || (c >= 97 && c <= 122) || c == 95
+}
+
+fn letter_or_digit(c: u8) -> bool
+    ensures { result ≡ is_letter_or_digit c }
+{
+    letter(c) || (c >= 48 && c <= 57)
+}
+
+fn letters_or_digits(name: &[u8]) -> bool
+    ensures { result ≡ all_letters_or_digits name.now }
+{
+    for c in name {
+        if !letter_or_digit(*c) {
+            return false;
+        }
+    }
+    true
+}
+
+fn starts_well(name: &[u8]) -> bool
+    ensures { result ≡ begins_well name.now }
+{
+    match name.first() {
+        None => false,
+        Some(c) => letter(*c),
+    }
+}
+
+/// Whether the bytes are a letter or `_`, then at most 63 letters, digits or `_`.
+pub fn has_name_form(name: &[u8]) -> bool
+    ensures { result ≡ is_name name.now }
+{
+    starts_well(name) && letters_or_digits(name) && name.len() <= 64
+}
+
+#[tactic(auto, using(crate::proofs::Lengths::names_of_lengths))]
+fn same_name(a: &[u8], b: &[u8]) -> bool
+    ensures { result ≡ is_same_name a.now b.now }
+{
+    if a.len() != b.len() {
+        return false;
+    }
+    for i in 0..a.len() {
+        if a[i] != b[i] {
+            return false;
+        }
+    }
+    true
+}
+
+// ---- parameters
+
+fn before(a: ParamStorage, b: ParamStorage) -> bool
+    ensures { result ≡ is_before a b }
+{
+    match a {
+        ParamStorage::Register(x) => match b {
+            ParamStorage::Register(y) => x < y,
+            _ => true,
+        },
+        ParamStorage::Unique(x) => match b {
+            ParamStorage::Register(_) => false,
+            ParamStorage::Unique(y) => x < y,
+            ParamStorage::Stack(_) => true,
+        },
+        ParamStorage::Stack(x) => match b {
+            ParamStorage::Stack(y) => x < y,
+            _ => false,
+        },
+    }
+}
+
+fn precedes(p: &Param, q: &Param) -> bool
+    ensures { result ≡ may_precede p.now q.now }
+{
+    if !p.model {
+        return !q.model && before(p.storage, q.storage);
+    }
+    !q.model || before(p.storage, q.storage) || before(q.storage, p.storage)
+}
+
+fn precedes_each(p: &Param, params: &[Param]) -> bool
+    ensures { result ≡ precedes_all p.now params.now }
+{
+    for q in params {
+        if !precedes(p, q) {
+            return false;
+        }
+    }
+    true
+}
+
+fn storage_fits(p: ParamStorage) -> bool
+    ensures { result ≡ is_storage p }
+{
+    match p {
+        ParamStorage::Register(_) => true,
+        ParamStorage::Unique(_) => true,
+        ParamStorage::Stack(_) => true,
+    }
+}
+
+fn params_fit(params: &[Param]) -> bool
+    ensures { result ≡ are_params params.now }
+{
+    for i in 0..params.len() {
+        if !storage_fits(params[i].storage) || !precedes_each(&params[i], &params[i + 1..]) {
+            return false;
+        }
+    }
+    true
+}
+
+// ---- declarations of callees
+
+fn callee_name_fits(name: &CName) -> bool
+    ensures { result ≡ is_callee_name name.now }
+{
+    match name {
+        CName::Declared(name) => has_name_form(name.as_slice()),
+        CName::Bare => true,
+    }
+}
+
+fn callee_names_agree(a: &CName, b: &CName) -> bool
+    ensures { result ≡ same_callee_name a.now b.now }
+{
+    match (a, b) {
+        (CName::Declared(a), CName::Declared(b)) => same_name(a.as_slice(), b.as_slice()),
+        _ => false,
+    }
+}
+
+fn apart(c: &CalleeDecl, d: &CalleeDecl) -> bool
+    ensures { result ≡ are_apart c.now d.now }
+{
+    c.address != d.address && !callee_names_agree(&c.name, &d.name)
+}
+
+fn apart_from_each(c: &CalleeDecl, callees: &[CalleeDecl]) -> bool
+    ensures { result ≡ is_apart_from c.now callees.now }
+{
+    for d in callees {
+        if !apart(c, d) {
+            return false;
+        }
+    }
+    true
+}
+
+fn callee_fits(c: &CalleeDecl) -> bool
+    ensures { result ≡ is_callee c.now }
+{
+    let _address = c.address;
+    callee_name_fits(&c.name) && (c.returns || c.gives.is_none())
+}
+
+fn callees_fit(callees: &[CalleeDecl]) -> bool
+    ensures { result ≡ are_callees callees.now }
+{
+    for i in 0..callees.len() {
+        if !callee_fits(&callees[i]) || !apart_from_each(&callees[i], &callees[i + 1..]) {
+            return false;
+        }
+    }
+    true
+}
+
+// ---- the parts of statements
+
+fn is_numbered(f: &CFunction, v: u32) -> bool
+    ensures { result ≡ is_variable (widths_in f.now) v }
+{
+    variable_width(f, v) > 0
+}
+
+fn target_fits(f: &CFunction, v: Option<u32>) -> bool
+    ensures { result ≡ is_target (widths_in f.now) v }
+{
+    match v {
+        None => true,
+        Some(v) => is_numbered(f, v),
+    }
+}
+
+fn space_fits(space: &Option<Name>) -> bool
+    ensures { result ≡ is_space space.now }
+{
+    match space {
+        None => true,
+        Some(name) => has_name_form(name.as_slice()),
+    }
+}
+
+fn obey(f: &CFunction, es: &[Expr]) -> bool
+    ensures { result ≡ are_right (widths_in f.now) es.now }
+{
+    for e in es {
+        if !obeys(f, e) {
+            return false;
+        }
+    }
+    true
+}
+
+#[tactic(auto, using(crate::proofs::Lengths::args_of_lengths))]
+fn args_fit(f: &CFunction, args: &[Expr], widths: &[Width]) -> bool
+    ensures { result ≡ have_widths (widths_in f.now) args.now widths.now }
+{
+    if args.len() != widths.len() {
+        return false;
+    }
+    for i in 0..args.len() {
+        if !has_width(f, widths[i].bytes, &args[i]) {
+            return false;
+        }
+    }
+    true
+}
+
+fn result_taken(f: &CFunction, v: Option<u32>, gives: Option<Width>) -> bool
+    ensures { result ≡ takes (widths_in f.now) v gives }
+{
+    match v {
+        None => true,
+        Some(v) => match gives {
+            None => false,
+            Some(w) => is_numbered(f, v) && variable_width(f, v) == w.bytes,
+        },
+    }
+}
+
+pub(crate) fn call_fits(f: &CFunction, v: Option<u32>, callee: u64, args: &[Expr]) -> bool
+    ensures { result ≡ is_call (widths_in f.now) v args.now (declared_in f.now.callees callee) }
+{
+    let callees = f.callees.as_slice();
+    for c in callees {
+        if c.address == callee {
+            return args_fit(f, args, c.args.as_slice()) && result_taken(f, v, c.gives);
+        }
+    }
+    false
+}
+
+pub(crate) fn assigns(f: &CFunction, v: u32, e: &Expr) -> bool
+    ensures { result ≡ is_assigned (widths_in f.now) v (shape_of (widths_in f.now) e.now) }
+{
+    is_numbered(f, v) && has_width(f, variable_width(f, v), e)
+}
+
+pub(crate) fn returns_right(f: &CFunction, e: &Option<Expr>) -> bool
+    ensures { result ≡ is_returned (widths_in f.now) f.now.gives e.now }
+{
+    match (f.gives, e) {
+        (None, None) => true,
+        (Some(w), Some(e)) => has_width(f, w.bytes, e),
+        _ => false,
+    }
+}
+
+pub(crate) fn load_fits(f: &CFunction, v: u32, space: &Option<Name>, address: &Expr) -> bool
+    ensures { result ≡ (is_variable (widths_in f.now) v && (is_space space.now && is_right (shape_of (widths_in f.now) address.now))) }
+{
+    is_numbered(f, v) && space_fits(space) && obeys(f, address)
+}
+
+pub(crate) fn store_fits(f: &CFunction, space: &Option<Name>, address: &Expr, value: &Expr) -> bool
+    ensures { result ≡ (is_space space.now && (is_right (shape_of (widths_in f.now) address.now) && is_right (shape_of (widths_in f.now) value.now))) }
+{
+    space_fits(space) && obeys(f, address) && obeys(f, value)
+}
+
+pub(crate) fn call_ind_fits(f: &CFunction, v: Option<u32>, callee: &Expr, args: &[Expr]) -> bool
+    ensures { result ≡ (is_target (widths_in f.now) v && (is_right (shape_of (widths_in f.now) callee.now) && are_right (widths_in f.now) args.now)) }
+{
+    target_fits(f, v) && obeys(f, callee) && obey(f, args)
+}
+
+pub(crate) fn other_fits(f: &CFunction, v: Option<u32>, index: u64, args: &[Expr]) -> bool
+    ensures { result ≡ (is_target (widths_in f.now) v && (is_long index && are_right (widths_in f.now) args.now)) }
+{
+    let _index = index;
+    target_fits(f, v) && obey(f, args)
+}
+
+pub(crate) fn extra_fits(f: &CFunction, v: u32, offset: u64, after_call: bool) -> bool
+    ensures { result ≡ (after_call && (is_variable (widths_in f.now) v && is_long offset)) }
+{
+    let _offset = offset;
+    after_call && is_numbered(f, v)
+}
+
+pub(crate) fn divide_fits(f: &CFunction, v: u32, left: &Expr, right: &Expr) -> bool
+    ensures { result ≡ (is_assigned (widths_in f.now) v (shape_of (widths_in f.now) left.now) && is_wide (widths_in f.now v) (shape_of (widths_in f.now) right.now)) }
+{
+    assigns(f, v, left) && has_width(f, variable_width(f, v), right)
+}
+
+// ---- functions
+
+fn header_fits(f: &CFunction) -> bool
+    ensures { result ≡ (is_name f.now.name && (are_params f.now.params && are_callees f.now.callees)) }
+{
+    has_name_form(f.name.as_slice())
+        && params_fit(f.params.as_slice())
+        && callees_fit(f.callees.as_slice())
+}
+
+fn body_fits(f: &CFunction, next: Option<Next>) -> bool
+    ensures { result ≡ is_complete f.now next }
+{
+    match next {
+        None => false,
+        Some(n) => {
+            let variables = f.params.as_slice().len() + f.locals.as_slice().len();
+            n.variable == variables
+                && n.callee == f.callees.len()
+                && body_holds(f, n.label, f.body.as_slice(), false, 256)
+        }
+    }
+}
+
+/// Whether a tree is valid, so that it has a text. It takes no memory.
+pub fn valid(f: &CFunction) -> bool
+    ensures { IsTrue result ↔ IsValid f.now }
+{
+    let first = Next {
+        variable: f.params.len(),
+        callee: 0,
+        label: 1,
+    };
+    let next = number_body(f.callees.as_slice(), Some(first), f.body.as_slice());
+    header_fits(f) && body_fits(f, next)
+}

@@ -1,0 +1,3 @@
+pub mod Hexadecimal
+pub mod Nested
+pub mod Shown

@@ -1,0 +1,15 @@
+pub mod Order
+pub mod Apart
+pub mod Listed
+pub mod Callees
+pub mod Relative
+pub mod Meaning
+pub mod Rounds
+pub mod Reaching
+pub mod Marking
+pub mod Faulting
+pub mod Adjacent
+pub mod Exits
+pub mod Scanning
+pub mod Entering
+pub mod Fixing

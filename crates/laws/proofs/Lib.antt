@@ -1,0 +1,9 @@
+pub mod Bits
+pub mod Bytes
+pub mod Compare
+pub mod Conditions
+pub mod Division
+pub mod Parts
+pub mod Shifts
+pub mod Sums
+pub mod Words

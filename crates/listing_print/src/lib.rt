@@ -1,0 +1,9 @@
+//! The canonical text of a listing.
+#![tactic(auto)]
+
+mod lines;
+mod parts;
+mod print;
+mod words;
+
+pub use print::print_listing;

@@ -1,0 +1,11 @@
+pub mod Chains
+pub mod Detach
+pub mod Attach
+pub mod Fields
+pub mod Writes
+pub mod Steps
+pub mod Families
+pub mod Moves
+pub mod Growth
+pub mod Along
+pub mod Walks

@@ -1,0 +1,5 @@
+pub mod Found
+pub mod Steps
+pub mod Values
+pub mod Distinct
+pub mod Places

@@ -1,0 +1,11 @@
+pub mod Tables
+pub mod Whole
+pub mod SlotEdits
+pub mod OpEdits
+pub mod Relinks
+pub mod MoveAll
+pub mod More
+pub mod Empty
+pub mod Sames
+pub mod Runs
+pub mod LowSlots

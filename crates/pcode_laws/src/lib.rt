@@ -1,0 +1,2 @@
+//! Laws of the p-code run, over any memory.
+#![tactic(auto)]

@@ -1,0 +1,10 @@
+pub mod Spaces
+pub mod Places
+pub mod Memory
+pub mod World
+pub mod Step
+pub mod Flow
+pub mod Atoms
+pub mod Ranges
+pub mod Rules
+pub mod WellFormed

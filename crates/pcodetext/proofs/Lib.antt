@@ -1,0 +1,10 @@
+pub mod Tops
+pub mod Joining
+pub mod Reducing
+pub mod Failing
+pub mod Passing
+pub mod Instructions
+pub mod FormIs
+pub mod Formed
+pub mod Keeping
+pub mod Whole

@@ -1,0 +1,81 @@
+-- What follows where no test of a line's faults holds.
+use Rattle.std.proofs.Common.{◌≡◌, ◌∙◌, ◌<◌, ◌≤◌, ℕ, Bool, true, false, List, [], ◌∷◌, ◌++◌, length, ap, sym, refl, arith, subst}
+use Rattle.std.specs.Prelude.{◌==◌, ◌&&◌, ◌||◌, not, nat_le, nat_lt, Option, Some, None, IfSome, if◌then◌else◌}
+use Rattle.std.specs.List.{AllByRecursion, list_any}
+use Rattle.std.specs.Option.{is_none, is_some}
+use Rattle.std.proofs.lemmas.Bool.Decides.{nat_tests}
+use Rattle.pcodetext.specs.declared.fault.Why.{Why}
+use Rattle.pcodetext.specs.Faults.{first_fault, of_some}
+
+pub never : true ≡ false → ⊥
+never h = cc
+
+pub never_back : false ≡ true → ⊥
+never_back h = cc
+
+-- no test of the list holds
+abbrev pub AllFalse : List (Bool × Why) → Type 0
+AllFalse [] = Unit {0}
+AllFalse (fault ∷ rest) = (fault.0 ≡ false) × AllFalse rest
+
+none_some : (v : Why) → ◌≡◌ {A = Option Why} (Some v) None → ⊥
+none_some v h = cc
+
+pub all_false : (fs : List (Bool × Why)) → first_fault fs ≡ None → AllFalse fs
+all_false [] h = tt
+all_false (fault ∷ rest) h = by_test fault.0 refl h (all_false rest)
+  where
+    by_test : (t : Bool) → fault.0 ≡ t → (if t then Some fault.1 else first_fault rest) ≡ None → (first_fault rest ≡ None → AllFalse rest) → (fault.0 ≡ false) × AllFalse rest
+    by_test true e g on = absurd (none_some fault.1 g)
+    by_test false e g on = (e, on g)
+
+pub left_false : (a b : Bool) → (a || b) ≡ false → a ≡ false
+left_false true b h = h
+left_false false b h = refl
+
+pub right_false : (a b : Bool) → (a || b) ≡ false → b ≡ false
+right_false true b h = absurd (never h)
+right_false false b h = h
+
+pub not_false : (a : Bool) → not a ≡ false → a ≡ true
+not_false true h = refl
+not_false false h = absurd (never h)
+
+pub le_false : (a b : ℕ) → nat_le a b ≡ false → b < a
+le_false a b h = grind (arith, nat_tests)
+
+pub lt_false : (a b : ℕ) → nat_lt a b ≡ false → b ≤ a
+lt_false a b h = grind (arith, nat_tests)
+
+pub lt_true : (a b : ℕ) → nat_lt a b ≡ true → a < b
+lt_true a b h = grind (arith, nat_tests)
+
+pub eq_true : (a b : ℕ) → (a == b) ≡ true → a ≡ b
+eq_true a b h = grind (arith, nat_tests)
+
+pub zero_false : (a : ℕ) → (a == 0) ≡ false → 0 < a
+zero_false a h = grind (arith, nat_tests)
+
+pub if_none : {A : Type 0} (P : A → Type 0) (o : Option A) → is_some o ≡ false → IfSome o P
+if_none P None h = tt
+if_none P (Some a) h = absurd (never h)
+
+pub none_is : {A : Type 0} (o : Option A) → is_some o ≡ false → o ≡ None
+none_is None h = refl
+none_is (Some a) h = absurd (never h)
+
+pub nil_is : {A : Type 0} (xs : List A) → length xs ≡ 0 → xs ≡ []
+nil_is [] h = refl
+nil_is (x ∷ xs) h = absurd (omega arith)
+
+pub all_map : {A : Type 0} (P Q : A → Type 0) → ((a : A) → P a → Q a) → (xs : List A) → AllByRecursion P xs → AllByRecursion Q xs
+all_map P Q f [] h = tt
+all_map P Q f (x ∷ xs) h = (f x h.0, all_map P Q f xs h.1)
+
+pub all_snoc : {A : Type 0} (P : A → Type 0) (xs : List A) (y : A) → AllByRecursion P xs → P y → AllByRecursion P (xs ++ y ∷ [])
+all_snoc P [] y h p = (p, tt)
+all_snoc P (x ∷ xs) y h p = (h.0, all_snoc P xs y h.1 p)
+
+pub some_map : {A : Type 0} (P Q : A → Type 0) → ((a : A) → P a → Q a) → (o : Option A) → IfSome o P → IfSome o Q
+some_map P Q f None h = tt
+some_map P Q f (Some a) h = f a h

@@ -1,0 +1,129 @@
+-- A listing that is read is well formed.
+use Rattle.std.proofs.Common.{◌≡◌, ◌∙◌, ◌<◌, ◌≤◌, ◌+◌, ◌⊎◌, ℕ, suc, Bool, true, false, List, [], ◌∷◌, ◌++◌, length, ap, sym, refl, arith, subst}
+use Rattle.std.specs.Prelude.{Option, Some, None, IfSome, IfOk, Result, Ok, Err, if◌then◌else◌}
+use Rattle.std.specs.Option.{is_none, is_some, option_to_list}
+use Rattle.listing_lines.specs.Text.{Line, lines_of}
+use Rattle.pcode_model.specs.declared.listing.Function.{Function}
+use Rattle.pcode_model.specs.declared.listing.Instruction.{Instruction}
+use Rattle.pcode_model.specs.declared.listing.Listing.{Listing}
+use Rattle.pcode_model.specs.WellFormed.{IsFunction, IsWellFormed}
+use Rattle.pcodetext.specs.declared.said.Said.{Said}
+use Rattle.pcodetext.specs.declared.fault.TextFault.{TextFault}
+use Rattle.pcodetext.specs.declared.fault.TextFault.TheVariants.{Syntax}
+use Rattle.pcodetext.specs.declared.fault.Why.{Why}
+use Rattle.pcodetext.specs.declared.form.Form.{Form}
+use Rattle.pcodetext.specs.Faults.{faults, first_fault}
+use Rattle.pcodetext.specs.Forms.{form_of}
+use Rattle.pcodetext.specs.Meaning.{Progress, Read, Step, advanced, after, concluded, finished, is_skipped, listing_of, moved, reading, start, step, step_by, stepped, whole}
+use Rattle.pcodetext.specs.Meaning.Progress.{Going, Stopped}
+use Rattle.pcodetext.specs.Meaning.Read.{Good, Bad}
+use Rattle.pcodetext.specs.Meaning.Step.{Fails, Goes}
+use Rattle.pcodetext.proofs.Failing.{stays}
+use Rattle.pcodetext.proofs.FormIs.{form_is}
+use Rattle.pcodetext.proofs.Formed.{IsEarly, IsFormed}
+use Rattle.pcodetext.proofs.Instructions.{few_ops}
+use Rattle.pcodetext.proofs.Keeping.{has_protos, kept}
+use Rattle.pcodetext.proofs.Passing.{never, nil_is}
+
+goes_same : (s t : Said) → Goes s ≡ Goes t → s ≡ t
+goes_same s t e = cc
+
+fails_not : (w : Why) (t : Said) → Fails w ≡ Goes t → ⊥
+fails_not w t e = cc
+
+form_kept : (s t : Said) (l : Form) (fault : Option Why) → first_fault (faults s l) ≡ fault → IsFormed s → (first_fault (faults s l) ≡ None → IsFormed (after s l)) → stepped s l fault ≡ Goes t → IsFormed t
+form_kept s t l None is f next e = subst IsFormed (goes_same _ _ e) (next is)
+form_kept s t l (Some w) is f next e = absurd (fails_not w t e)
+
+step_kept : (s t : Said) (line : Line) → IsFormed s → step s line ≡ Goes t → IsFormed t
+step_kept s t line f = by_skip (is_skipped line)
+  where
+    by_skip : (b : Bool) → (if b then Goes s else step_by s (form_of s line)) ≡ Goes t → IsFormed t
+    by_skip true e = subst IsFormed (goes_same _ _ e) f
+    by_skip false e = form_kept s t (form_of s line) _ refl f (kept s (form_of s line) f (form_is s line)) e
+
+abbrev OfGoing : Progress → Type 0
+OfGoing (Going n s) = IsFormed s
+OfGoing (Stopped fault) = Unit {0}
+
+lines_kept : (lines : List Line) (n : ℕ) (s : Said) → IsFormed s → OfGoing (advanced (Going n s) lines)
+lines_kept [] n s f = f
+lines_kept (line ∷ lines) n s f = by_step (λ t g. lines_kept lines (n + 1) t g) (step s line) refl
+  where
+    by_step : ((t : Said) → IsFormed t → OfGoing (advanced (Going (n + 1) t) lines)) → (st : Step) → step s line ≡ st → OfGoing (advanced (moved n st) lines)
+    by_step on (Goes t) e = on t (step_kept s t line f e)
+    by_step on (Fails w) e = subst OfGoing (sym (stays _ lines)) tt
+
+start_formed : IsFormed start
+start_formed = record {
+  version = tt;
+  spaces = (refl, tt);
+  early = λ z. record { func = refl; callees = refl; fixed = refl; done = refl; last = refl };
+  complete = λ some. absurd (omega arith);
+  stack = tt;
+  protos = tt;
+  func = tt;
+  callees = tt;
+  fixed = tt;
+  code = tt;
+  first = λ e. refl;
+  ops = tt;
+  total = refl;
+  few = omega arith;
+  closed = λ e. absurd (never (sym e));
+}
+
+some_of : {A : Type 0} (P : A → Type 0) (o : Option A) (a : A) → o ≡ Some a → IfSome o P → P a
+some_of P o a e h = subst (λ (x : Option _). IfSome x P) e h
+
+some_code : (done : List Instruction) (last : Option Instruction) → is_some last ≡ true → 0 < length (done ++ option_to_list last)
+some_code [] None e = absurd (never (sym e))
+some_code [] (Some i) e = omega arith
+some_code (d ∷ done) last e = omega arith
+
+listing_formed : (s : Said) (version : ℕ) (func : Function) → s.ended ≡ true → s.version ≡ Some version → s.func ≡ Some func → IsFormed s → IsWellFormed (listing_of s version func)
+listing_formed s version func ended v g f =
+    let some : is_none s.func ≡ false = ap is_none g in
+    record {
+      version = some_of (λ n. (n ≡ 1) ⊎ (n ≡ 2)) s.version version v f.version;
+      spaces = f.spaces;
+      complete = f.complete (positive (length s.protos) (has_protos s f some));
+      stack = f.stack;
+      protos = f.protos;
+      func = some_of (IsFunction s.spaces (length s.protos)) s.func func g f.func;
+      callees = f.callees;
+      fixed = f.fixed;
+      some = some_code s.done s.last (f.closed ended);
+      apart = f.code;
+      few = few_ops (s.done ++ option_to_list s.last) (omega (arith, f.total, f.few));
+      ops = f.ops;
+    }
+  where
+    positive : (n : ℕ) → (n ≡ 0 → ⊥) → 0 < n
+    positive n h = omega (arith, h)
+
+good_same : (l m : Listing) → Good l ≡ Good m → l ≡ m
+good_same l m e = cc
+
+bad_not : (fault : TextFault) (l : Listing) → Bad fault ≡ Good l → ⊥
+bad_not fault l e = cc
+
+pub well_formed : (bytes : List ℕ) (l : Listing) → reading bytes ≡ Good l → IsWellFormed l
+well_formed bytes l = by_progress (advanced (Going 1 start) (lines_of bytes)) (lines_kept (lines_of bytes) 1 start start_formed)
+  where
+    by_end : (s : Said) (n : ℕ) (ended : Bool) (version : Option ℕ) (func : Option Function) → s.ended ≡ ended → s.version ≡ version → s.func ≡ func → IsFormed s
+        → (if ended then whole s n version func else Bad (Syntax n)) ≡ Good l → IsWellFormed l
+    by_end s n false version func a b c f e = absurd (bad_not _ _ e)
+    by_end s n true None func a b c f e = absurd (bad_not _ _ e)
+    by_end s n true (Some v) None a b c f e = absurd (bad_not _ _ e)
+    by_end s n true (Some v) (Some g) a b c f e = subst IsWellFormed (good_same _ _ e) (listing_formed s v g a b c f)
+
+    by_progress : (p : Progress) → OfGoing p → concluded p ≡ Good l → IsWellFormed l
+    by_progress (Going n s) f e = by_end s n s.ended s.version s.func refl refl refl f e
+    by_progress (Stopped fault) f e = absurd (bad_not _ _ e)
+
+-- where no line is left
+pub formed_at_end : (bytes rest : List ℕ) (n : ℕ) (s : Said) (result : Result Listing TextFault) → reading bytes ≡ concluded (advanced (Going n s) (lines_of rest)) → length rest ≡ 0
+    → IfOk result (λ l. finished n s ≡ Good l) → IfOk result IsWellFormed
+formed_at_end bytes rest n s (Ok l) same none good = well_formed bytes l (same ∙ ap (λ (r : List ℕ). concluded (advanced (Going n s) (lines_of r))) (nil_is rest none) ∙ good)
+formed_at_end bytes rest n s (Err e) same none good = tt

@@ -1,0 +1,7 @@
+pub mod Tables
+pub mod Opcodes
+pub mod Written
+pub mod Forms
+pub mod Faults
+pub mod Meaning
+pub mod Reader

@@ -1,0 +1,52 @@
+//! What is wrong with a text.
+
+ghost use Rattle.std.specs.Prelude.{◌≡◌};
+
+use std::alloc::AllocError;
+
+/// What is wrong with a line.
+#[derive(Clone, Copy, Debug, PartialEq, Eq)]
+pub enum Why {
+    /// The first line is `pcode N` with a number other than 1 and 2.
+    Version,
+    /// It has none of the forms.
+    Syntax,
+    /// It stands before or after its place.
+    Order,
+    /// An operation, a space or a prototype isn't known.
+    Unknown,
+    /// A name, an address or a byte stands already.
+    Duplicate,
+    /// A limit is passed.
+    Range,
+}
+
+/// The first fault of the least faulty line, with the number of that line, from 1 on.
+#[derive(Clone, Copy, Debug, PartialEq, Eq)]
+pub enum TextFault {
+    Syntax(u32),
+    Version(u32),
+    Duplicate(u32),
+    Unknown(u32),
+    Range(u32),
+    Order(u32),
+    /// Memory ran out.
+    Memory,
+}
+
+/// What is wrong with a line, or want of memory.
+#[derive(Clone, Copy, Debug, PartialEq, Eq)]
+pub enum LineFault {
+    Wrong(Why),
+    Memory,
+}
+
+impl From<AllocError> for LineFault {
+    ghost use Rattle.pcodetext.specs.declared.fault.LineFault.TheVariants.{Memory};
+
+    ghost from_gives = { λ _ e. e ≡ Memory };
+
+    fn from(_refused: AllocError) -> LineFault {
+        LineFault::Memory
+    }
+}

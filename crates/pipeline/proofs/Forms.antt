@@ -1,0 +1,133 @@
+-- What the tests of a listing give the passes.
+use Rattle.std.proofs.Common.{◌≡◌, ◌≤◌, ◌<◌, ◌+◌, ◌^◌, ℕ, true, List, [], ◌∷◌, Some, None, length, length-append, refl, inl, inr, sym, subst, arith}
+use Rattle.pcode_model.specs.declared.atoms.Atom.{Atom}
+use Rattle.pcode_model.specs.declared.flow.Block.{Block}
+use Rattle.pcode_model.specs.declared.flow.Exit.{Exit}
+use Rattle.pcode_model.specs.declared.listing.Place.{Place}
+use Rattle.cmeaning.specs.declared.tree.CFunction.{CFunction}
+use Rattle.pcode_model.specs.declared.listing.Varnode.{Varnode}
+use Rattle.pcode_model.specs.declared.listing.Listing.{Listing}
+use Rattle.pcode_model.specs.declared.storage.ParamStorage.{ParamStorage}
+use Rattle.pcode_model.specs.declared.storage.ParamStorage.TheVariants as P
+use Rattle.pcode_model.specs.Memory.{no_frame}
+use Rattle.pcode_model.specs.Spaces.{register_space, unique_space}
+use Rattle.pcode_model.specs.Flow.{AllRun, AreStarts, IsFlow, IsIn, NoFault, RunsBlock, first_in, starts_of}
+use Rattle.pcode_model.specs.Atoms.{Accesses}
+use Rattle.pcode_model.specs.Rules.{first_bad}
+use Rattle.supported.specs.Ranges.{AllInSpace, named_ranges}
+use Rattle.supported.specs.Formed.{IsFormed, are_inside}
+use Rattle.stackvars.specs.Accessed as listed
+use Rattle.stackvars.specs.Accessed.{AreAccessed}
+use Rattle.cmeaning.specs.Agree.{AgreesWith}
+use Rattle.cmeaning.specs.Valid.{IsValid}
+use Rattle.plaincode.specs.Lowered.{plain_function}
+use Rattle.plaincode.proofs.Agrees.{plain_agrees}
+use Rattle.plain_valid.specs.Long.{AreLong, IsLong}
+use Rattle.plain_valid.proofs.Valid.{plain_valid}
+use Rattle.plain_laws.proofs.Rules.{both}
+use Rattle.plain_laws.proofs.Accessed.{accessed_inside, inside_of}
+use Rattle.plain_laws.proofs.Form.{plain_form}
+use Rattle.stackvars.specs.declared.accessed.AtomFault.{AtomFault}
+use Rattle.stackvars.specs.declared.accessed.AtomFault.TheVariants as A
+use Rattle.flow.specs.Answer.{IsFlowFault}
+use Rattle.flow.specs.declared.answer.FlowFault.{FlowFault}
+use Rattle.flow.specs.declared.answer.FlowFault.TheVariants as F
+use Rattle.pipeline.specs.Lowers.{Lowers, StopsLowering}
+use Rattle.pipeline.specs.Outcome.{IsCause}
+use Rattle.pipeline.specs.Refused.{of_atoms, of_flow}
+use Rattle.pipeline.specs.declared.refusal.Refusal.{Refusal}
+use Rattle.pipeline.specs.declared.refusal.Refusal.TheVariants as R
+use Rattle.pipeline.specs.Verdict.{IsBuilt, IsGood}
+
+all_in_space : (l : Listing) (vs : List Varnode) → are_inside l vs ≡ true → AllInSpace vs
+all_in_space l [] h = tt
+all_in_space l (v ∷ vs) h = let i = inside_of l v (both _ _ h).0 in ((i.some, i.low), all_in_space l vs (both _ _ h).1)
+
+pub named_in_space : (l : Listing) → IsFormed l → AllInSpace (named_ranges l)
+named_in_space l formed = all_in_space l (named_ranges l) formed.ranges
+
+-- an atom that is accessed begins at a number of 64 bits
+long_at : (l : Listing) → IsBuilt l → (s : ParamStorage) (k : ℕ) (v : Varnode) → listed.range_at l s k ≡ Some v → Accesses l [] v → IsLong s
+long_at l built (P.Register o) k v e acc =
+    let i = accessed_inside l built.supported built.formed v acc in
+    let f : listed.range (register_space l) o k ≡ v = cc in
+    let R : Varnode → Type 0 = λ x. (0 < x.size) × (x.offset + x.size ≤ 2 ^ 64) in
+    let g = subst R (sym f) (i.some, i.low) in omega (arith, g.0, g.1)
+long_at l built (P.Unique o) k v e acc =
+    let i = accessed_inside l built.supported built.formed v acc in
+    let f : listed.range (unique_space l) o k ≡ v = cc in
+    let R : Varnode → Type 0 = λ x. (0 < x.size) × (x.offset + x.size ≤ 2 ^ 64) in
+    let g = subst R (sym f) (i.some, i.low) in omega (arith, g.0, g.1)
+long_at l built (P.Stack o) k v e acc = absurd (cc)
+
+are_long : (l : Listing) → IsBuilt l → (atoms : List Atom) → ((a : Atom) → IsIn a atoms → (v : Varnode) × ((listed.range_of l a ≡ Some v) × Accesses l [] v)) → AreLong atoms
+are_long l built [] h = tt
+are_long l built (a ∷ rest) h = let x = h a (inl refl) in (long_at l built a.storage a.size x.0 x.1.0 x.1.1, are_long l built rest (λ b is. h b (inr is)))
+
+module _ (l : Listing) (good : first_bad l ≡ None) (built : IsBuilt l) (blocks : List Block) (flow : IsFlow l [] blocks) (fine : NoFault l []) (few : length blocks ≤ 2048) (atoms : List Atom) (are : AreAccessed l atoms) where
+  -- the function of the plain lowering means what the listing means
+  pub agrees : AgreesWith l no_frame (plain_function l blocks atoms)
+  agrees = plain_agrees l no_frame [] blocks atoms (plain_form l good built.supported built.formed blocks flow fine few atoms are)
+
+  -- and is a valid tree
+  pub is_valid : IsValid (plain_function l blocks atoms)
+  is_valid = plain_valid l [] blocks atoms (plain_form l good built.supported built.formed blocks flow fine few atoms are) are.listed.in_order (are_long l built atoms are.listed.accessed) (omega (arith, are.few)) built.name
+
+-- ---- blocks and where they begin
+
+block_start : (l : Listing) (starts : List Place) (ps : List Place) (e : Exit) → RunsBlock l [] starts ps e → length (first_in ps) ≡ 1
+block_start l starts [] e h = absurd h
+block_start l starts (p ∷ ps) e h = refl
+
+starts_count : (l : Listing) (starts : List Place) (blocks : List Block) → AllRun l [] starts blocks → length (starts_of blocks) ≡ length blocks
+starts_count l starts [] h = refl
+starts_count l starts (b ∷ rest) h =
+    omega (arith, length-append (first_in b.places) (starts_of rest), block_start l starts b.places b.exit h.0, starts_count l starts rest h.1)
+
+pub few_starts : (l : Listing) (blocks : List Block) → IsFlow l [] blocks → length blocks ≤ 2048 → (starts : List Place) × (AreStarts l [] starts × (length starts ≤ 2048))
+few_starts l blocks flow few = (starts_of blocks, (flow.starts, omega (arith, few, starts_count l (starts_of blocks) blocks flow.run)))
+
+pub few_atoms : (l : Listing) (atoms : List Atom) → AreAccessed l atoms → (n : ℕ) × (listed.AccessesSoMany l n × (n ≤ 1024))
+few_atoms l atoms are = (length atoms, ((atoms, (are.listed, refl)), are.few))
+
+-- all of it
+pub lowers : (l : Listing) → first_bad l ≡ None → IsBuilt l → (blocks : List Block) → IsFlow l [] blocks → NoFault l [] → length blocks ≤ 2048 → (atoms : List Atom) → AreAccessed l atoms → (f : CFunction) → f ≡ plain_function l blocks atoms → Lowers l f
+lowers l good built blocks flow fine few atoms are f is =
+    let P : CFunction → Type 0 = λ g. Lowers l g in
+    subst P (sym is) (record {
+      flow = fine;
+      blocks = few_starts l blocks flow few;
+      atoms = few_atoms l atoms are;
+      valid = is_valid l good built blocks flow fine few atoms are;
+      agrees = agrees l good built blocks flow fine few atoms are;
+    })
+
+-- ---- faults
+
+pub flow_stops : (l : Listing) (fault : FlowFault) → IsFlowFault l [] fault → StopsLowering l (of_flow fault)
+flow_stops l (F.NoTarget p) h = h
+flow_stops l (F.FallsOff p) h = h
+flow_stops l (F.BadRelative p) h = h
+flow_stops l (F.NoTable p) h = h
+flow_stops l (F.TableEntered p) h = h
+flow_stops l (F.TooManyBlocks n) h = h
+flow_stops l F.Memory h = tt
+
+pub atoms_stops : (l : Listing) (fault : AtomFault) → NoFault l [] → listed.IsCause l fault → StopsLowering l (of_atoms fault)
+atoms_stops l (A.TooManyAtoms n) fine h = (fine, h)
+atoms_stops l A.Memory fine h = tt
+
+pub stops_refused : (bytes : List ℕ) (l : Listing) → IsGood bytes l → IsBuilt l → (fault : Refusal) → StopsLowering l fault → IsCause bytes fault
+stops_refused bytes l good built (R.Text fault) h = absurd h
+stops_refused bytes l good built (R.Op fault) h = absurd h
+stops_refused bytes l good built R.NotBuilt h = absurd h
+stops_refused bytes l good built (R.Flow (F.NoTarget p)) h = (l, (good, (built, h)))
+stops_refused bytes l good built (R.Flow (F.FallsOff p)) h = (l, (good, (built, h)))
+stops_refused bytes l good built (R.Flow (F.BadRelative p)) h = (l, (good, (built, h)))
+stops_refused bytes l good built (R.Flow (F.NoTable p)) h = (l, (good, (built, h)))
+stops_refused bytes l good built (R.Flow (F.TableEntered p)) h = (l, (good, (built, h)))
+stops_refused bytes l good built (R.Flow (F.TooManyBlocks n)) h = (l, (good, (built, h)))
+stops_refused bytes l good built (R.Flow F.Memory) h = absurd h
+stops_refused bytes l good built (R.Atoms (A.TooManyAtoms n)) h = (l, (good, (built, h)))
+stops_refused bytes l good built (R.Atoms A.Memory) h = absurd h
+stops_refused bytes l good built R.Memory h = tt

@@ -1,0 +1,13 @@
+use Rattle.std.proofs.Common.{◌≡◌}
+use Rattle.plaincode.specs.Lowered.{plain_function}
+use Rattle.pipeline.proofs.Forms.{lowers}
+use Rattle.pipeline.proofs.passes.lower.Goals as goal
+
+pub returns-clause-lowers : goal.returns-clause-lowers
+returns-clause-lowers c =
+    let f = c.in_ok-function.ensures in
+    let k = c.in_ok-code.ensures in
+    let n = c.in_ok-name.ensures in
+    let w = c.result_width.ensures in
+    let is : c.in_ok-function.function ≡ plain_function c.args.listing.now c.in_ok-flow.flow c.in_ok-atoms.atoms = cc in
+    lowers c.args.listing.now c.requires.ops c.requires.built c.in_ok-flow.flow c.in_ok-flow.ensures.blocks c.in_ok-flow.ensures.no_fault c.in_ok-flow.ensures.few c.in_ok-atoms.atoms c.in_ok-atoms.ensures.ok c.in_ok-function.function is

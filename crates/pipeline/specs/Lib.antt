@@ -1,0 +1,7 @@
+pub mod Request
+pub mod Refused
+pub mod Verdict
+pub mod Message
+pub mod Lowers
+pub mod Outcome
+pub mod Table

@@ -1,0 +1,20 @@
+//! The product from bytes to text: the passes in their order, the verdict, and the top call.
+#![tactic(auto)]
+
+mod built;
+mod input;
+mod message;
+mod outcome;
+mod passes;
+mod refusal;
+mod request;
+mod top;
+
+pub use outcome::{Outcome, deliver, work_out};
+pub use passes::decompile;
+pub use refusal::Refusal;
+pub use request::{Request, read_words};
+pub use top::decompile_words;
+
+#[cfg(test)]
+mod tests;

@@ -1,0 +1,25 @@
+// What the words of the command line ask for.
+ghost use Rattle.std.specs.Prelude.{◌≡◌};
+ghost use Rattle.pipeline.specs.Request.{asked_by, asked_for};
+
+use outside::Words;
+
+/// What is asked for.
+#[derive(Clone, Copy, Debug, PartialEq, Eq)]
+pub enum Request {
+    /// To decompile the input.
+    Decompile,
+    /// The words aren't taken.
+    Refused,
+}
+
+/// Reads the words. No word is taken yet.
+pub fn read_words(words: &Words) -> Request
+    ensures asked { asked_for result ≡ asked_by words.now }
+{
+    if words.as_slice().is_empty() {
+        Request::Decompile
+    } else {
+        Request::Refused
+    }
+}

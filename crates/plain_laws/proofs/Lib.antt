@@ -1,0 +1,5 @@
+pub mod Rules
+pub mod Standing
+pub mod Accessed
+pub mod Plain
+pub mod Form

@@ -1,0 +1,82 @@
+-- What stands at a place is an op of an instruction of the code, and what holds of each op holds of it.
+use Rattle.std.proofs.Common.{◌≡◌, ◌⊎◌, ℕ, zero, suc, Bool, true, false, List, [], ◌∷◌, Option, Some, None, refl, inl, inr, sym, subst, ap, ◌∙◌}
+use Rattle.std.specs.Prelude.{◌&&◌, ◌==◌, if◌then◌else◌, slice_get}
+use Rattle.pcode_model.specs.declared.listing.Op.{Op}
+use Rattle.pcode_model.specs.declared.listing.Place.{Place}
+use Rattle.pcode_model.specs.declared.listing.Varnode.{Varnode}
+use Rattle.pcode_model.specs.declared.listing.Instruction.{Instruction}
+use Rattle.pcode_model.specs.declared.listing.Listing.{Listing}
+use Rattle.pcode_model.specs.Flow.{IsIn}
+use Rattle.pcode_model.specs.Places.{Standing, Nothing, Passes, Does, instruction_in, op_in, standing, standing_in, standing_of}
+use Rattle.supported.specs.Supported.{are_supported_ops, is_supported_code_of, is_supported_op}
+use Rattle.supported.specs.Formed.{are_formed_ops, are_formed_varnodes, is_formed_code, is_formed_output, is_formed_varnode}
+use Rattle.plain_laws.proofs.Rules.{both}
+
+got_in : {A : Type 0} (xs : List A) (n : ℕ) (x : A) → slice_get xs n ≡ Some x → IsIn x xs
+got_in [] n x h = absurd (cc)
+got_in (y ∷ ys) zero x h = let e : y ≡ x = cc in inl (sym e)
+got_in (y ∷ ys) (suc n) x h = inr (got_in ys n x h)
+
+-- the op that stands here is one of these instructions'
+pub record StandsIn (code : List Instruction) (i : Instruction) (op : Op) : Type 0 where
+  pub code_has : IsIn i code
+  pub ops_have : IsIn op i.ops
+
+by_op : (i : Instruction) (o : Option Op) (j : Instruction) (op : Op) → op_in i o ≡ Does j op → (i ≡ j) × (o ≡ Some op)
+by_op i None j op h = absurd (cc)
+by_op i (Some x) j op h = (cc, let e : x ≡ op = cc in ap Some e)
+
+by_ops : (i : Instruction) (ops : List Op) (n : ℕ) (j : Instruction) (op : Op) → standing_in i ops n ≡ Does j op → (i ≡ j) × IsIn op ops
+by_ops i [] zero j op h = absurd (cc)
+by_ops i [] (suc n) j op h = absurd (cc)
+by_ops i (x ∷ ops) n j op h = let b = by_op i (slice_get (x ∷ ops) n) j op h in (b.0, got_in (x ∷ ops) n op b.1)
+
+found : (b : Bool) (i : Instruction) (rest : Option Instruction) (j : Instruction) → (if b then Some i else rest) ≡ Some j → (i ≡ j) ⊎ (rest ≡ Some j)
+found true i rest j h = inl (cc)
+found false i rest j h = inr h
+
+in_code : (code : List Instruction) (a : ℕ) (i : Instruction) → instruction_in code a ≡ Some i → IsIn i code
+in_code [] a i h = absurd (cc)
+in_code (x ∷ code) a i h = elim (found (x.address == a) x (instruction_in code a) i h) [ inl e ↦ inl (sym e) | inr more ↦ inr (in_code code a i more) ]
+
+of_option : (code : List Instruction) (o : Option Instruction) (n : ℕ) (j : Instruction) (op : Op) → ((i : Instruction) → o ≡ Some i → IsIn i code) → standing_of o n ≡ Does j op → StandsIn code j op
+of_option code None n j op found h = absurd (cc)
+of_option code (Some i) n j op found h =
+    let b = by_ops i i.ops n j op h in
+    let P : Instruction → Type 0 = λ x. IsIn x code in
+    let Q : Instruction → Type 0 = λ x. IsIn op x.ops in
+    record { code_has = subst P b.0 (found i refl); ops_have = subst Q b.0 b.1 }
+
+pub stands_in : (l : Listing) (p : Place) (i : Instruction) (op : Op) → standing l p ≡ Does i op → StandsIn l.code i op
+stands_in l p i op h = of_option l.code (instruction_in l.code p.address) p.index i op (λ j e. in_code l.code p.address j e) h
+
+-- ---- what the tests say of an op
+
+supported_op : (l : Listing) (ops : List Op) → are_supported_ops l ops ≡ true → (op : Op) → IsIn op ops → is_supported_op l op ≡ true
+supported_op l [] h op is = absurd is
+supported_op l (x ∷ ops) h op (inl e) = let P : Op → Type 0 = λ y. is_supported_op l y ≡ true in subst P (sym e) (both _ _ h).0
+supported_op l (x ∷ ops) h op (inr is) = supported_op l ops (both _ _ h).1 op is
+
+pub supported_in : (l : Listing) (code : List Instruction) → is_supported_code_of l code ≡ true → (i : Instruction) (op : Op) → StandsIn code i op → is_supported_op l op ≡ true
+supported_in l [] h i op s = absurd s.code_has
+supported_in l (x ∷ code) h i op s = elim s.code_has [
+  | inl e ↦ let P : Instruction → Type 0 = λ y. IsIn op y.ops in supported_op l x.ops (both _ _ h).0 op (subst P e s.ops_have)
+  | inr is ↦ supported_in l code (both _ _ h).1 i op (record { code_has = is; ops_have = s.ops_have })
+]
+
+formed_op : (l : Listing) (ops : List Op) → are_formed_ops l ops ≡ true → (op : Op) → IsIn op ops → (are_formed_varnodes l op.inputs && is_formed_output l op.out) ≡ true
+formed_op l [] h op is = absurd is
+formed_op l (x ∷ ops) h op (inl e) = let P : Op → Type 0 = λ y. (are_formed_varnodes l y.inputs && is_formed_output l y.out) ≡ true in subst P (sym e) (both _ _ h).0
+formed_op l (x ∷ ops) h op (inr is) = formed_op l ops (both _ _ h).1 op is
+
+pub formed_in : (l : Listing) (code : List Instruction) → is_formed_code l code ≡ true → (i : Instruction) (op : Op) → StandsIn code i op → (are_formed_varnodes l op.inputs && is_formed_output l op.out) ≡ true
+formed_in l [] h i op s = absurd s.code_has
+formed_in l (x ∷ code) h i op s = elim s.code_has [
+  | inl e ↦ let P : Instruction → Type 0 = λ y. IsIn op y.ops in formed_op l x.ops (both _ _ h).0 op (subst P e s.ops_have)
+  | inr is ↦ formed_in l code (both _ _ h).1 i op (record { code_has = is; ops_have = s.ops_have })
+]
+
+pub formed_varnode : (l : Listing) (vs : List Varnode) → are_formed_varnodes l vs ≡ true → (v : Varnode) → IsIn v vs → is_formed_varnode l v ≡ true
+formed_varnode l [] h v is = absurd is
+formed_varnode l (x ∷ vs) h v (inl e) = let P : Varnode → Type 0 = λ y. is_formed_varnode l y ≡ true in subst P (sym e) (both _ _ h).0
+formed_varnode l (x ∷ vs) h v (inr is) = formed_varnode l vs (both _ _ h).1 v is

@@ -1,0 +1,84 @@
+//! The ranges that variables stand for.
+
+ghost use Rattle.std.specs.Prelude.{◌≡◌, ◌<◌, ◌≤◌, ◌^◌, length, map, IfOk};
+ghost use Rattle.plaincode.specs.Lowered.{range_of as range_for, ranges_of, same_range as is_same, variable_of, variable_for};
+
+use crate::expressions::width_by;
+use bits_core::Memory;
+use blockcode::{Variable, Variables};
+use pcode_model::ranges::number_of;
+use pcode_model::{Atom, Listing, ParamStorage, SpaceKind, Varnode};
+use std::alloc::Global;
+
+fn range_of(listing: &Listing, atom: Atom) -> Varnode
+    requires { length listing.now.spaces < 256 }
+    ensures { result ≡ range_for listing.now atom }
+{
+    let spaces = listing.spaces.as_slice();
+    match atom.storage {
+        ParamStorage::Register(offset) => Varnode {
+            space: number_of(SpaceKind::Register, spaces) as u8,
+            offset,
+            size: atom.size,
+        },
+        ParamStorage::Unique(offset) => Varnode {
+            space: number_of(SpaceKind::Unique, spaces) as u8,
+            offset,
+            size: atom.size,
+        },
+        ParamStorage::Stack(_) => Varnode {
+            space: number_of(SpaceKind::Ram, spaces) as u8,
+            offset: 0,
+            size: atom.size,
+        },
+    }
+}
+
+/// The range of each atom.
+pub(crate) fn ranges(
+    alloc: Global,
+    listing: &Listing,
+    atoms: &[Atom],
+) -> Result<Vec<Varnode>, Memory>
+    requires { length listing.now.spaces < 256 }
+    ensures { IfOk result (λ v. v.items ≡ ranges_of listing.now atoms.now) }
+{
+    let mut ranges = vec![in alloc]?;
+    for atom in atoms {
+        ranges.push(range_of(listing, *atom))?;
+    }
+    Ok(ranges)
+}
+
+/// The variable of each atom.
+pub(crate) fn variables(alloc: Global, atoms: &[Atom]) -> Result<Variables, Memory>
+    ensures { IfOk result (λ vs. vs ≡ map variable_for atoms.now) }
+{
+    let mut variables = Variables::new(alloc);
+    for atom in atoms {
+        variables.push(Variable {
+            width: width_by(atom.size),
+            storage: Some(atom.storage),
+        })?;
+    }
+    Ok(variables)
+}
+
+fn same_range(v: Varnode, w: Varnode) -> bool
+    ensures { result ≡ is_same v w }
+{
+    v.space == w.space && v.offset == w.offset && v.size == w.size
+}
+
+/// The number of the variable that stands for the range, or the number of variables where none does.
+pub(crate) fn variable(ranges: &[Varnode], range: Varnode) -> u32
+    requires { length ranges.now < 2 ^ 32 }
+    ensures { result ≡ variable_of ranges.now range }
+{
+    for i in 0..ranges.len() {
+        if same_range(ranges[i], range) {
+            return i as u32;
+        }
+    }
+    ranges.len() as u32
+}

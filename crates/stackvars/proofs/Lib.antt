@@ -1,0 +1,7 @@
+pub mod Apart
+pub mod Ops
+pub mod Members
+pub mod Order
+pub mod Listed
+pub mod Coarsest
+pub mod Sample

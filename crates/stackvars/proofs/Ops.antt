@@ -1,0 +1,95 @@
+-- The ranges of one op, and that each op of a supported listing is supported.
+use Rattle.std.proofs.Common.{◌≡◌, ◌∙◌, ℕ, zero, suc, Bool, true, false, List, [], ◌∷◌, ◌++◌, refl, sym, ap, subst, append_assoc, Option, Some, None}
+use Rattle.std.specs.Prelude.{slice_get, cond, ◌&&◌, ◌==◌}
+use Rattle.pcode_model.specs.declared.listing.Op.{Op}
+use Rattle.pcode_model.specs.declared.listing.Place.{Place}
+use Rattle.pcode_model.specs.declared.listing.Varnode.{Varnode}
+use Rattle.pcode_model.specs.declared.listing.Instruction.{Instruction}
+use Rattle.pcode_model.specs.declared.listing.Listing.{Listing}
+use Rattle.pcode_model.specs.declared.opcode.Opcode.{Opcode}
+use Rattle.pcode_model.specs.declared.opcode.Opcode.TheVariants as O
+use Rattle.pcode_model.specs.declared.atoms.Atom.{Atom}
+use Rattle.pcode_model.specs.Places.{instruction_in, op_in, standing, standing_in, standing_of}
+use Rattle.pcode_model.specs.Step.{all_but_first, all_read, operands}
+use Rattle.pcode_model.specs.Atoms.{further_ranges, one_range, op_ranges, ranges_read}
+use Rattle.supported.specs.Supported.{are_supported_ops, is_supported_code, is_supported_code_of, is_supported_op}
+use Rattle.stackvars.specs.Collected.{atom_of, atoms_of, op_of, past_first, read_inputs}
+
+pub both : (a b : Bool) → (a && b) ≡ true → (a ≡ true) × (b ≡ true)
+both true b h = (refl, h)
+both false b h = absurd (cc)
+
+read_all : (vs : List Varnode) → ranges_read (all_read vs) ≡ vs
+read_all [] = refl
+read_all (v ∷ vs) = ap (λ (xs : List Varnode). v ∷ xs) (read_all vs)
+
+read_past : (vs : List Varnode) → ranges_read (all_but_first vs) ≡ past_first vs
+read_past [] = refl
+read_past (v ∷ vs) = read_all vs
+
+reads : (l : Listing) (code : Opcode) (vs : List Varnode) → is_supported_code code ≡ true → ranges_read (operands l code vs) ≡ read_inputs code vs
+reads l (O.Unary op) vs h = read_all vs
+reads l (O.Binary op) vs h = read_all vs
+reads l (O.Divide op) vs h = absurd (cc)
+reads l O.Load vs h = absurd (cc)
+reads l O.Store vs h = absurd (cc)
+reads l O.Branch vs h = refl
+reads l O.CBranch vs h = read_past vs
+reads l O.BranchInd vs h = absurd (cc)
+reads l O.Call vs h = absurd (cc)
+reads l O.CallInd vs h = absurd (cc)
+reads l O.CallOther vs h = absurd (cc)
+reads l O.Return vs h = read_all vs
+reads l (O.Float name) vs h = absurd (cc)
+reads l (O.FloatConversion op) vs h = absurd (cc)
+reads l (O.Analysis op) vs h = absurd (cc)
+reads l (O.LeftOut op) vs h = absurd (cc)
+
+pub atoms_of_both : (l : Listing) (vs ws : List Varnode) → atoms_of l (vs ++ ws) ≡ atoms_of l vs ++ atoms_of l ws
+atoms_of_both l [] ws = refl
+atoms_of_both l (v ∷ vs) ws = ap (λ (xs : List Atom). atom_of l v ++ xs) (atoms_of_both l vs ws) ∙ sym (append_assoc (atom_of l v) (atoms_of l vs) (atoms_of l ws))
+
+-- the atoms of an op, pushed part by part
+pub op_pushed : (l : Listing) (op : Op) → is_supported_op l op ≡ true → (out : List Atom)
+    → ((out ++ atoms_of l (read_inputs op.code op.inputs)) ++ atoms_of l (one_range op.out)) ++ atoms_of l (further_ranges l None op.code op.inputs) ≡ out ++ atoms_of l (op_ranges l None op)
+op_pushed l op h out =
+    let a : List Varnode = read_inputs op.code op.inputs in
+    let b : List Varnode = one_range op.out in
+    let d : List Varnode = further_ranges l None op.code op.inputs in
+    let x : List Atom = atoms_of l a in
+    let y : List Atom = atoms_of l b in
+    let z : List Atom = atoms_of l d in
+    let e : ranges_read (operands l op.code op.inputs) ≡ a = reads l op.code op.inputs (both _ _ h).0 in
+    append_assoc (out ++ x) y z ∙ (append_assoc out x (y ++ z)
+    ∙ (ap (λ (zs : List Atom). out ++ (x ++ zs)) (sym (atoms_of_both l b d))
+    ∙ (ap (λ (zs : List Atom). out ++ zs) (sym (atoms_of_both l a (b ++ d)))
+    ∙ ap (λ (vs : List Varnode). out ++ atoms_of l (vs ++ (b ++ d))) (sym e))))
+
+-- ---- the op at a place
+
+supported_slice : (l : Listing) (ops : List Op) (n : ℕ) (op : Op) → are_supported_ops l ops ≡ true → slice_get ops n ≡ Some op → is_supported_op l op ≡ true
+supported_slice l [] n op h e = absurd (cc)
+supported_slice l (x ∷ ops) zero op h e = subst (λ (y : Op). is_supported_op l y ≡ true) (same e) (both _ _ h).0 where
+  same : Some x ≡ Some op → x ≡ op
+  same k = cc
+supported_slice l (x ∷ ops) (suc n) op h e = supported_slice l ops n op (both _ _ h).1 e
+
+pub op_in_is : (i : Instruction) (x : Option Op) → op_of (op_in i x) ≡ x
+op_in_is i None = refl
+op_in_is i (Some op) = refl
+
+pub standing_op : (i : Instruction) (ops : List Op) (n : ℕ) → op_of (standing_in i ops n) ≡ slice_get ops n
+standing_op i [] zero = refl
+standing_op i [] (suc n) = refl
+standing_op i (op ∷ ops) n = op_in_is i (slice_get (op ∷ ops) n)
+
+supported_in : (l : Listing) (code : List Instruction) (a n : ℕ) (op : Op) → is_supported_code_of l code ≡ true → op_of (standing_of (instruction_in code a) n) ≡ Some op → is_supported_op l op ≡ true
+supported_in l [] a n op h e = absurd (cc)
+supported_in l (i ∷ rest) a n op h e =
+    (elim (i.address == a) as (λ b. op_of (standing_of (cond b (Some i) (instruction_in rest a)) n) ≡ Some op → is_supported_op l op ≡ true) [
+      | true ↦ λ k. supported_slice l i.ops n op (both _ _ h).0 (sym (standing_op i i.ops n) ∙ k)
+      | false ↦ λ k. supported_in l rest a n op (both _ _ h).1 k
+    ]) e
+
+pub supported_at : (l : Listing) (p : Place) (op : Op) → is_supported_code_of l l.code ≡ true → Some op ≡ op_of (standing l p) → is_supported_op l op ≡ true
+supported_at l p op h e = supported_in l l.code p.address p.index op h (sym e)

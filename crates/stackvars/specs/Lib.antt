@@ -1,0 +1,4 @@
+pub mod Accessed
+pub mod Collected
+pub mod Laws
+pub mod Sample

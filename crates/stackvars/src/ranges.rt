@@ -1,0 +1,158 @@
+// The atoms of the ranges that ops access.
+ghost use Rattle.std.specs.Prelude.{◌≡◌, ◌++◌, [], None, IfOk, OnOk, true};
+ghost use Rattle.std.specs.Option.{option_copied};
+ghost use Rattle.pcode_model.specs.Places.{standing};
+ghost use Rattle.pcode_model.specs.Step.{proto_of};
+ghost use Rattle.pcode_model.specs.Flow.{AreApart};
+ghost use Rattle.pcode_model.specs.Atoms.{further_ranges, one_range, op_ranges, ranges_at};
+ghost use Rattle.supported.specs.Supported.{is_supported_code_of, is_supported_op};
+ghost use Rattle.stackvars.specs.Collected.{atom_of, atoms_at, atoms_in, atoms_of, op_of, past_first, read_inputs, storage_of};
+
+use crate::instructions::instruction;
+use bits_core::Memory;
+use pcode_model::ranges::number_of;
+use pcode_model::{Atom, Block, Listing, Op, Opcode, ParamStorage, Place, SpaceKind, Varnode};
+use std::alloc::Global;
+
+fn storage_of(listing: &Listing, range: &Varnode) -> Option<ParamStorage>
+    ensures { result ≡ storage_of listing.now range.now }
+{
+    let space = range.space as usize;
+    let spaces = listing.spaces.as_slice();
+    if space == number_of(SpaceKind::Register, spaces) {
+        Some(ParamStorage::Register(range.offset))
+    } else if space == number_of(SpaceKind::Unique, spaces) {
+        Some(ParamStorage::Unique(range.offset))
+    } else {
+        None
+    }
+}
+
+fn push_range(out: &mut Vec<Atom>, listing: &Listing, range: &Varnode) -> Result<(), Memory>
+    ensures { OnOk result (out.new.items ≡ out.old.items ++ atom_of listing.now range.now) }
+{
+    if let Some(storage) = storage_of(listing, range) {
+        let size = range.size;
+        out.push(Atom { storage, size })?;
+    }
+    Ok(())
+}
+
+fn push_ranges(out: &mut Vec<Atom>, listing: &Listing, ranges: &[Varnode]) -> Result<(), Memory>
+    ensures { OnOk result (out.new.items ≡ out.old.items ++ atoms_of listing.now ranges.now) }
+{
+    for range in ranges {
+        push_range(out, listing, range)?;
+    }
+    Ok(())
+}
+
+fn push_optional(
+    out: &mut Vec<Atom>,
+    listing: &Listing,
+    range: Option<Varnode>,
+) -> Result<(), Memory>
+    ensures { OnOk result (out.new.items ≡ out.old.items ++ atoms_of listing.now (one_range range)) }
+{
+    match range {
+        None => Ok(()),
+        Some(range) => push_range(out, listing, &range),
+    }
+}
+
+fn past_first(inputs: &[Varnode]) -> &[Varnode]
+    ensures { result.now ≡ past_first inputs.now }
+{
+    match inputs {
+        [] => inputs,
+        [_, rest @ ..] => rest,
+    }
+}
+
+fn push_inputs(out: &mut Vec<Atom>, listing: &Listing, op: &Op) -> Result<(), Memory>
+    ensures { OnOk result (out.new.items ≡ out.old.items ++ atoms_of listing.now (read_inputs op.now.code op.now.inputs)) }
+{
+    let inputs = op.inputs.as_slice();
+    match &op.code {
+        Opcode::Branch => Ok(()),
+        Opcode::CBranch => push_ranges(out, listing, past_first(inputs)),
+        _ => push_ranges(out, listing, inputs),
+    }
+}
+
+fn result_range(listing: &Listing) -> Option<Varnode>
+    ensures { result ≡ (proto_of listing.now None).gives }
+{
+    match listing.protos.get(listing.func.proto as usize) {
+        Some(proto) => proto.gives,
+        None => None,
+    }
+}
+
+fn push_result(out: &mut Vec<Atom>, listing: &Listing, op: &Op) -> Result<(), Memory>
+    requires { is_supported_op listing.now op.now ≡ true }
+    ensures { OnOk result (out.new.items ≡ out.old.items ++ atoms_of listing.now (further_ranges listing.now None op.now.code op.now.inputs)) }
+{
+    match &op.code {
+        Opcode::Return => push_optional(out, listing, result_range(listing)),
+        _ => Ok(()),
+    }
+}
+
+fn push_op(out: &mut Vec<Atom>, listing: &Listing, op: &Op) -> Result<(), Memory>
+    requires { is_supported_op listing.now op.now ≡ true }
+    ensures { OnOk result (out.new.items ≡ out.old.items ++ atoms_of listing.now (op_ranges listing.now None op.now)) }
+{
+    push_inputs(out, listing, op)?;
+    push_optional(out, listing, op.out)?;
+    push_result(out, listing, op)
+}
+
+fn op_at(listing: &Listing, place: Place) -> Option<&Op>
+    requires { AreApart listing.now.code }
+    ensures { option_copied result ≡ op_of (standing listing.now place) }
+{
+    match instruction(listing, u128::from(place.address)) {
+        Some(instruction) => instruction.ops.get(place.index as usize),
+        None => None,
+    }
+}
+
+fn push_place(out: &mut Vec<Atom>, listing: &Listing, place: Place) -> Result<(), Memory>
+    requires apart { AreApart listing.now.code }
+    requires supported { is_supported_code_of listing.now listing.now.code ≡ true }
+    ensures { OnOk result (out.new.items ≡ out.old.items ++ atoms_of listing.now (ranges_at listing.now [] place)) }
+{
+    match op_at(listing, place) {
+        Some(op) => push_op(out, listing, op),
+        None => Ok(()),
+    }
+}
+
+fn push_places(out: &mut Vec<Atom>, listing: &Listing, places: &[Place]) -> Result<(), Memory>
+    requires apart { AreApart listing.now.code }
+    requires supported { is_supported_code_of listing.now listing.now.code ≡ true }
+    ensures { OnOk result (out.new.items ≡ out.old.items ++ atoms_at listing.now places.now) }
+{
+    for place in places {
+        push_place(out, listing, *place)?;
+    }
+    Ok(())
+}
+
+/// The atoms of all ranges that the ops of the blocks access, in the order of the accesses.
+pub(crate) fn collect(
+    alloc: Global,
+    listing: &Listing,
+    blocks: &[Block],
+) -> Result<Vec<Atom>, Memory>
+    requires apart { AreApart listing.now.code }
+    requires supported { is_supported_code_of listing.now listing.now.code ≡ true }
+    ensures { IfOk result (λ atoms. atoms.items ≡ atoms_in listing.now blocks.now) }
+{
+    let mut atoms = Vec::new(alloc);
+    for block in blocks {
+        push_places(&mut atoms, listing, block.places.as_slice())?;
+    }
+    Ok(atoms)
+}
