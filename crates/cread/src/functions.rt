@@ -1,0 +1,312 @@
+//! Reading a function with the declarations of its callees.
+
+ghost use Rattle.std.specs.Prelude.{◌≡◌, Some};
+ghost use Rattle.cread.specs.Words.{Gives, behind};
+ghost use Rattle.cread.specs.Functions.{result_at, callee_name_at, marked_by, head_at, width_at, further_width, more_widths, widths_at, callee_at, callees_at, param_at, further_param, more_params, params_at, local_at, locals_at, declared_name, frame_at, with_body, function_at};
+
+use crate::item::{CFault, Head};
+use crate::names::{entry, long, type_of};
+use crate::statements::body;
+use crate::words::{decimal, hex, name, need, skip};
+use bits_core::Width;
+use cmeaning::{
+    Body, CFunction, CName, CalleeDecl, CalleeDecls, Local, Locals, Param, Params, Widths,
+};
+use pcode_model::Name;
+use std::alloc::Global;
+
+// ---- what callees and the function begin with
+
+fn result(bytes: &[u8]) -> Result<(Option<Width>, &[u8]), CFault>
+    ensures { Gives (λ x. (x.0, x.1.now)) result (result_at bytes.now) }
+{
+    if let Some(rest) = skip(b"void", bytes) {
+        return Ok((None, rest));
+    }
+    match type_of(bytes) {
+        Some((t, rest)) => Ok((Some(t.width), rest)),
+        None => Err(CFault::NotC),
+    }
+}
+
+fn callee_name(alloc: Global, bytes: &[u8]) -> Result<(CName, &[u8]), CFault>
+    ensures { Gives (λ x. (x.0, x.1.now)) result (callee_name_at bytes.now) }
+{
+    if let Some(rest) = skip(b"f_", bytes) {
+        let (name, rest) = name(rest);
+        let name = Name::from_slice(alloc, name)?;
+        return Ok((CName::Declared(name), rest));
+    }
+    if let Some(rest) = skip(b"g_", bytes) {
+        let (_, rest) = hex(rest);
+        return Ok((CName::Bare, rest));
+    }
+    Err(CFault::NotC)
+}
+
+fn marked(alloc: Global, returns: bool, bytes: &[u8]) -> Result<(Head, &[u8]), CFault>
+    ensures { Gives (λ x. (x.0, x.1.now)) result (marked_by returns bytes.now) }
+{
+    let (gives, rest) = result(bytes)?;
+    let rest = need(b" ", rest)?;
+    let (name, rest) = callee_name(alloc, rest)?;
+    let rest = need(b"(", rest)?;
+    Ok((
+        Head {
+            returns,
+            gives,
+            name,
+        },
+        rest,
+    ))
+}
+
+/// Up to the parenthesis.
+#[tactic(auto, unfolding(crate::specs::Functions::head_at))]
+fn head(alloc: Global, bytes: &[u8]) -> Result<(Head, &[u8]), CFault>
+    ensures { Gives (λ x. (x.0, x.1.now)) result (head_at bytes.now) }
+{
+    match skip(b"[[noreturn]] ", bytes) {
+        Some(rest) => marked(alloc, false, rest),
+        None => marked(alloc, true, bytes),
+    }
+}
+
+// ---- callees
+
+#[tactic(auto, unfolding(crate::specs::Functions::width_at))]
+fn width(bytes: &[u8]) -> Result<(Width, &[u8]), CFault>
+    ensures { Gives (λ x. (x.0, x.1.now)) result (width_at bytes.now) }
+{
+    match type_of(bytes) {
+        Some((t, rest)) => Ok((t.width, rest)),
+        None => Err(CFault::NotC),
+    }
+}
+
+#[tactic(auto, unfolding(crate::specs::Functions::further_width))]
+fn next_width(bytes: &[u8]) -> Result<(Width, &[u8]), CFault>
+    ensures { Gives (λ x. (x.0, x.1.now)) result (further_width bytes.now) }
+{
+    let rest = need(b", ", bytes)?;
+    width(rest)
+}
+
+fn add_widths(found: Widths, bytes: &[u8]) -> Result<(Widths, &[u8]), CFault>
+    ensures { Gives (λ x. (x.0, x.1.now)) result (Some (behind found (more_widths bytes.now))) }
+{
+    let mut found = found;
+    let mut rest = bytes;
+    for _ in 0..bytes.len() {
+        match next_width(rest) {
+            Ok((w, more)) => {
+                found.push(w)?;
+                rest = more;
+            }
+            Err(CFault::NotC) => return Ok((found, rest)),
+            Err(CFault::Memory) => return Err(CFault::Memory),
+        }
+    }
+    Ok((found, rest))
+}
+
+#[tactic(auto, unfolding(crate::specs::Functions::widths_at))]
+fn widths(alloc: Global, bytes: &[u8]) -> Result<(Widths, &[u8]), CFault>
+    ensures { Gives (λ x. (x.0, x.1.now)) result (widths_at bytes.now) }
+{
+    let mut found = Widths::new(alloc);
+    if let Some(rest) = skip(b"void", bytes) {
+        return Ok((found, rest));
+    }
+    let (w, rest) = width(bytes)?;
+    found.push(w)?;
+    add_widths(found, rest)
+}
+
+/// The declaration of a callee, in a line of its own.
+#[tactic(auto, unfolding(crate::specs::Functions::callee_at))]
+fn callee(alloc: Global, bytes: &[u8]) -> Result<(CalleeDecl, &[u8]), CFault>
+    ensures { Gives (λ x. (x.0, x.1.now)) result (callee_at bytes.now) }
+{
+    let (head, rest) = head(alloc, bytes)?;
+    let (args, rest) = widths(alloc, rest)?;
+    let rest = need(b"); // 0x", rest)?;
+    let (n, rest) = hex(rest);
+    let rest = need(b"\n", rest)?;
+    Ok((
+        CalleeDecl {
+            name: head.name,
+            address: long(n),
+            gives: head.gives,
+            args,
+            returns: head.returns,
+        },
+        rest,
+    ))
+}
+
+fn callees(alloc: Global, bytes: &[u8]) -> Result<(CalleeDecls, &[u8]), CFault>
+    ensures { Gives (λ x. (x.0, x.1.now)) result (Some (callees_at bytes.now)) }
+{
+    let mut found = CalleeDecls::new(alloc);
+    let mut rest = bytes;
+    for _ in 0..bytes.len() {
+        match callee(alloc, rest) {
+            Ok((c, more)) => {
+                found.push(c)?;
+                rest = more;
+            }
+            Err(CFault::NotC) => return Ok((found, rest)),
+            Err(CFault::Memory) => return Err(CFault::Memory),
+        }
+    }
+    Ok((found, rest))
+}
+
+// ---- parameters and locals
+
+#[tactic(auto, unfolding(crate::specs::Functions::param_at))]
+fn param(bytes: &[u8]) -> Result<(Param, &[u8]), CFault>
+    ensures { Gives (λ x. (x.0, x.1.now)) result (param_at bytes.now) }
+{
+    let Some((t, rest)) = type_of(bytes) else {
+        return Err(CFault::NotC);
+    };
+    let rest = need(b" ", rest)?;
+    let Some((e, rest)) = entry(rest) else {
+        return Err(CFault::NotC);
+    };
+    Ok((
+        Param {
+            storage: e.storage,
+            model: e.model,
+            width: t.width,
+            signed: t.signed,
+        },
+        rest,
+    ))
+}
+
+#[tactic(auto, unfolding(crate::specs::Functions::further_param))]
+fn next_param(bytes: &[u8]) -> Result<(Param, &[u8]), CFault>
+    ensures { Gives (λ x. (x.0, x.1.now)) result (further_param bytes.now) }
+{
+    let rest = need(b", ", bytes)?;
+    param(rest)
+}
+
+fn add_params(found: Params, bytes: &[u8]) -> Result<(Params, &[u8]), CFault>
+    ensures { Gives (λ x. (x.0, x.1.now)) result (Some (behind found (more_params bytes.now))) }
+{
+    let mut found = found;
+    let mut rest = bytes;
+    for _ in 0..bytes.len() {
+        match next_param(rest) {
+            Ok((p, more)) => {
+                found.push(p)?;
+                rest = more;
+            }
+            Err(CFault::NotC) => return Ok((found, rest)),
+            Err(CFault::Memory) => return Err(CFault::Memory),
+        }
+    }
+    Ok((found, rest))
+}
+
+#[tactic(auto, unfolding(crate::specs::Functions::params_at))]
+fn params(alloc: Global, bytes: &[u8]) -> Result<(Params, &[u8]), CFault>
+    ensures { Gives (λ x. (x.0, x.1.now)) result (params_at bytes.now) }
+{
+    let mut found = Params::new(alloc);
+    if let Some(rest) = skip(b"void", bytes) {
+        return Ok((found, rest));
+    }
+    let (p, rest) = param(bytes)?;
+    found.push(p)?;
+    add_params(found, rest)
+}
+
+/// The line of a local.
+#[tactic(auto, unfolding(crate::specs::Functions::local_at))]
+fn local(bytes: &[u8]) -> Result<(Local, &[u8]), CFault>
+    ensures { Gives (λ x. (x.0, x.1.now)) result (local_at bytes.now) }
+{
+    let rest = need(b"  ", bytes)?;
+    let Some((t, rest)) = type_of(rest) else {
+        return Err(CFault::NotC);
+    };
+    let rest = need(b" v", rest)?;
+    let (_, rest) = decimal(rest);
+    let rest = need(b";\n", rest)?;
+    Ok((t, rest))
+}
+
+fn locals(alloc: Global, bytes: &[u8]) -> Result<(Locals, &[u8]), CFault>
+    ensures { Gives (λ x. (x.0, x.1.now)) result (Some (locals_at bytes.now)) }
+{
+    let mut found = Locals::new(alloc);
+    let mut rest = bytes;
+    for _ in 0..bytes.len() {
+        match local(rest) {
+            Ok((l, more)) => {
+                found.push(l)?;
+                rest = more;
+            }
+            Err(CFault::NotC) => return Ok((found, rest)),
+            Err(CFault::Memory) => return Err(CFault::Memory),
+        }
+    }
+    Ok((found, rest))
+}
+
+// ---- the function
+
+fn declared(name: CName) -> Result<Name, CFault>
+    ensures { Gives (λ x. x) result (declared_name name) }
+{
+    match name {
+        CName::Declared(name) => Ok(name),
+        CName::Bare => Err(CFault::NotC),
+    }
+}
+
+/// All but the body.
+#[tactic(auto, unfolding(crate::specs::Functions::frame_at))]
+fn frame(alloc: Global, bytes: &[u8]) -> Result<(CFunction, &[u8]), CFault>
+    ensures { Gives (λ x. (x.0, x.1.now)) result (frame_at bytes.now) }
+{
+    let (callees, rest) = callees(alloc, bytes)?;
+    let (head, rest) = head(alloc, rest)?;
+    let name = declared(head.name)?;
+    let (params, rest) = params(alloc, rest)?;
+    let rest = need(b")\n{\n", rest)?;
+    let (locals, rest) = locals(alloc, rest)?;
+    Ok((
+        CFunction {
+            callees,
+            name,
+            gives: head.gives,
+            params,
+            locals,
+            body: Body::new(alloc),
+        },
+        rest,
+    ))
+}
+
+/// The tree that the text may have.
+#[tactic(auto, unfolding(crate::specs::Functions::function_at))]
+pub fn function(alloc: Global, bytes: &[u8]) -> Result<CFunction, CFault>
+    ensures { Gives (λ x. x) result (function_at bytes.now) }
+{
+    let (frame, rest) = frame(alloc, bytes)?;
+    let (body, _) = body(alloc, &frame, false, 256, rest)?;
+    Ok(CFunction {
+        callees: frame.callees,
+        name: frame.name,
+        gives: frame.gives,
+        params: frame.params,
+        locals: frame.locals,
+        body,
+    })
+}

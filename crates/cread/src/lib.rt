@@ -1,0 +1,17 @@
+//! Reading the text of a C function back: one text has one tree, and no other text is read.
+#![tactic(auto)]
+
+mod expressions;
+mod functions;
+mod item;
+mod made;
+mod names;
+mod read;
+mod rights;
+mod statements;
+#[cfg(test)]
+mod tests;
+mod words;
+
+pub use item::CFault;
+pub use read::read_c;
