@@ -111,7 +111,7 @@ small n = if nat_lt n (2 ^ 32) then Some n else None
 
 -- the local of a number, by how many parameters there are
 abbrev pub local_by : ℕ → ℕ × List ℕ → Option (ℕ × List ℕ)
-local_by count n = small (count + (n.0 % 2 ^ 32 - 1)) >>= λ k. Some (k, n.1)
+local_by count n = small (count + (n.0 % 2 ^ 33 - 1)) >>= λ k. Some (k, n.1)
 
 abbrev pub param_by : List Param → Entry × List ℕ → Option (ℕ × List ℕ)
 param_by ps e = place_of e.0 0 ps >>= λ k. small k >>= λ n. Some (n, e.1)

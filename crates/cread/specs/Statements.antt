@@ -7,6 +7,7 @@ use Rattle.cmeaning.specs.declared.tree.Arm.{Arm}
 use Rattle.cmeaning.specs.declared.tree.Stmt.{Stmt}
 use Rattle.cmeaning.specs.declared.tree.Stmt.TheVariants as s
 use Rattle.ctext.specs.Names.{Scope}
+use Rattle.ctext.specs.Statements.{loop_head}
 use Rattle.cread.specs.declared.item.Access.{Access}
 use Rattle.cread.specs.declared.item.Line.{Line}
 use Rattle.cread.specs.declared.item.Line.TheVariants as L
@@ -18,20 +19,25 @@ use Rattle.cread.specs.Expressions.{expr_at}
 
 -- ---- words
 
--- at the beginning of a statement
-unfoldable pub line_at : List ℕ → Option (Line × List ℕ)
-line_at bytes =
-    chosen (after (codes "if (") bytes) (λ rest. Some (L.If, rest))
-    (chosen (after (codes "while (1) {\n") bytes) (λ rest. Some (L.Loop, rest))
-    (chosen (after (codes "while (") bytes) (λ rest. Some (L.While, rest))
-    (chosen (after (codes "do {\n") bytes) (λ rest. Some (L.Do, rest))
-    (chosen (after (codes "switch (") bytes) (λ rest. Some (L.Switch, rest))
-    (chosen (after (codes "break;\n") bytes) (λ rest. Some (L.Break, rest))
+-- of a statement without a body
+unfoldable pub plain_line_at : List ℕ → Option (Line × List ℕ)
+plain_line_at bytes =
+    chosen (after (codes "break;\n") bytes) (λ rest. Some (L.Break, rest))
     (chosen (after (codes "goto L") bytes) (λ rest. Some (L.Goto, rest))
     (chosen (after (codes "return;\n") bytes) (λ rest. Some (L.Return, rest))
     (chosen (after (codes "return ") bytes) (λ rest. Some (L.Give, rest))
     (chosen (after (codes "L") bytes) (λ rest. Some (L.Label, rest))
-    None)))))))))
+    None))))
+
+-- at the beginning of a statement
+unfoldable pub line_at : List ℕ → Option (Line × List ℕ)
+line_at bytes =
+    chosen (after (codes "if (") bytes) (λ rest. Some (L.If, rest))
+    (chosen (after loop_head bytes) (λ rest. Some (L.Loop, rest))
+    (chosen (after (codes "while (") bytes) (λ rest. Some (L.While, rest))
+    (chosen (after (codes "do {\n") bytes) (λ rest. Some (L.Do, rest))
+    (chosen (after (codes "switch (") bytes) (λ rest. Some (L.Switch, rest))
+    (plain_line_at bytes)))))
 
 -- of a division
 unfoldable pub division_at : List ℕ → Option (Right × List ℕ)

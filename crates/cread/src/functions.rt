@@ -92,6 +92,7 @@ fn next_width(bytes: &[u8]) -> Result<(Width, &[u8]), CFault>
     width(rest)
 }
 
+#[tactic(auto, using(crate::proofs::Rows::row_more, crate::proofs::Rows::row_stops, crate::proofs::Rows::row_ends))]
 fn add_widths(found: Widths, bytes: &[u8]) -> Result<(Widths, &[u8]), CFault>
     ensures { Gives (λ x. (x.0, x.1.now)) result (Some (behind found (more_widths bytes.now))) }
 {
@@ -145,6 +146,7 @@ fn callee(alloc: Global, bytes: &[u8]) -> Result<(CalleeDecl, &[u8]), CFault>
     ))
 }
 
+#[tactic(auto, using(crate::proofs::Rows::row_more, crate::proofs::Rows::row_stops, crate::proofs::Rows::row_ends))]
 fn callees(alloc: Global, bytes: &[u8]) -> Result<(CalleeDecls, &[u8]), CFault>
     ensures { Gives (λ x. (x.0, x.1.now)) result (Some (callees_at bytes.now)) }
 {
@@ -195,6 +197,7 @@ fn next_param(bytes: &[u8]) -> Result<(Param, &[u8]), CFault>
     param(rest)
 }
 
+#[tactic(auto, using(crate::proofs::Rows::row_more, crate::proofs::Rows::row_stops, crate::proofs::Rows::row_ends))]
 fn add_params(found: Params, bytes: &[u8]) -> Result<(Params, &[u8]), CFault>
     ensures { Gives (λ x. (x.0, x.1.now)) result (Some (behind found (more_params bytes.now))) }
 {
@@ -241,6 +244,7 @@ fn local(bytes: &[u8]) -> Result<(Local, &[u8]), CFault>
     Ok((t, rest))
 }
 
+#[tactic(auto, using(crate::proofs::Rows::row_more, crate::proofs::Rows::row_stops, crate::proofs::Rows::row_ends))]
 fn locals(alloc: Global, bytes: &[u8]) -> Result<(Locals, &[u8]), CFault>
     ensures { Gives (λ x. (x.0, x.1.now)) result (Some (locals_at bytes.now)) }
 {

@@ -34,6 +34,14 @@ impl<T: Drop> From<AllocFailed<T>> for CFault {
     }
 }
 
+impl From<bits_core::Memory> for CFault {
+    ghost from_gives = { λ _ e. e ≡ Memory };
+
+    fn from(_refused: bits_core::Memory) -> CFault {
+        CFault::Memory
+    }
+}
+
 /// An expression with its width in bytes, and whether it stands in its signed form.
 #[derive(Drop)]
 pub struct Item {

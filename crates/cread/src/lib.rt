@@ -14,4 +14,4 @@ mod tests;
 mod words;
 
 pub use item::CFault;
-pub use read::read_c;
+pub use read::{one_tree, read_c};

@@ -170,7 +170,7 @@ fn local(count: usize, n: u128, rest: &[u8]) -> Option<(u32, &[u8])>
     requires { count < 2 ^ 63 }
     ensures { option_map (λ x. (x.0, x.1.now)) result ≡ local_by count (n, rest.now) }
 {
-    let n = (n % 0x1_0000_0000) as usize;
+    let n = (n % 0x2_0000_0000) as usize;
     let k = narrowed(count + n.saturating_sub(1))?;
     Some((k, rest))
 }
@@ -190,7 +190,7 @@ pub fn variable<'b>(f: &CFunction, bytes: &'b [u8]) -> Option<(u32, &'b [u8])>
 {
     if let Some(rest) = skip(b"v", bytes) {
         let (n, rest) = decimal(rest);
-        return local(f.params.len(), n, rest);
+        return local(f.params.as_slice().len(), n, rest);
     }
     let (e, rest) = entry(bytes)?;
     param(f.params.as_slice(), e, rest)

@@ -2,36 +2,44 @@
 
 ghost use Rattle.std.specs.Prelude.{◌≡◌, ◌↔◌, IsTrue, IfOk};
 ghost use Rattle.cmeaning.specs.declared.tree.CFunction.{CFunction as Function};
+ghost use Rattle.cmeaning.specs.Valid.{IsValid};
 ghost use Rattle.ctext.specs.Text.{text_of};
 ghost use Rattle.cread.specs.Answer.{IsTreeOf, IsAnswered};
 
 use crate::functions::function;
 use crate::item::CFault;
+use bits_core::Memory;
 use cmeaning::{CFunction, valid};
 use ctext::print_c;
 use std::alloc::Global;
 
 /// Whether the tree has this text.
-fn has_text(alloc: Global, f: &CFunction, bytes: &[u8]) -> Result<bool, CFault>
+fn has_text(alloc: Global, f: &CFunction, bytes: &[u8]) -> Result<bool, Memory>
     ensures { IfOk result (λ yes. IsTrue yes ↔ (bytes.now ≡ text_of f.now)) }
 {
-    match print_c(alloc, f) {
-        Ok(text) => Ok(bytes == text.as_slice()),
-        Err(_) => Err(CFault::Memory),
-    }
+    let text = print_c(alloc, f)?;
+    Ok(bytes == text.as_slice())
 }
 
-/// The one valid tree with this text; NotC exactly where there is none.
+/// The one valid tree with this text, or NotC exactly where there is none.
 pub fn read_c(alloc: Global, bytes: &[u8]) -> Result<CFunction, CFault>
     // What is read is a valid tree, and has this text.
     ensures found { IfOk result (IsTreeOf bytes.now) }
+    // A valid tree that has this text is read, unless memory runs out.
+    ensures only { (f : Function) → IsTreeOf bytes.now f → IsAnswered f result }
 {
     let f = function(alloc, bytes)?;
     if !valid(&f) {
         return Err(CFault::NotC);
     }
-    if !has_text(alloc, &f, bytes)? {
+    let same = has_text(alloc, &f, bytes)?;
+    if !same {
         return Err(CFault::NotC);
     }
     Ok(f)
 }
+
+/// Text determines the tree.
+pub fn one_tree()
+    ensures { (f g : Function) → IsValid f → IsValid g → text_of f ≡ text_of g → f ≡ g }
+{}

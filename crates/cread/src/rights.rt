@@ -89,6 +89,7 @@ fn further_arg<'b>(
 }
 
 /// Adds each expression that stands here behind a comma.
+#[tactic(auto, using(crate::proofs::Rows::row_more, crate::proofs::Rows::row_stops, crate::proofs::Rows::row_ends))]
 fn further<'b>(
     alloc: Global,
     f: &CFunction,

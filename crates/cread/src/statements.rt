@@ -3,8 +3,9 @@
 ghost use Rattle.std.specs.Prelude.{◌≡◌, Some};
 ghost use Rattle.std.specs.Option.{option_map};
 ghost use Rattle.ctext.specs.Names.{scope_of};
+ghost use Rattle.ctext.specs.Statements.{loop_head};
 ghost use Rattle.cread.specs.Words.{Gives, after, behind, past_spaces as behind_spaces};
-ghost use Rattle.cread.specs.Statements.{line_at, number_at, head_at, not_own as is_no_own_break, spaced_by, body_by, closed_by, if_by, else_by, while_by, loop_by, do_by, case_at, further_cases, cases_at, past_break, arm_by, arms_by, switch_by, line_by, statement_at};
+ghost use Rattle.cread.specs.Statements.{plain_line_at, line_at, number_at, head_at, not_own as is_no_own_break, spaced_by, body_by, closed_by, if_by, else_by, while_by, loop_by, do_by, case_at, further_cases, cases_at, past_break, arm_by, arms_by, switch_by, line_by, statement_at};
 
 use crate::expressions::expr;
 use crate::item::{CFault, Line};
@@ -13,6 +14,14 @@ use crate::words::{decimal, hex, need, past_spaces, skip};
 use cmeaning::{Arm, Arms, Body, CFunction, Expr, Stmt, Values};
 use std::alloc::Global;
 
+/// What an endless loop begins with.
+#[tactic(auto, unfolding(ctext::specs::Statements::loop_head))]
+fn loop_words() -> &'static [u8]
+    ensures { result.now ≡ loop_head }
+{
+    b"while (1) {\n"
+}
+
 #[tactic(auto, unfolding(crate::specs::Statements::line_at))]
 fn line(bytes: &[u8]) -> Option<(Line, &[u8])>
     ensures { option_map (λ x. (x.0, x.1.now)) result ≡ line_at bytes.now }
@@ -20,7 +29,7 @@ fn line(bytes: &[u8]) -> Option<(Line, &[u8])>
     if let Some(rest) = skip(b"if (", bytes) {
         return Some((Line::If, rest));
     }
-    if let Some(rest) = skip(b"while (1) {\n", bytes) {
+    if let Some(rest) = skip(loop_words(), bytes) {
         return Some((Line::Loop, rest));
     }
     if let Some(rest) = skip(b"while (", bytes) {
@@ -32,6 +41,14 @@ fn line(bytes: &[u8]) -> Option<(Line, &[u8])>
     if let Some(rest) = skip(b"switch (", bytes) {
         return Some((Line::Switch, rest));
     }
+    plain_line(bytes)
+}
+
+/// Of a statement without a body.
+#[tactic(auto, unfolding(crate::specs::Statements::plain_line_at))]
+fn plain_line(bytes: &[u8]) -> Option<(Line, &[u8])>
+    ensures { option_map (λ x. (x.0, x.1.now)) result ≡ plain_line_at bytes.now }
+{
     if let Some(rest) = skip(b"break;\n", bytes) {
         return Some((Line::Break, rest));
     }
@@ -108,6 +125,7 @@ fn case(bytes: &[u8]) -> Result<(u128, &[u8]), CFault>
     Ok((n, rest))
 }
 
+#[tactic(auto, using(crate::proofs::Rows::row_more, crate::proofs::Rows::row_stops, crate::proofs::Rows::row_ends))]
 fn more_cases(found: Values, bytes: &[u8]) -> Result<(Values, &[u8]), CFault>
     ensures { Gives (λ x. (x.0, x.1.now)) result (Some (behind found (further_cases bytes.now))) }
 {
@@ -213,6 +231,7 @@ fn spaced<'b>(
 
 /// As many statements as stand in a row.
 #[cycle(lines)]
+#[tactic(auto, using(crate::proofs::Rows::row_more, crate::proofs::Rows::row_stops, crate::proofs::Rows::row_ends))]
 pub fn body<'b>(
     alloc: Global,
     f: &CFunction,
@@ -340,6 +359,7 @@ fn arm<'b>(
 }
 
 #[cycle(lines)]
+#[tactic(auto, using(crate::proofs::Rows::row_more, crate::proofs::Rows::row_stops, crate::proofs::Rows::row_ends))]
 fn arms<'b>(
     alloc: Global,
     f: &CFunction,

@@ -1,7 +1,80 @@
+mod texts;
+
 use crate::*;
+use ctext::print_c;
 use std::test::Fail;
+use texts::{KINDS, NOT_C, WORKED};
+
+// Whether a text is read, and is then printed back byte for byte.
+fn is_c(rt: &HostRuntime, text: &[u8]) -> Result<bool, Fail> {
+    match read_c(rt.alloc(), text) {
+        Ok(f) => {
+            let back = print_c(rt.alloc(), &f)?;
+            Ok(back.as_slice() == text)
+        }
+        Err(_) => Ok(false),
+    }
+}
+
+fn put_times(out: &mut Vec<u8>, word: &[u8], times: u32) -> Result<(), Fail> {
+    for _ in 0..times {
+        out.extend_from_slice(word)?;
+    }
+    Ok(())
+}
+
+// So many minus signs before a parameter.
+fn negations(rt: &HostRuntime, signs: u32) -> Result<Vec<u8>, Fail> {
+    let mut text = Vec::new(rt.alloc());
+    text.extend_from_slice(b"u32 f_f(u32 p_register_0)\n{\n  return -")?;
+    put_times(&mut text, b"(-", signs.saturating_sub(1))?;
+    text.extend_from_slice(b"p_register_0")?;
+    put_times(&mut text, b")", signs.saturating_sub(1))?;
+    text.extend_from_slice(b";\n}\n")?;
+    Ok(text)
+}
+
+// So many loops in one another.
+fn loops(rt: &HostRuntime, depth: u32) -> Result<Vec<u8>, Fail> {
+    let mut text = Vec::new(rt.alloc());
+    text.extend_from_slice(b"void f_f(void)\n{\n")?;
+    for level in 0..depth {
+        put_times(&mut text, b"  ", level.saturating_add(1))?;
+        text.extend_from_slice(b"while (1) {\n")?;
+    }
+    for level in 0..depth {
+        put_times(&mut text, b"  ", depth.saturating_sub(level))?;
+        text.extend_from_slice(b"}\n")?;
+    }
+    text.extend_from_slice(b"}\n")?;
+    Ok(text)
+}
 
 #[test]
-fn nothing(rt: HostRuntime) {
-    assert!(rt; read_c(rt.alloc(), b"").is_err());
+fn texts_are_read_back(rt: HostRuntime) -> Result<(), Fail> {
+    for text in WORKED {
+        assert!(rt; is_c(&rt, text)?);
+    }
+    assert!(rt; is_c(&rt, KINDS)?);
+    Ok(())
+}
+
+#[test]
+fn other_texts_are_not_c(rt: HostRuntime) {
+    for text in NOT_C {
+        assert!(rt; matches!(read_c(rt.alloc(), text), Err(CFault::NotC)));
+    }
+}
+
+#[test]
+fn depths(rt: HostRuntime) -> Result<(), Fail> {
+    for (signs, good) in [(1, true), (63, true), (64, false), (20000, false)] {
+        let text = negations(&rt, signs)?;
+        assert_eq!(rt; is_c(&rt, text.as_slice())?, good, "{signs} signs");
+    }
+    for (depth, good) in [(1, true), (256, true), (257, false)] {
+        let text = loops(&rt, depth)?;
+        assert_eq!(rt; is_c(&rt, text.as_slice())?, good, "{depth} loops");
+    }
+    Ok(())
 }

@@ -35,6 +35,7 @@ pub fn past<'b>(word: &[u8], bytes: &'b [u8]) -> &'b [u8]
     }
 }
 
+#[tactic(auto, using(crate::proofs::Fronts::run_more, crate::proofs::Fronts::run_done, crate::proofs::Fronts::run_end))]
 fn spaces(bytes: &[u8]) -> usize
     ensures value { result ≡ run_of is_space bytes.now }
     ensures within { result ≤ length bytes.now }
@@ -62,6 +63,7 @@ fn letter_or_digit(b: u8) -> bool
     (b >= 65 && b <= 90) || (b >= 97 && b <= 122) || b == 95 || (b >= 48 && b <= 57)
 }
 
+#[tactic(auto, using(crate::proofs::Fronts::run_more, crate::proofs::Fronts::run_done, crate::proofs::Fronts::run_end))]
 fn letters(bytes: &[u8]) -> usize
     ensures value { result ≡ run_of is_letter_or_digit bytes.now }
     ensures within { result ≤ length bytes.now }
