@@ -1,21 +1,16 @@
 -- The text of an expression is read again, whatever may follow it: the parts that the kinds of expressions share.
-use Rattle.std.proofs.Common.{◌≡◌, ℕ, zero, suc, ◌+◌, ◌-◌, ◌*◌, ◌/◌, ◌%◌, ◌^◌, ◌<◌, ◌≤◌, Bool, true, false, cond, eqb, ltb, List, [], ◌∷◌, ◌++◌, length, Option, Some, None, refl, sym, ap, ◌∙◌, subst, arith, append_assoc, lit<, lit≤}
+use Rattle.std.proofs.Common.{◌≡◌, ℕ, zero, suc, ◌+◌, ◌*◌, ◌<◌, ◌≤◌, true, false, eqb, List, [], ◌∷◌, ◌++◌, Some, None, refl, sym, ap, ◌∙◌, arith, append_assoc}
 use Rattle.std.specs.Prelude.{codes}
-use Rattle.std.specs.Fmt.{decimal}
-use Rattle.std.proofs.lemmas.Bool.{lt-ltb, le-ltb}
-use Rattle.bits_core.specs.declared.word.Width.{Width}
-use Rattle.cmeaning.specs.declared.tree.Local.{Local}
 use Rattle.cmeaning.specs.declared.tree.Expr.{Expr}
-use Rattle.cmeaning.specs.declared.tree.Expr.TheVariants as e
 use Rattle.ctext.specs.Names.{Scope, type_text}
 use Rattle.ctext.specs.Expressions.{Form, cast, enclosed, compound, simple, comparison}
 use Rattle.cread.specs.declared.item.Item.{Item}
 use Rattle.cread.specs.declared.item.Sign.{Sign}
-use Rattle.cread.specs.Words.{◌>>=◌, after, chosen}
+use Rattle.cread.specs.Words.{after}
 use Rattle.cread.specs.Names.{width_by, type_at}
 use Rattle.cread.specs.Expressions.{unary_at, sign_at, test_at, item, as_signed, resize, joined, Reader, inner_by, cast_by, paren_by, operand_by, operand_at}
 use Rattle.cread.specs.Statements.{right_at, division_at}
-use Rattle.cread.proofs.Naming.{IsStop, space, close, comma, semi, IsEnd, at_close, at_comma, at_semi, stop_of}
+use Rattle.cread.proofs.Naming.{IsStop, IsEnd, at_close, at_comma, at_semi, stop_of}
 use Rattle.cread.proofs.Widths.{type_again, width_bytes}
 
 pub end_sign : {c : ℕ} (rest : List ℕ) → IsEnd c → sign_at (c ∷ rest) ≡ None

@@ -1,26 +1,22 @@
 -- Statements with bodies are read again, where the statements inside them are.
-use Rattle.std.proofs.Common.{◌≡◌, ℕ, zero, suc, ◌+◌, ◌-◌, ◌*◌, ◌/◌, ◌%◌, ◌^◌, ◌<◌, ◌≤◌, Bool, true, false, cond, eqb, ltb, leb, ◌&&◌, List, [], ◌∷◌, ◌++◌, length, Option, Some, None, refl, sym, ap, ◌∙◌, subst, arith, append_assoc, lit<, lit≤, length-append}
-use Rattle.std.specs.Prelude.{codes, not, map}
+use Rattle.std.proofs.Common.{◌≡◌, ℕ, zero, suc, ◌+◌, ◌-◌, ◌^◌, ◌<◌, ◌≤◌, Bool, true, false, eqb, ltb, ◌&&◌, List, [], ◌∷◌, ◌++◌, length, Some, None, refl, ◌∙◌, subst, arith, append_assoc, length-append}
+use Rattle.std.specs.Prelude.{codes, map}
 use Rattle.std.proofs.lemmas.Bool.{ltb-true}
-use Rattle.bits_core.specs.Value.{limit}
-use Rattle.bits_core.proofs.Machine.{limit_most}
 use Rattle.cmeaning.specs.declared.tree.CFunction.{CFunction}
 use Rattle.cmeaning.specs.declared.tree.Expr.{Expr}
-use Rattle.cmeaning.specs.declared.tree.Arm.{Arm, fold_out-Arm}
 use Rattle.cmeaning.specs.declared.tree.Stmt.{Stmt}
 use Rattle.cmeaning.specs.declared.tree.Stmt.TheVariants as s
-use Rattle.cmeaning.specs.Valid.{are_callees, Rule, Cased, rule_step, cased_step, rule_of, cased_of, all_hold, has_case, arms_hold, all_cases, are_words}
+use Rattle.cmeaning.specs.Valid.{are_callees, rule_of, all_hold}
 use Rattle.cmeaning.specs.Do.{widths_in}
-use Rattle.ctext.specs.Names.{Scope, scope_of, hex}
+use Rattle.ctext.specs.Names.{Scope, scope_of}
 use Rattle.ctext.specs.Expressions.{form}
-use Rattle.ctext.specs.Statements.{Lines, lines, deeper, all_lines, last_leaves, case_lines, break_line, body_text, body_leaves, arm_text, all_arms, loop_head}
-use Rattle.ctext.proofs.Nested.{arm_lines}
+use Rattle.ctext.specs.Statements.{lines, deeper, all_lines, loop_head}
 use Rattle.cread.specs.Names.{type_at, variable_at, entry_at}
-use Rattle.cread.specs.Words.{◌>>=◌, after, chosen, or_else, run_of, past_spaces, hex_at, put_first, many_by}
+use Rattle.cread.specs.Words.{after, run_of, past_spaces, many_by}
 use Rattle.cread.specs.Expressions.{expr_at}
-use Rattle.cread.specs.Statements.{line_at, plain_line_at, right_at, division_at, effect_at, target_at, Statements, not_own, inside_by, spaced_by, body_by, closing, closed_by, head_at, else_by, if_by, while_by, loop_by, until_by, do_by, case_at, further_cases, cases_at, past_break, arm_by, arms_by, switch_by, line_by, statement_by, statement_at}
+use Rattle.cread.specs.Statements.{line_at, plain_line_at, right_at, division_at, effect_at, target_at, not_own, spaced_by, body_by, closed_by, head_at, if_by, while_by, loop_by, do_by, line_by, statement_by, statement_at}
 use Rattle.cread.proofs.Naming.{IsEnd, at_close}
-use Rattle.cread.proofs.Fronts.{and_both, hex_again, AllSpaces, spaces_again, no_spaces}
+use Rattle.cread.proofs.Fronts.{and_both, AllSpaces, spaces_again, no_spaces}
 
 use Rattle.cread.proofs.Law.{Context}
 use Rattle.cread.proofs.Parts.{Written, Starts, own_of, LineAt}

@@ -1,9 +1,9 @@
 -- Memory accesses, calls and divisions are read again.
-use Rattle.std.proofs.Common.{◌≡◌, ℕ, zero, suc, ◌+◌, ◌-◌, ◌*◌, ◌/◌, ◌%◌, ◌^◌, ◌<◌, ◌≤◌, Bool, true, false, cond, eqb, ltb, leb, ◌&&◌, List, [], ◌∷◌, ◌++◌, length, Option, Some, None, refl, sym, ap, ◌∙◌, subst, arith, append_assoc, lit<, lit≤, length-append, inl, inr}
-use Rattle.std.specs.Prelude.{codes, not, map}
+use Rattle.std.proofs.Common.{◌≡◌, ℕ, ◌+◌, ◌-◌, ◌*◌, ◌%◌, ◌^◌, ◌<◌, true, false, cond, eqb, leb, ◌&&◌, List, [], ◌∷◌, ◌++◌, length, Option, Some, None, refl, sym, ap, ◌∙◌, subst, arith, append_assoc, length-append, inl, inr}
+use Rattle.std.specs.Prelude.{codes, not}
 use Rattle.std.specs.Fmt.{decimal}
-use Rattle.std.proofs.lemmas.Bool.{lt-ltb, ltb-true, eqb-true, cases_Bool}
-use Rattle.cmeaning.specs.Valid.{is_name, begins_well, all_letters_or_digits, is_long, is_space, is_callee, is_callee_name, result_fits, same_callee_name, are_apart, is_apart_from, are_callees, declared_in}
+use Rattle.std.proofs.lemmas.Bool.{ltb-true, eqb-true, cases_Bool}
+use Rattle.cmeaning.specs.Valid.{begins_well, all_letters_or_digits, is_long, is_space, is_callee, is_callee_name, result_fits, same_callee_name, are_apart, is_apart_from, are_callees, declared_in}
 use Rattle.cmeaning.specs.Do.{same_name}
 use Rattle.cmeaning.specs.declared.tree.CName.{CName}
 use Rattle.cmeaning.specs.declared.tree.CName.TheVariants.{Declared, Bare}
@@ -13,18 +13,15 @@ use Rattle.cmeaning.specs.declared.tree.StatementDivision.TheVariants as D
 use Rattle.cmeaning.specs.declared.tree.Expr.{Expr}
 use Rattle.cmeaning.specs.declared.tree.Stmt.{Stmt}
 use Rattle.cmeaning.specs.declared.tree.Stmt.TheVariants as s
-use Rattle.ctext.specs.Names.{Scope, Variable, variable, hex, unsigned_type, separated, further, callee_name, callee_at, name_at as name_of}
-use Rattle.ctext.specs.Expressions.{Form, form, call_of_two}
-use Rattle.ctext.specs.Statements.{loop_head, access_text, plain_texts, division_word, target_text, target_width}
-use Rattle.cread.specs.declared.item.Access.{Access}
-use Rattle.cread.specs.declared.item.Right.{Right}
+use Rattle.ctext.specs.Names.{Scope, hex, separated, further, callee_name, callee_at, name_at as name_of}
+use Rattle.ctext.specs.Expressions.{form, call_of_two}
+use Rattle.ctext.specs.Statements.{loop_head, access_text, plain_texts, division_word}
 use Rattle.cread.specs.declared.item.Right.TheVariants as R
-use Rattle.cread.specs.Words.{◌>>=◌, after, chosen, run_of, past_spaces, name_at, decimal_at, hex_at}
+use Rattle.cread.specs.Words.{after, run_of, past_spaces, hex_at}
 use Rattle.cread.specs.Names.{type_at, is_whole, is_named, address_of}
-use Rattle.cread.specs.Expressions.{expr_at}
-use Rattle.cread.specs.Statements.{line_at, plain_line_at, right_at, division_at, further_at, args_at, access_of, pointed_at, memory_at, with_args, named_call, bare_call, indirect_call, other_call, extra_at, divide_at, loaded, right_by, value_at}
-use Rattle.cread.proofs.Naming.{IsEnd, at_close, at_comma, at_semi}
-use Rattle.cread.proofs.Fronts.{and_both, after_front, hex_again, decimal_again, name_again}
+use Rattle.cread.specs.Statements.{line_at, plain_line_at, right_at, division_at, access_of, pointed_at, memory_at, with_args, named_call, bare_call, indirect_call, other_call, extra_at, divide_at, loaded, right_by}
+use Rattle.cread.proofs.Naming.{at_close, at_comma}
+use Rattle.cread.proofs.Fronts.{and_both, hex_again, decimal_again, name_again}
 
 use Rattle.cread.proofs.Parts.{Written, value_again, AllWritten, before_others, further_again, args_again, Plainly, RightText}
 

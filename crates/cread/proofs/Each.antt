@@ -1,6 +1,6 @@
 -- Each statement that obeys its rule is read again.
-use Rattle.std.proofs.Common.{◌≡◌, ℕ, zero, suc, ◌+◌, ◌*◌, ◌%◌, ◌^◌, ◌<◌, ◌≤◌, Bool, true, false, cond, eqb, ltb, leb, ◌&&◌, List, [], ◌∷◌, ◌++◌, length, Option, Some, None, refl, sym, ap, ◌∙◌, subst, arith, append_assoc, length-append, lit<}
-use Rattle.std.specs.Prelude.{codes, map, not}
+use Rattle.std.proofs.Common.{◌≡◌, ℕ, suc, ◌+◌, ◌%◌, ◌^◌, ◌<◌, Bool, true, false, eqb, ltb, ◌&&◌, List, [], ◌∷◌, ◌++◌, Option, Some, None, refl, sym, ap, ◌∙◌, subst, arith, append_assoc, lit<}
+use Rattle.std.specs.Prelude.{codes, map}
 use Rattle.std.specs.Fmt.{decimal}
 use Rattle.std.proofs.lemmas.Bool.{ltb-true}
 use Rattle.bits_core.specs.declared.word.Width.{Width}
@@ -15,19 +15,18 @@ use Rattle.cmeaning.specs.declared.tree.Stmt.TheFolds.{ind-Stmt}
 use Rattle.cmeaning.specs.declared.tree.Stmt.TheOpen.{Stmt-F, Arm-F}
 use Rattle.cmeaning.specs.declared.tree.Stmt.TheVariants as s
 use Rattle.cmeaning.specs.Shape.{shape_of, is_right, has_width, is_condition}
-use Rattle.cmeaning.specs.Valid.{Rule, Cased, rule_step, cased_step, rule_of, cased_of, all_hold, arms_hold, all_cases, are_distinct, are_words, are_cases_of, is_long, is_space, is_variable, is_target, are_right, have_widths, takes, is_call, is_assigned, is_returned, declared_in}
+use Rattle.cmeaning.specs.Valid.{Rule, Cased, rule_step, cased_step, rule_of, cased_of, all_hold, arms_hold, all_cases, are_distinct, are_words, are_cases_of, is_long, is_space, is_variable, is_target, are_right, have_widths, takes, is_call, is_assigned, is_returned}
 use Rattle.cmeaning.specs.Do.{widths_in}
 use Rattle.ctext.specs.Names.{Scope, scope_of, variable, callee_at}
-use Rattle.ctext.specs.Expressions.{Form, form}
-use Rattle.ctext.specs.Statements.{Lines, lines, lines_step, arm_step, deeper, all_lines, all_arms, arm_text, assigned, return_text, assign_text, load_text, store_text, call_text, call_ind_text, other_text, extra_text, divide_text, target_width, loop_head}
-use Rattle.cread.specs.Words.{◌>>=◌, after, chosen, run_of, past_spaces, decimal_at}
+use Rattle.ctext.specs.Expressions.{form}
+use Rattle.ctext.specs.Statements.{Lines, lines, lines_step, arm_step, all_arms, arm_text, assigned, return_text, assign_text, call_text, target_width, loop_head}
+use Rattle.cread.specs.Words.{after, run_of, past_spaces}
 use Rattle.cread.specs.Names.{type_at}
-use Rattle.cread.specs.Statements.{line_at, plain_line_at, line_by, not_own, value_at, right_at, target_at, statement_by, statement_at}
+use Rattle.cread.specs.Statements.{line_at, plain_line_at, line_by, not_own, target_at, statement_by, statement_at}
 use Rattle.cread.proofs.Fronts.{and_both, decimal_again, AllSpaces}
 use Rattle.cread.proofs.Naming.{Named, space}
-use Rattle.cread.proofs.Again.{Again}
 use Rattle.cread.proofs.Law.{Context, reads}
-use Rattle.cread.proofs.Parts.{Written, written, written_right, written_width, written_test, value_again, AllWritten, all_right, all_wide, LineAt, target_line, IsNamed, RightText, behind_target, right_line, alone_line, target_named, variable_is_named}
+use Rattle.cread.proofs.Parts.{Written, written, written_right, written_width, written_test, value_again, all_right, all_wide, LineAt, target_line, IsNamed, RightText, behind_target, right_line, alone_line, target_named, variable_is_named}
 use Rattle.cread.proofs.Calls.{declared_is, load_right, store_right, call_right, indirect_right, other_right, extra_right, divide_right}
 use Rattle.cread.proofs.Bodies.{Setting, LineOk, AllOk, worded, if_line, else_line, while_line, loop_line, do_line}
 use Rattle.cread.proofs.Switches.{ArmOk, AllArmsOk, switch_line}

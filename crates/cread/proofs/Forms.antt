@@ -1,11 +1,10 @@
 -- What a shape says, and how the texts of the kinds of expressions are read.
-use Rattle.std.proofs.Common.{◌≡◌, ℕ, zero, suc, ◌+◌, ◌-◌, ◌*◌, ◌/◌, ◌%◌, ◌^◌, ◌<◌, ◌≤◌, min, max, Bool, true, false, cond, eqb, ltb, leb, ◌&&◌, List, [], ◌∷◌, ◌++◌, Option, Some, None, refl, sym, ap, ◌∙◌, subst, arith, append_assoc, lit<, lit≤}
+use Rattle.std.proofs.Common.{◌≡◌, ℕ, zero, suc, ◌+◌, ◌-◌, ◌*◌, ◌/◌, ◌%◌, ◌^◌, ◌<◌, ◌≤◌, max, Bool, true, false, cond, eqb, ltb, List, [], ◌∷◌, ◌++◌, Option, Some, None, refl, sym, ap, ◌∙◌, arith, append_assoc}
 use Rattle.std.specs.Prelude.{codes}
 use Rattle.std.proofs.lemmas.Bool.{lt-ltb, le-ltb, ltb-true}
 use Rattle.bits_core.specs.declared.word.Width.{Width}
-use Rattle.bits_core.specs.declared.word.Word.{Word}
 use Rattle.cmeaning.specs.declared.shape.Shape.{Shape}
-use Rattle.cmeaning.specs.Shape.{leaf, above, one_shape, two_shape}
+use Rattle.cmeaning.specs.Shape.{above, one_shape, two_shape}
 use Rattle.cmeaning.specs.declared.tree.UnaryOp.{UnaryOp}
 use Rattle.cmeaning.specs.declared.tree.UnaryOp.TheVariants as U
 use Rattle.cmeaning.specs.declared.tree.ArithmeticOp.{ArithmeticOp}
@@ -30,14 +29,13 @@ use Rattle.cread.specs.declared.item.Sign.{Sign}
 use Rattle.cread.specs.declared.item.Sign.TheVariants as S
 use Rattle.cread.specs.declared.item.Pair.{Pair}
 use Rattle.cread.specs.declared.item.Pair.TheVariants as P
-use Rattle.cread.specs.Words.{◌>>=◌, after, chosen}
+use Rattle.cread.specs.Words.{after}
 use Rattle.cread.specs.Names.{width_by, type_at}
 use Rattle.cread.specs.Expressions.{unary_at, sign_at, test_at, pair_at, count_at, item, as_signed, resize, joined, paired, inner_by, pair_by, count_by, atom_by, operand_by, operand_at}
 use Rattle.cread.specs.Statements.{right_at, division_at}
-use Rattle.cread.proofs.Fronts.{and_both}
-use Rattle.cread.proofs.Naming.{IsStop, space, IsEnd, at_close, at_comma, stop_of}
+use Rattle.cread.proofs.Naming.{at_close, at_comma}
 use Rattle.cread.proofs.Widths.{width_again}
-use Rattle.cread.proofs.Again.{Begun, Headed, Again, Inner, Operand, AllHeaded, AllBegun, two_of}
+use Rattle.cread.proofs.Again.{Headed, Again, AllHeaded, AllBegun, two_of}
 
 -- ---- what a shape says
 

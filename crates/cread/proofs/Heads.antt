@@ -1,5 +1,5 @@
 -- The declarations of callees, parameters and locals are read again.
-use Rattle.std.proofs.Common.{◌≡◌, ℕ, zero, suc, ◌+◌, ◌-◌, ◌*◌, ◌/◌, ◌%◌, ◌^◌, ◌<◌, ◌≤◌, Bool, true, false, cond, eqb, ltb, leb, ◌&&◌, List, [], ◌∷◌, ◌++◌, length, Option, Some, None, refl, sym, ap, ◌∙◌, subst, arith, append_assoc, lit<, lit≤, length-append, inl, inr}
+use Rattle.std.proofs.Common.{◌≡◌, ℕ, zero, suc, ◌+◌, ◌-◌, ◌*◌, ◌/◌, ◌%◌, ◌^◌, ◌<◌, ◌≤◌, Bool, true, false, eqb, leb, ◌&&◌, List, [], ◌∷◌, ◌++◌, length, Option, Some, None, refl, ap, ◌∙◌, subst, arith, append_assoc, length-append, inl, inr}
 use Rattle.std.specs.Prelude.{codes, map}
 use Rattle.std.specs.Char.{is_digit, digit_value}
 use Rattle.std.specs.Fmt.{decimal, digits, digits_onto, digit_glyph}
@@ -15,12 +15,11 @@ use Rattle.cmeaning.specs.declared.tree.Param.{Param}
 use Rattle.cmeaning.specs.Valid.{begins_well, all_letters_or_digits, is_long, is_storage, precedes_all, are_params, is_callee_name, result_fits, is_callee, is_apart_from, are_callees}
 use Rattle.ctext.specs.Names.{hex, type_text, unsigned_type, result_type, separated_or_void, further, param_name, local_name, callee_name}
 use Rattle.ctext.specs.Text.{width_types, returns_mark, callee_head, address_text, callee_line, callee_lines, param_text, local_lines}
-use Rattle.cread.specs.declared.item.Head.{Head}
-use Rattle.cread.specs.Words.{◌>>=◌, after, chosen, name_at, number_from, decimal_at, hex_at, put_first, many_by}
-use Rattle.cread.specs.Names.{width_by, type_at}
-use Rattle.cread.specs.Functions.{result_at, callee_name_at, marked_by, head_at, width_at, further_width, more_widths, widths_at, callee_at, callees_at, param_at, further_param, more_params, params_at, local_at, locals_at}
-use Rattle.cread.proofs.Fronts.{and_both, hex_again, decimal_again, name_again}
-use Rattle.cread.proofs.Naming.{IsEnd, at_close, at_comma, at_semi, stop_of, stop_decimal, entry_again}
+use Rattle.cread.specs.Words.{◌>>=◌, after, number_from, decimal_at, many_by}
+use Rattle.cread.specs.Names.{type_at}
+use Rattle.cread.specs.Functions.{result_at, callee_name_at, marked_by, no_return_mark, head_at, width_at, further_width, widths_at, callee_at, callees_at, param_at, further_param, params_at, local_at, locals_at}
+use Rattle.cread.proofs.Fronts.{and_both, hex_again, name_again}
+use Rattle.cread.proofs.Naming.{IsEnd, stop_of, stop_decimal, entry_again}
 use Rattle.cread.proofs.Widths.{type_again, width_again}
 use Rattle.cread.proofs.Rows.{AllOf, comma_first, comma_again}
 
@@ -63,14 +62,14 @@ marked_again returns gives name address rest good low =
     let two = name_read name address rest good low in
     rw (one, two) refl
 
-no_mark : (gives : Option Width) (rest : List ℕ) → after (codes "[[noreturn]] ") (result_type gives ++ rest) ≡ None
-unfolding after
+no_mark : (gives : Option Width) (rest : List ℕ) → after no_return_mark (result_type gives ++ rest) ≡ None
+unfolding after no_return_mark
 no_mark None rest = refl
 no_mark (Some w) rest = refl
 
 pub head_again : (returns : Bool) (gives : Option Width) (name : CName) (address : ℕ) (rest : List ℕ) → is_callee_name name ≡ true → address < 2 ^ 128
     → head_at (returns_mark returns ++ (result_type gives ++ 32 ∷ (callee_name name address ++ 40 ∷ rest))) ≡ Some (record { returns = returns; gives = gives; name = name }, rest)
-unfolding head_at after
+unfolding head_at after no_return_mark
 head_again true gives name address rest good low =
     let gap = no_mark gives (32 ∷ (callee_name name address ++ 40 ∷ rest)) in
     rw gap (marked_again true gives name address rest good low)

@@ -1,7 +1,7 @@
 -- The labels of a valid tree have numbers of 32 bits.
-use Rattle.std.proofs.Common.{◌≡◌, ℕ, zero, suc, ◌+◌, ◌-◌, ◌^◌, ◌<◌, ◌≤◌, Bool, true, false, cond, eqb, ltb, ◌&&◌, List, [], ◌∷◌, ◌++◌, Option, Some, None, refl, sym, ap, ◌∙◌, subst, arith, lit<, lit≤, inl, inr}
+use Rattle.std.proofs.Common.{◌≡◌, ℕ, suc, ◌+◌, ◌-◌, ◌^◌, ◌<◌, ◌≤◌, Bool, true, false, cond, eqb, ltb, ◌&&◌, List, [], ◌∷◌, ◌++◌, Option, Some, None, refl, sym, ap, ◌∙◌, subst, arith}
 use Rattle.std.specs.Prelude.{map}
-use Rattle.std.proofs.lemmas.Bool.{ltb-true, eqb-true, cases_Bool}
+use Rattle.std.proofs.lemmas.Bool.{ltb-true, eqb-true}
 use Rattle.cmeaning.specs.declared.numbering.Next.{Next}
 use Rattle.cmeaning.specs.declared.tree.CFunction.{CFunction}
 use Rattle.cmeaning.specs.declared.tree.CalleeDecl.{CalleeDecl}
@@ -11,12 +11,12 @@ use Rattle.cmeaning.specs.declared.tree.Arm.{Arm, fold_out-Arm, roll-Arm, map-Ar
 use Rattle.cmeaning.specs.declared.tree.Stmt.{Stmt, fold-roll-Stmt, roll-Stmt, map-Stmt}
 use Rattle.cmeaning.specs.declared.tree.Stmt.TheFolds.{ind-Stmt}
 use Rattle.cmeaning.specs.declared.tree.Stmt.TheOpen.{Stmt-F, Arm-F}
-use Rattle.cmeaning.specs.Mentions.{Mention, Variable, Callee, LabelLine, all, expr_step, in_expr, in_exprs, in_option, in_target, stmt_step, arm_step, in_stmt, in_arm, in_arms, in_body, place_of, met, met_once, with_variable, with_callee, with_label, mentioned, numbered}
+use Rattle.cmeaning.specs.Mentions.{Mention, Variable, Callee, LabelLine, expr_step, in_expr, in_exprs, in_option, in_target, stmt_step, arm_step, in_stmt, in_arm, in_arms, in_body, place_of, met, with_variable, with_callee, with_label, mentioned, numbered}
 use Rattle.cmeaning.specs.Shape.{shape_of, is_condition}
 use Rattle.cmeaning.specs.Do.{widths_in}
 use Rattle.cmeaning.specs.Valid.{Rule, Cased, rule_step, cased_step, rule_of, cased_of, all_hold, arms_hold, all_cases, are_cases_of}
 use Rattle.cread.proofs.Fronts.{and_both}
-use Rattle.cread.proofs.Switches.{ArmsRight, arms_right}
+use Rattle.cread.proofs.Switches.{arms_right}
 
 -- ---- mentions
 

@@ -1,12 +1,12 @@
 -- Each expression that has a shape is read again from its text.
-use Rattle.std.proofs.Common.{◌≡◌, ℕ, zero, suc, ◌+◌, ◌-◌, ◌*◌, ◌/◌, ◌%◌, ◌^◌, ◌<◌, ◌≤◌, min, max, Bool, true, false, cond, eqb, ltb, leb, ◌&&◌, List, [], ◌∷◌, ◌++◌, Option, Some, None, refl, sym, ap, ◌∙◌, subst, arith, append_assoc, lit<, lit≤}
+use Rattle.std.proofs.Common.{◌≡◌, ℕ, zero, suc, ◌+◌, ◌-◌, ◌*◌, ◌%◌, ◌^◌, ◌<◌, ◌≤◌, min, max, Bool, true, false, cond, ltb, leb, ◌&&◌, List, [], ◌∷◌, ◌++◌, Option, Some, None, refl, sym, ap, ◌∙◌, subst, arith, append_assoc, lit<, lit≤}
 use Rattle.std.specs.Prelude.{codes}
 use Rattle.std.specs.Fmt.{decimal}
-use Rattle.std.proofs.lemmas.Bool.{lt-ltb, le-ltb, ltb-true, leb-true, eqb-true}
+use Rattle.std.proofs.lemmas.Bool.{ltb-true, leb-true}
 use Rattle.bits_core.specs.declared.word.Width.{Width}
 use Rattle.bits_core.specs.declared.word.Word.{Word}
 use Rattle.cmeaning.specs.declared.shape.Shape.{Shape}
-use Rattle.cmeaning.specs.Shape.{leaf, above, one_shape, two_shape, variable_shape, same_width, may_divide, may_divide_signed, may_join, is_part, left_width, shape_step, shape_of}
+use Rattle.cmeaning.specs.Shape.{leaf, same_width, may_divide, may_divide_signed, may_join, is_part, left_width, shape_step, shape_of}
 use Rattle.cmeaning.specs.Valid.{are_params}
 use Rattle.cmeaning.specs.declared.tree.UnaryOp.{UnaryOp}
 use Rattle.cmeaning.specs.declared.tree.ArithmeticOp.{ArithmeticOp}
@@ -27,22 +27,22 @@ use Rattle.cmeaning.specs.declared.tree.CountOp.{CountOp}
 use Rattle.cmeaning.specs.declared.tree.Expr.{Expr, fold-roll-Expr, ind-Expr, roll-Expr, map-Expr}
 use Rattle.cmeaning.specs.declared.tree.Expr.TheOpen.{Expr-F}
 use Rattle.cmeaning.specs.declared.tree.Expr.TheVariants as e
-use Rattle.ctext.specs.Names.{Scope, Variable, variable, hex, type_text}
+use Rattle.ctext.specs.Names.{Scope, variable, hex, type_text}
 use Rattle.ctext.specs.Expressions.{Form, enclosed, cast, compound, simple, comparison, constant, suffix, variable_form, between, call_of_two, unary_sign, arithmetic_sign, division_sign, signed_division_sign, compare_sign, signed_compare_sign, shift_word, shift_sign, shift_by_sign, is_below, overflow_word, count_word, extend_text, part_text, form_step, form}
 use Rattle.cread.specs.declared.item.Item.{Item}
 use Rattle.cread.specs.declared.item.Sign.{Sign}
 use Rattle.cread.specs.declared.item.Sign.TheVariants as S
 use Rattle.cread.specs.declared.item.Pair.{Pair}
 use Rattle.cread.specs.declared.item.Pair.TheVariants as P
-use Rattle.cread.specs.Words.{◌>>=◌, after, chosen, or_else, hex_at}
-use Rattle.cread.specs.Names.{width_by, word_by, type_at}
-use Rattle.cread.specs.Expressions.{unary_at, pair_at, count_at, item, as_signed, resize, joined, paired, constant_by, cast_by, paren_by, part_by, inner_by, named_at, atom_by, operand_by, operand_at}
+use Rattle.cread.specs.Words.{after, or_else, hex_at}
+use Rattle.cread.specs.Names.{width_by, type_at}
+use Rattle.cread.specs.Expressions.{unary_at, pair_at, count_at, item, as_signed, joined, paired, constant_by, cast_by, paren_by, part_by, inner_by, named_at, atom_by, operand_by, operand_at}
 use Rattle.cread.specs.Statements.{right_at, division_at}
 use Rattle.cread.proofs.Fronts.{and_both, hex_again, decimal_again}
-use Rattle.cread.proofs.Naming.{IsStop, space, close, comma, semi, stop_digit, NameHead, of_local_name, of_model, of_entry, Named, variable_named, IsEnd, at_close, at_comma, stop_of}
+use Rattle.cread.proofs.Naming.{IsStop, space, close, comma, semi, stop_digit, NameHead, of_local_name, of_model, of_entry, Named, variable_named, at_comma, stop_of}
 use Rattle.cread.proofs.Widths.{type_again, width_again, word_again, word_small}
-use Rattle.cread.proofs.Again.{Begun, Headed, headed_paren, Sized, Again, Inner, Alone, Operand, AllHeaded, AllBegun, cast_of, resize_same, in_signed, in_cast, alone_of, simple_again, compound_again, comparison_again}
-use Rattle.cread.proofs.Forms.{Deep, OneShape, one_is, TwoShape, two_is, resize_zext, resize_sext, resize_part, unary_head, unary_read, IsSign, sign_arithmetic, sign_division, sign_left, sign_right, sign_compare, joined_read, joined_head, IsPairWord, word_shift, word_concat, word_overflow, pair_head, pair_read, count_head, count_read}
+use Rattle.cread.proofs.Again.{Headed, headed_paren, Sized, Again, Inner, Operand, AllHeaded, cast_of, resize_same, in_cast, alone_of, simple_again, compound_again, comparison_again}
+use Rattle.cread.proofs.Forms.{one_is, TwoShape, two_is, resize_zext, resize_sext, resize_part, unary_head, unary_read, IsSign, sign_arithmetic, sign_division, sign_left, sign_right, sign_compare, joined_read, joined_head, IsPairWord, word_shift, word_concat, word_overflow, pair_head, pair_read, count_head, count_read}
 
 -- ---- the laws of the layers
 

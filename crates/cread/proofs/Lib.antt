@@ -1,6 +1,7 @@
 pub mod Again
 pub mod Bodies
 pub mod Calls
+pub mod Dispatch
 pub mod Each
 pub mod Forms
 pub mod Fronts

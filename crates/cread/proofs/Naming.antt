@@ -1,23 +1,21 @@
 -- The names of variables and callees are read again.
-use Rattle.std.proofs.Common.{◌≡◌, ℕ, zero, suc, ◌+◌, ◌-◌, ◌*◌, ◌%◌, ◌^◌, ◌<◌, ◌≤◌, Bool, true, false, cond, eqb, ltb, leb, ◌&&◌, List, [], ◌∷◌, ◌++◌, length, Option, Some, None, refl, sym, ap, ◌∙◌, subst, arith, append_assoc, inl, inr}
+use Rattle.std.proofs.Common.{◌≡◌, ℕ, zero, suc, ◌+◌, ◌-◌, ◌%◌, ◌^◌, ◌<◌, ◌≤◌, Bool, true, false, cond, eqb, ltb, leb, ◌&&◌, List, [], ◌∷◌, ◌++◌, length, Option, Some, None, refl, sym, ap, ◌∙◌, arith, inl, inr}
 use Rattle.std.specs.Prelude.{codes, slice_get, ℤ, pos, negsuc, neg_ℤ, not}
 use Rattle.std.specs.Ordering.{int_eq}
 use Rattle.std.specs.Int.Signed.{lt_z, le_z}
 use Rattle.std.specs.Char.{is_digit}
-use Rattle.std.specs.Fmt.{decimal}
 use Rattle.std.proofs.lemmas.Bool.{lt-ltb, le-ltb, ltb-true, leb-true, le-leb, eqb-true, cases_Bool}
 use Rattle.std.proofs.lemmas.Bool.Decides.{Decides-int_eq}
-use Rattle.std.proofs.lemmas.Option.{slice_get_within, slice_get_cases}
-use Rattle.pcode_model.specs.Spaces.{or}
+use Rattle.std.proofs.lemmas.Option.{slice_get_cases}
 use Rattle.pcode_model.specs.declared.storage.ParamStorage.{ParamStorage}
 use Rattle.pcode_model.specs.declared.storage.ParamStorage.TheVariants.{Register, Unique, Stack}
 use Rattle.cmeaning.specs.declared.tree.Param.{Param}
 use Rattle.cmeaning.specs.declared.tree.Local.{Local}
-use Rattle.cmeaning.specs.Valid.{is_long, is_storage, is_before, is_either_before, may_precede, precedes_all, are_params}
-use Rattle.ctext.specs.Names.{hex, storage_text, param_name, local_name, Scope, Variable, variable, of_param_or_local, of_local}
+use Rattle.cmeaning.specs.Valid.{is_storage, is_before, is_either_before, may_precede, precedes_all, are_params}
+use Rattle.ctext.specs.Names.{storage_text, param_name, local_name, Scope, variable, of_param_or_local, of_local}
 use Rattle.cread.specs.declared.item.Entry.{Entry}
-use Rattle.cread.specs.Words.{◌>>=◌, after, chosen, decimal_at, hex_at}
-use Rattle.cread.specs.Names.{storage_at, entry_at, same_flag, same_storage, is_entry, place_of, small, variable_at}
+use Rattle.cread.specs.Words.{after}
+use Rattle.cread.specs.Names.{storage_at, entry_at, same_flag, same_storage, is_entry, place_of, variable_at}
 use Rattle.cread.proofs.Fronts.{and_both, hex_again, decimal_again, hex_begins}
 
 -- what may stand behind an operand, and behind a whole expression

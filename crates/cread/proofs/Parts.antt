@@ -1,36 +1,25 @@
 -- The parts of statements are read again: expressions, arguments, memory accesses and calls.
-use Rattle.std.proofs.Common.{◌≡◌, ℕ, zero, suc, ◌+◌, ◌-◌, ◌*◌, ◌/◌, ◌%◌, ◌^◌, ◌<◌, ◌≤◌, Bool, true, false, cond, eqb, ltb, leb, ◌&&◌, List, [], ◌∷◌, ◌++◌, length, Option, Some, None, refl, sym, ap, ◌∙◌, subst, arith, append_assoc, lit<, lit≤, length-append, inl, inr}
-use Rattle.std.specs.Prelude.{codes, not, map}
-use Rattle.std.specs.Fmt.{decimal}
-use Rattle.std.proofs.lemmas.Bool.{lt-ltb, ltb-true, eqb-true, cases_Bool}
+use Rattle.std.proofs.Common.{◌≡◌, ℕ, zero, suc, ◌+◌, ◌-◌, ◌<◌, ◌≤◌, Bool, true, false, ◌&&◌, List, [], ◌∷◌, ◌++◌, length, Option, Some, None, refl, sym, subst, arith, append_assoc, length-append}
+use Rattle.std.specs.Prelude.{codes}
 use Rattle.bits_core.specs.declared.word.Width.{Width}
 use Rattle.cmeaning.specs.declared.shape.Shape.{Shape}
 use Rattle.cmeaning.specs.Shape.{shape_of, is_right, has_width, is_condition}
-use Rattle.cmeaning.specs.Valid.{is_name, begins_well, all_letters_or_digits, is_long, is_space, are_right, have_widths, is_variable, is_target, is_callee, is_callee_name, result_fits, same_callee_name, are_apart, is_apart_from, are_callees, declared_in}
-use Rattle.cmeaning.specs.Do.{same_name}
-use Rattle.cmeaning.specs.declared.tree.CName.{CName}
-use Rattle.cmeaning.specs.declared.tree.CName.TheVariants.{Declared, Bare}
-use Rattle.cmeaning.specs.declared.tree.CalleeDecl.{CalleeDecl}
-use Rattle.cmeaning.specs.declared.tree.StatementDivision.{StatementDivision}
-use Rattle.cmeaning.specs.declared.tree.StatementDivision.TheVariants as D
+use Rattle.cmeaning.specs.Valid.{are_right, have_widths, is_variable, is_target}
 use Rattle.cmeaning.specs.declared.tree.Expr.{Expr}
 use Rattle.cmeaning.specs.declared.tree.Stmt.{Stmt}
 use Rattle.cmeaning.specs.declared.tree.Stmt.TheVariants as s
-use Rattle.ctext.specs.Names.{Scope, Variable, variable, hex, unsigned_type, separated, further, callee_name, callee_at, name_at as name_of}
-use Rattle.ctext.specs.Expressions.{Form, form, call_of_two}
-use Rattle.ctext.specs.Statements.{loop_head, access_text, plain_texts, division_word, target_text, target_width}
-use Rattle.cread.specs.declared.item.Access.{Access}
+use Rattle.ctext.specs.Names.{Scope, variable, separated, further}
+use Rattle.ctext.specs.Expressions.{form}
+use Rattle.ctext.specs.Statements.{loop_head, plain_texts, target_text}
 use Rattle.cread.specs.declared.item.Right.{Right}
-use Rattle.cread.specs.declared.item.Right.TheVariants as R
-use Rattle.cread.specs.Words.{◌>>=◌, after, chosen, run_of, past_spaces, name_at, decimal_at, hex_at, put_first, many_by}
-use Rattle.cread.specs.Names.{type_at, variable_at}
+use Rattle.cread.specs.Words.{◌>>=◌, after, run_of, past_spaces, many_by}
+use Rattle.cread.specs.Names.{type_at}
 use Rattle.cread.specs.Expressions.{item, as_signed, inner_by, operand_at, expr_at}
-use Rattle.cread.specs.declared.item.Item.{Item}
-use Rattle.cread.specs.Statements.{line_at, plain_line_at, right_at, division_at, further_item, further_at, args_at, access_of, pointed_at, memory_at, named_call, bare_call, indirect_call, other_call, extra_at, divide_at, loaded, right_by, effect_at, target_at, not_own, statement_by, statement_at, value_at}
-use Rattle.cread.proofs.Fronts.{and_both, after_front, hex_again, decimal_again, name_again}
-use Rattle.cread.proofs.Naming.{IsStop, space, NameHead, of_local_name, of_model, of_entry, Named, IsEnd, at_close, at_comma, at_semi, stop_of}
-use Rattle.cread.proofs.Again.{Begun, Headed, Again, AllBegun, inner_of}
-use Rattle.cread.proofs.Law.{Context, Numbered, number_is, named_by, reads, name_headed}
+use Rattle.cread.specs.Statements.{line_at, plain_line_at, right_at, further_item, further_at, args_at, right_by, effect_at, target_at, not_own, statement_by, statement_at, value_at}
+use Rattle.cread.proofs.Fronts.{and_both}
+use Rattle.cread.proofs.Naming.{space, NameHead, of_local_name, of_model, of_entry, Named, IsEnd, at_close, at_comma, at_semi, stop_of}
+use Rattle.cread.proofs.Again.{AllBegun, inner_of}
+use Rattle.cread.proofs.Law.{Context, number_is, named_by, reads, name_headed}
 
 -- ---- expressions
 

@@ -3,7 +3,7 @@ use Rattle.std.proofs.Common.{◌≡◌, ℕ, zero, suc, ◌+◌, ◌-◌, ◌<�
 use Rattle.std.proofs.lemmas.List.{append-nil}
 use Rattle.std.specs.Prelude.{codes, map}
 use Rattle.ctext.specs.Names.{further}
-use Rattle.cread.specs.Words.{◌>>=◌, after, chosen, put_first, behind, many_by}
+use Rattle.cread.specs.Words.{◌>>=◌, after, put_first, behind, many_by}
 use Rattle.cread.proofs.Naming.{IsEnd, at_close, at_comma}
 
 -- ---- what the loops do

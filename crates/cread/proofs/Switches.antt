@@ -1,6 +1,6 @@
 -- Switches are read again, where the statements inside them are.
-use Rattle.std.proofs.Common.{◌≡◌, ℕ, zero, suc, ◌+◌, ◌-◌, ◌*◌, ◌/◌, ◌%◌, ◌^◌, ◌<◌, ◌≤◌, Bool, true, false, cond, eqb, ltb, leb, ◌&&◌, List, [], ◌∷◌, ◌++◌, length, Option, Some, None, refl, sym, ap, ◌∙◌, subst, arith, append_assoc, lit<, lit≤, length-append}
-use Rattle.std.specs.Prelude.{codes, not, map}
+use Rattle.std.proofs.Common.{◌≡◌, ℕ, zero, suc, ◌+◌, ◌-◌, ◌^◌, ◌<◌, ◌≤◌, Bool, true, false, ltb, ◌&&◌, List, [], ◌∷◌, ◌++◌, length, Some, None, refl, sym, ap, ◌∙◌, subst, arith, append_assoc, length-append}
+use Rattle.std.specs.Prelude.{codes, map}
 use Rattle.std.proofs.lemmas.Bool.{ltb-true}
 use Rattle.bits_core.specs.Value.{limit}
 use Rattle.bits_core.proofs.Machine.{limit_most}
@@ -12,14 +12,14 @@ use Rattle.cmeaning.specs.declared.tree.Stmt.TheVariants as s
 use Rattle.cmeaning.specs.Valid.{Rule, Cased, rule_step, cased_step, rule_of, cased_of, all_hold, has_case, arms_hold, all_cases, are_words}
 use Rattle.ctext.specs.Names.{Scope, scope_of, hex}
 use Rattle.ctext.specs.Expressions.{form}
-use Rattle.ctext.specs.Statements.{Lines, lines, deeper, all_lines, last_leaves, case_lines, break_line, body_text, body_leaves, arm_text, all_arms, loop_head}
+use Rattle.ctext.specs.Statements.{lines, deeper, all_lines, last_leaves, case_lines, break_line, body_text, body_leaves, arm_text, all_arms, loop_head}
 use Rattle.ctext.proofs.Nested.{arm_lines}
-use Rattle.cread.specs.Words.{◌>>=◌, after, chosen, or_else, run_of, past_spaces, number_from, decimal_at, hex_at, put_first, many_by}
+use Rattle.cread.specs.Words.{after, run_of, past_spaces, number_from, decimal_at, many_by}
 use Rattle.cread.specs.Names.{type_at}
-use Rattle.cread.specs.Statements.{line_at, plain_line_at, spaced_by, body_by, case_at, further_cases, cases_at, past_break, arm_of, arm_by, arms_by, switch_by, line_by, statement_by, statement_at}
-use Rattle.cread.proofs.Fronts.{and_both, hex_again, AllSpaces, spaces_again, no_spaces}
+use Rattle.cread.specs.Statements.{line_at, plain_line_at, spaced_by, case_at, cases_at, past_break, arm_by, switch_by, line_by, statement_by, statement_at}
+use Rattle.cread.proofs.Fronts.{and_both, hex_again, AllSpaces, spaces_again}
 use Rattle.cread.proofs.Parts.{Written, LineAt}
-use Rattle.cread.proofs.Bodies.{LineOk, AllOk, First, first_ok, past_pad, brace_ends, case_ends, break_ends, body_again, deeper_spaces, head_again, worded}
+use Rattle.cread.proofs.Bodies.{AllOk, first_ok, past_pad, brace_ends, case_ends, break_ends, body_again, deeper_spaces, head_again, worded}
 
 abbrev texts : CFunction → List Stmt → List ℕ → List ℕ
 texts f xs d = all_lines (map (lines (scope_of f)) xs) d

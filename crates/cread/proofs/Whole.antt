@@ -1,30 +1,26 @@
 -- A valid tree is read again from its text, so each text has one tree.
-use Rattle.std.proofs.Common.{◌≡◌, ℕ, zero, suc, ◌+◌, ◌-◌, ◌*◌, ◌^◌, ◌<◌, ◌≤◌, Bool, true, false, ◌&&◌, List, [], ◌∷◌, ◌++◌, length, Option, Some, None, Result, Ok, Err, refl, sym, ap, ◌∙◌, subst, arith, append_assoc, lit<, lit≤}
+use Rattle.std.proofs.Common.{◌≡◌, ℕ, ◌+◌, ◌-◌, ◌<◌, Bool, true, false, List, [], ◌∷◌, ◌++◌, length, Option, Some, None, Err, refl, sym, ap, ◌∙◌, arith, append_assoc, lit<}
 use Rattle.std.specs.Prelude.{codes, map, IsTrue, slice_get}
 use Rattle.bits_core.specs.declared.word.Width.{Width}
-use Rattle.cmeaning.specs.declared.numbering.Next.{Next}
 use Rattle.cmeaning.specs.declared.tree.CFunction.{CFunction}
 use Rattle.cmeaning.specs.declared.tree.CName.TheVariants.{Declared}
-use Rattle.cmeaning.specs.declared.tree.CalleeDecl.{CalleeDecl}
 use Rattle.cmeaning.specs.declared.tree.Local.{Local}
 use Rattle.cmeaning.specs.declared.tree.Param.{Param}
 use Rattle.cmeaning.specs.declared.tree.Stmt.{Stmt}
-use Rattle.cmeaning.specs.Do.{widths_in, variable_width, local_width}
-use Rattle.cmeaning.specs.Mentions.{in_body, numbered}
-use Rattle.cmeaning.specs.Valid.{is_name, are_params, are_callees, rule_of, all_hold, is_body, first_next, IsValid}
-use Rattle.ctext.specs.Names.{Scope, scope_of, Variable, variable, of_param_or_local, of_local, result_type, separated_or_void}
+use Rattle.cmeaning.specs.Do.{widths_in, variable_width}
+use Rattle.cmeaning.specs.Mentions.{in_body}
+use Rattle.cmeaning.specs.Valid.{is_name, are_params, are_callees, is_body, first_next, IsValid}
+use Rattle.ctext.specs.Names.{scope_of, variable, of_param_or_local, of_local, result_type, separated_or_void}
 use Rattle.ctext.specs.Statements.{lines, all_lines, body_text}
-use Rattle.ctext.specs.Text.{callee_lines, function_line, param_text, local_lines, text_of}
+use Rattle.ctext.specs.Text.{callee_lines, param_text, local_lines, text_of}
 use Rattle.cread.specs.declared.item.CFault.{CFault}
 use Rattle.cread.specs.declared.item.CFault.TheVariants as fault
 use Rattle.cread.specs.declared.item.Head.{Head}
 use Rattle.cread.specs.Answer.{IsAnswered}
-use Rattle.cread.specs.Words.{◌>>=◌, Fails, Gives, after, chosen, decimal_at, hex_at, many_by}
+use Rattle.cread.specs.Words.{◌>>=◌, Fails, after, decimal_at, hex_at}
 use Rattle.cread.specs.Names.{type_at}
-use Rattle.cread.specs.Statements.{body_by, spaced_by, statement_at}
-use Rattle.cread.specs.Functions.{callee_of, callee_at, callees_at, widths_at, head_at, params_at, local_by, local_at, locals_at, declared_name, frame_of, frame_by, frame_at, with_body, function_at}
-use Rattle.cread.proofs.Law.{Context}
-use Rattle.cread.proofs.Bodies.{Setting, AllOk, First, first_ok, brace_ends, body_again}
+use Rattle.cread.specs.Functions.{callee_of, callee_at, widths_at, head_at, local_by, local_at, frame_at, function_at}
+use Rattle.cread.proofs.Bodies.{Setting, AllOk, first_ok, brace_ends, body_again}
 use Rattle.cread.proofs.Each.{lines_ok}
 use Rattle.cread.proofs.Heads.{head_again, params_again, params_no_widths, callees_again, locals_again}
 use Rattle.cread.proofs.Labels.{low_body, label_bound}
@@ -151,3 +147,7 @@ read_is f g bytes valid is read = inside_some g f (sym read ∙ ap function_at i
 pub not_failed : (e : CFault) (f : CFunction) (bytes : List ℕ) → IsValid f → bytes ≡ text_of f → Fails e (function_at bytes) → IsAnswered f (Err e)
 not_failed fault.Memory f bytes valid is h = tt
 not_failed fault.NotC f bytes valid is h = absurd (let never : None ≡ Some f = sym h ∙ ap function_at is ∙ taken f valid in cc)
+
+pub not_true : (b : Bool) → b ≡ false → IsTrue b → ⊥
+not_true true f h = absurd cc
+not_true false f h = absurd (let e : false ≡ true = h in cc)

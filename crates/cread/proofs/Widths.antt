@@ -1,5 +1,5 @@
 -- Widths and words that are made from their numbers.
-use Rattle.std.proofs.Common.{◌≡◌, ℕ, ◌+◌, ◌*◌, ◌/◌, ◌%◌, ◌^◌, ◌<◌, ◌≤◌, Bool, true, false, eqb, ltb, List, ◌∷◌, ◌++◌, Option, Some, refl, sym, ap, ◌∙◌, subst, arith, append_assoc}
+use Rattle.std.proofs.Common.{◌≡◌, ℕ, ◌+◌, ◌*◌, ◌/◌, ◌%◌, ◌^◌, ◌<◌, ◌≤◌, Bool, true, false, List, ◌∷◌, ◌++◌, Some, refl, ap, ◌∙◌, subst, arith}
 use Rattle.std.proofs.lemmas.Nat.{mod-mul-add}
 use Rattle.std.specs.Char.{is_digit}
 use Rattle.std.specs.Coded.{le_prop}
@@ -7,9 +7,8 @@ use Rattle.bits_core.specs.Value.{limit}
 use Rattle.bits_core.specs.declared.word.Width.{Width}
 use Rattle.bits_core.specs.declared.word.Word.{Word}
 use Rattle.bits_core.proofs.Machine.{limit_most}
-use Rattle.cmeaning.specs.declared.tree.Local.{Local}
 use Rattle.ctext.specs.Names.{type_text}
-use Rattle.cread.specs.Names.{nearest, width_by, word_by, typed, type_at}
+use Rattle.cread.specs.Names.{width_by, word_by, type_at}
 use Rattle.cread.specs.Words.{after}
 use Rattle.cread.proofs.Fronts.{decimal_again}
 

@@ -35,9 +35,13 @@ callee_name_at bytes =
 abbrev pub marked_by : Bool → List ℕ → Option (Head × List ℕ)
 marked_by returns bytes = result_at bytes >>= λ w. after (codes " ") w.1 >>= λ r. callee_name_at r >>= λ n. after (codes "(") n.1 >>= λ rest. Some (record { returns = returns; gives = w.0; name = n.0 }, rest)
 
+-- what the declaration of a callee that never returns begins with
+unfoldable pub no_return_mark : List ℕ
+no_return_mark = codes "[[noreturn]] "
+
 -- up to the parenthesis
 unfoldable pub head_at : List ℕ → Option (Head × List ℕ)
-head_at bytes = chosen (after (codes "[[noreturn]] ") bytes) (marked_by false) (marked_by true bytes)
+head_at bytes = chosen (after no_return_mark bytes) (marked_by false) (marked_by true bytes)
 
 -- ---- callees
 

@@ -2,7 +2,7 @@
 
 ghost use Rattle.std.specs.Prelude.{◌≡◌, Some};
 ghost use Rattle.cread.specs.Words.{Gives, behind};
-ghost use Rattle.cread.specs.Functions.{result_at, callee_name_at, marked_by, head_at, width_at, further_width, more_widths, widths_at, callee_at, callees_at, param_at, further_param, more_params, params_at, local_at, locals_at, declared_name, frame_at, with_body, function_at};
+ghost use Rattle.cread.specs.Functions.{result_at, callee_name_at, marked_by, no_return_mark, head_at, width_at, further_width, more_widths, widths_at, callee_at, callees_at, param_at, further_param, more_params, params_at, local_at, locals_at, declared_name, frame_at, with_body, function_at};
 
 use crate::item::{CFault, Head};
 use crate::names::{entry, long, type_of};
@@ -61,12 +61,20 @@ fn marked(alloc: Global, returns: bool, bytes: &[u8]) -> Result<(Head, &[u8]), C
     ))
 }
 
+/// What the declaration of a callee that never returns begins with.
+#[tactic(auto, unfolding(crate::specs::Functions::no_return_mark))]
+fn mark() -> &'static [u8]
+    ensures { result.now ≡ no_return_mark }
+{
+    b"[[noreturn]] "
+}
+
 /// Up to the parenthesis.
 #[tactic(auto, unfolding(crate::specs::Functions::head_at))]
 fn head(alloc: Global, bytes: &[u8]) -> Result<(Head, &[u8]), CFault>
     ensures { Gives (λ x. (x.0, x.1.now)) result (head_at bytes.now) }
 {
-    match skip(b"[[noreturn]] ", bytes) {
+    match skip(mark(), bytes) {
         Some(rest) => marked(alloc, false, rest),
         None => marked(alloc, true, bytes),
     }

@@ -1,0 +1,25 @@
+use Rattle.std.proofs.Common.{sym, ap, ◌∙◌, subst}
+use Rattle.std.proofs.lemmas.Result.{err_from_is_err_and}
+use Rattle.cmeaning.specs.Valid.{IsValid}
+use Rattle.ctext.specs.Text.{text_of}
+use Rattle.cread.proofs.Whole.{not_failed, not_true, read_is}
+use Rattle.cread.proofs.read.read_c.Goals as goal
+
+pub returns-in_err-f-clause-only : goal.returns-in_err-f-clause-only
+returns-in_err-f-clause-only c = λ f tree.
+    let p = err_from_is_err_and c.from_residual.result c.from_residual.ensures.1 in
+    let g = not_failed c.in_err-f.field-0.0 f c.args.bytes.now tree.valid tree.text (c.in_err-f.ensures {u = tt}) in
+    rw (p.1, p.2) g
+
+pub returns-then-not-valid-clause-only : goal.returns-then-not-valid-clause-only
+returns-then-not-valid-clause-only c = λ f tree.
+    let same = read_is f c.in_ok-f.f c.args.bytes.now tree.valid tree.text (c.in_ok-f.ensures {u = tt}) in
+    absurd (not_true c.valid.result c.if-not-valid.true (c.valid.ensures.1 (subst IsValid (sym same) tree.valid)))
+
+pub returns-then-not-same-clause-only : goal.returns-then-not-same-clause-only
+returns-then-not-same-clause-only c = λ f tree.
+    let same = read_is f c.in_ok-f.f c.args.bytes.now tree.valid tree.text (c.in_ok-f.ensures {u = tt}) in
+    absurd (not_true c.in_ok-same.same c.if-not-same.true ((c.in_ok-same.ensures {u = tt}).1 (tree.text ∙ ap text_of (sym same))))
+
+pub returns-clause-only : goal.returns-clause-only
+returns-clause-only c = λ f tree. read_is f c.in_ok-f.f c.args.bytes.now tree.valid tree.text (c.in_ok-f.ensures {u = tt})
