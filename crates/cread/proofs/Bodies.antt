@@ -17,7 +17,6 @@ use Rattle.cread.specs.Expressions.{expr_at}
 use Rattle.cread.specs.Statements.{line_at, plain_line_at, right_at, division_at, effect_at, target_at, not_own, spaced_by, body_by, closed_by, head_at, if_by, while_by, loop_by, do_by, line_by, statement_by, statement_at}
 use Rattle.cread.proofs.Naming.{IsEnd, at_close}
 use Rattle.cread.proofs.Fronts.{and_both, AllSpaces, spaces_again, no_spaces}
-
 use Rattle.cread.proofs.Law.{Context}
 use Rattle.cread.proofs.Parts.{Written, Starts, own_of, LineAt}
 
@@ -172,12 +171,12 @@ if_line f labels e xs w all in_loop room d sd h =
     let body = texts f xs (deeper d) in
     worded sc (suc room) in_loop (s.If e xs) (codes "if (" ++ (test ++ (codes ") {\n" ++ (body ++ (d ++ codes "}\n")))))
     (λ rest.
-        let last = d ++ 125 ∷ 10 ∷ rest in
-        let grouped : (test ++ (codes ") {\n" ++ (body ++ (d ++ codes "}\n")))) ++ rest ≡ test ++ 41 ∷ 32 ∷ 123 ∷ 10 ∷ (body ++ last) = simp append_assoc in
-        let head = head_again sc e test (body ++ last) w.test in
-        let inner = inner_again f labels xs all in_loop room d (10 ∷ rest) sd h in
-        let p = past_pad d 125 (10 ∷ rest) sd refl in
-        rw (grouped, head, inner, p) refl)
+    let last = d ++ 125 ∷ 10 ∷ rest in
+    let grouped : (test ++ (codes ") {\n" ++ (body ++ (d ++ codes "}\n")))) ++ rest ≡ test ++ 41 ∷ 32 ∷ 123 ∷ 10 ∷ (body ++ last) = simp append_assoc in
+    let head = head_again sc e test (body ++ last) w.test in
+    let inner = inner_again f labels xs all in_loop room d (10 ∷ rest) sd h in
+    let p = past_pad d 125 (10 ∷ rest) sd refl in
+    rw (grouped, head, inner, p) refl)
     (λ z. record { no_space = refl; not_case = refl; not_local = refl }) (λ z. refl) (omega arith)
 
 pub else_line : (f : CFunction) (labels : ℕ) (e : Expr) (xs ys : List Stmt) → Written (scope_of f) e → AllOk f labels xs → AllOk f labels ys → (in_loop : Bool) (room : ℕ) (d : List ℕ) → AllSpaces d → Holds f labels false xs in_loop room → Holds f labels false ys in_loop room
@@ -190,14 +189,14 @@ else_line f labels e xs ys w all also in_loop room d sd h g =
     let other = texts f ys (deeper d) in
     worded sc (suc room) in_loop (s.IfElse e xs ys) (codes "if (" ++ (test ++ (codes ") {\n" ++ (body ++ (d ++ (codes "} else {\n" ++ (other ++ (d ++ codes "}\n"))))))))
     (λ rest.
-        let last = other ++ (d ++ 125 ∷ 10 ∷ rest) in
-        let mid = codes " else {\n" ++ last in
-        let grouped : (test ++ (codes ") {\n" ++ (body ++ (d ++ (codes "} else {\n" ++ (other ++ (d ++ codes "}\n"))))))) ++ rest ≡ test ++ 41 ∷ 32 ∷ 123 ∷ 10 ∷ (body ++ (d ++ 125 ∷ mid)) = simp append_assoc in
-        let head = head_again sc e test (body ++ (d ++ 125 ∷ mid)) w.test in
-        let inner = inner_again f labels xs all in_loop room d mid sd h in
-        let p = past_pad d 125 mid sd refl in
-        let second = closed_again f labels ys also in_loop room d rest sd g in
-        rw (grouped, head, inner, p, second) refl)
+    let last = other ++ (d ++ 125 ∷ 10 ∷ rest) in
+    let mid = codes " else {\n" ++ last in
+    let grouped : (test ++ (codes ") {\n" ++ (body ++ (d ++ (codes "} else {\n" ++ (other ++ (d ++ codes "}\n"))))))) ++ rest ≡ test ++ 41 ∷ 32 ∷ 123 ∷ 10 ∷ (body ++ (d ++ 125 ∷ mid)) = simp append_assoc in
+    let head = head_again sc e test (body ++ (d ++ 125 ∷ mid)) w.test in
+    let inner = inner_again f labels xs all in_loop room d mid sd h in
+    let p = past_pad d 125 mid sd refl in
+    let second = closed_again f labels ys also in_loop room d rest sd g in
+    rw (grouped, head, inner, p, second) refl)
     (λ z. record { no_space = refl; not_case = refl; not_local = refl }) (λ z. refl) (omega arith)
 
 pub while_line : (f : CFunction) (labels : ℕ) (e : Expr) (xs : List Stmt) → Written (scope_of f) e → AllOk f labels xs → (in_loop : Bool) (room : ℕ) (d : List ℕ) → AllSpaces d → Holds f labels false xs true room
@@ -209,12 +208,12 @@ while_line f labels e xs w all in_loop room d sd h =
     let body = texts f xs (deeper d) in
     worded sc (suc room) in_loop (s.While e xs) (codes "while (" ++ (test ++ (codes ") {\n" ++ (body ++ (d ++ codes "}\n")))))
     (λ rest.
-        let last = d ++ 125 ∷ 10 ∷ rest in
-        let grouped : (test ++ (codes ") {\n" ++ (body ++ (d ++ codes "}\n")))) ++ rest ≡ test ++ 41 ∷ 32 ∷ 123 ∷ 10 ∷ (body ++ last) = simp append_assoc in
-        let endless = (w.test_head (41 ∷ 32 ∷ 123 ∷ 10 ∷ (body ++ last))).not_endless in
-        let head = head_again sc e test (body ++ last) w.test in
-        let second = closed_again f labels xs all true room d rest sd h in
-        rw (grouped, endless, head, second) refl)
+    let last = d ++ 125 ∷ 10 ∷ rest in
+    let grouped : (test ++ (codes ") {\n" ++ (body ++ (d ++ codes "}\n")))) ++ rest ≡ test ++ 41 ∷ 32 ∷ 123 ∷ 10 ∷ (body ++ last) = simp append_assoc in
+    let endless = (w.test_head (41 ∷ 32 ∷ 123 ∷ 10 ∷ (body ++ last))).not_endless in
+    let head = head_again sc e test (body ++ last) w.test in
+    let second = closed_again f labels xs all true room d rest sd h in
+    rw (grouped, endless, head, second) refl)
     (λ z. record { no_space = refl; not_case = refl; not_local = refl }) (λ z. refl) (omega arith)
 
 pub loop_line : (f : CFunction) (labels : ℕ) (xs : List Stmt) → AllOk f labels xs → (in_loop : Bool) (room : ℕ) (d : List ℕ) → AllSpaces d → Holds f labels false xs true room
@@ -225,9 +224,9 @@ loop_line f labels xs all in_loop room d sd h =
     let body = texts f xs (deeper d) in
     worded sc (suc room) in_loop (s.Loop xs) (loop_head ++ (body ++ (d ++ codes "}\n")))
     (λ rest.
-        let grouped : (body ++ (d ++ codes "}\n")) ++ rest ≡ body ++ (d ++ 125 ∷ 10 ∷ rest) = simp append_assoc in
-        let second = closed_again f labels xs all true room d rest sd h in
-        rw (grouped, second) refl)
+    let grouped : (body ++ (d ++ codes "}\n")) ++ rest ≡ body ++ (d ++ 125 ∷ 10 ∷ rest) = simp append_assoc in
+    let second = closed_again f labels xs all true room d rest sd h in
+    rw (grouped, second) refl)
     (λ z. record { no_space = refl; not_case = refl; not_local = refl }) (λ z. refl) (omega arith)
 
 pub do_line : (f : CFunction) (labels : ℕ) (xs : List Stmt) (e : Expr) → AllOk f labels xs → Written (scope_of f) e → (in_loop : Bool) (room : ℕ) (d : List ℕ) → AllSpaces d → Holds f labels false xs true room
@@ -239,10 +238,10 @@ do_line f labels xs e all w in_loop room d sd h =
     let body = texts f xs (deeper d) in
     worded sc (suc room) in_loop (s.DoWhile xs e) (codes "do {\n" ++ (body ++ (d ++ (codes "} while (" ++ (test ++ codes ");\n")))))
     (λ rest.
-        let last = codes " while (" ++ (test ++ 41 ∷ 59 ∷ 10 ∷ rest) in
-        let grouped : (body ++ (d ++ (codes "} while (" ++ (test ++ codes ");\n")))) ++ rest ≡ body ++ (d ++ 125 ∷ last) = simp append_assoc in
-        let inner = inner_again f labels xs all true room d last sd h in
-        let p = past_pad d 125 last sd refl in
-        let condition = w.test 41 (59 ∷ 10 ∷ rest) at_close in
-        rw (grouped, inner, p, condition) refl)
+    let last = codes " while (" ++ (test ++ 41 ∷ 59 ∷ 10 ∷ rest) in
+    let grouped : (body ++ (d ++ (codes "} while (" ++ (test ++ codes ");\n")))) ++ rest ≡ body ++ (d ++ 125 ∷ last) = simp append_assoc in
+    let inner = inner_again f labels xs all true room d last sd h in
+    let p = past_pad d 125 last sd refl in
+    let condition = w.test 41 (59 ∷ 10 ∷ rest) at_close in
+    rw (grouped, inner, p, condition) refl)
     (λ z. record { no_space = refl; not_case = refl; not_local = refl }) (λ z. refl) (omega arith)

@@ -22,7 +22,6 @@ use Rattle.cread.specs.Names.{type_at, is_whole, is_named, address_of}
 use Rattle.cread.specs.Statements.{line_at, plain_line_at, right_at, division_at, access_of, pointed_at, memory_at, with_args, named_call, bare_call, indirect_call, other_call, extra_at, divide_at, loaded, right_by}
 use Rattle.cread.proofs.Naming.{at_close, at_comma}
 use Rattle.cread.proofs.Fronts.{and_both, hex_again, decimal_again, name_again}
-
 use Rattle.cread.proofs.Parts.{Written, value_again, AllWritten, before_others, further_again, args_again, Plainly, RightText}
 
 -- ---- memory

@@ -41,10 +41,10 @@ unfolding statement_at statement_by line_at plain_line_at loop_head line_by afte
 label_line sc k n loop small =
     worded sc (suc n) loop (s.Label k) (codes "L" ++ (decimal k ++ codes ":\n"))
     (λ rest.
-        let grouped : (decimal k ++ codes ":\n") ++ rest ≡ decimal k ++ 58 ∷ 10 ∷ rest = append_assoc (decimal k) (codes ":\n") rest in
-        let d = decimal_again k 58 (10 ∷ rest) (omega arith) refl in
-        let same : k % 2 ^ 32 ≡ k = omega arith in
-        rw (grouped, d, same) refl)
+    let grouped : (decimal k ++ codes ":\n") ++ rest ≡ decimal k ++ 58 ∷ 10 ∷ rest = append_assoc (decimal k) (codes ":\n") rest in
+    let d = decimal_again k 58 (10 ∷ rest) (omega arith) refl in
+    let same : k % 2 ^ 32 ≡ k = omega arith in
+    rw (grouped, d, same) refl)
     (λ z. record { no_space = refl; not_case = refl; not_local = refl }) (λ z. refl) (omega arith)
 
 goto_line : (sc : Scope) (k n : ℕ) (loop : Bool) → k < 2 ^ 32 → LineAt sc (suc n) loop (s.Goto k) (codes "goto L" ++ (decimal k ++ codes ";\n"))
@@ -52,10 +52,10 @@ unfolding statement_at statement_by line_at plain_line_at loop_head line_by afte
 goto_line sc k n loop small =
     worded sc (suc n) loop (s.Goto k) (codes "goto L" ++ (decimal k ++ codes ";\n"))
     (λ rest.
-        let grouped : (decimal k ++ codes ";\n") ++ rest ≡ decimal k ++ 59 ∷ 10 ∷ rest = append_assoc (decimal k) (codes ";\n") rest in
-        let d = decimal_again k 59 (10 ∷ rest) (omega arith) refl in
-        let same : k % 2 ^ 32 ≡ k = omega arith in
-        rw (grouped, d, same) refl)
+    let grouped : (decimal k ++ codes ";\n") ++ rest ≡ decimal k ++ 59 ∷ 10 ∷ rest = append_assoc (decimal k) (codes ";\n") rest in
+    let d = decimal_again k 59 (10 ∷ rest) (omega arith) refl in
+    let same : k % 2 ^ 32 ≡ k = omega arith in
+    rw (grouped, d, same) refl)
     (λ z. record { no_space = refl; not_case = refl; not_local = refl }) (λ z. refl) (omega arith)
 
 return_line : (sc : Scope) (n : ℕ) (loop : Bool) → LineAt sc (suc n) loop (s.Return None) (codes "return;\n")
@@ -67,9 +67,9 @@ unfolding statement_at statement_by line_at plain_line_at loop_head line_by afte
 give_line sc e n loop w =
     worded sc (suc n) loop (s.Return (Some e)) (codes "return " ++ ((form sc e).plain ++ codes ";\n"))
     (λ rest.
-        let grouped : ((form sc e).plain ++ codes ";\n") ++ rest ≡ (form sc e).plain ++ (codes ";\n" ++ rest) = append_assoc (form sc e).plain (codes ";\n") rest in
-        let v = value_again sc e (form sc e).plain rest w.plain in
-        rw (grouped, v) refl)
+    let grouped : ((form sc e).plain ++ codes ";\n") ++ rest ≡ (form sc e).plain ++ (codes ";\n" ++ rest) = append_assoc (form sc e).plain (codes ";\n") rest in
+    let v = value_again sc e (form sc e).plain rest w.plain in
+    rw (grouped, v) refl)
     (λ z. record { no_space = refl; not_case = refl; not_local = refl }) (λ z. refl) (omega arith)
 
 only_outside : (arm : Bool) (z : List ℕ) → (arm && true) ≡ false → not_own arm (codes "break;\n" ++ z) ≡ true
@@ -139,8 +139,8 @@ assign_case f labels k v e =
     (ap (lines sc) (sym (s.rolls-Assign v e)) ∙ fold-roll-Stmt Lines Texts (lines_step sc) arm_step (Stmt-F.Assign v e))
     (ap (rule_of f labels) (sym (s.rolls-Assign v e)) ∙ fold-roll-Stmt Rule Cased (rule_step f labels) cased_step (Stmt-F.Assign v e))
     (λ after_call in_loop room d sd h.
-        let both = and_both (is_variable ws v) (has_width (ws v) (shape_of ws e)) h in
-        assign_line sc v e room in_loop (variable_is_named sc ws v k.context both.0) (written_width sc ws k.context (ws v) e both.1))
+    let both = and_both (is_variable ws v) (has_width (ws v) (shape_of ws e)) h in
+    assign_line sc v e room in_loop (variable_is_named sc ws v k.context both.0) (written_width sc ws k.context (ws v) e both.1))
 
 load_case : (f : CFunction) (labels : ℕ) → Setting f labels → (v : ℕ) (name : Option (List ℕ)) (a : Expr) → LineOk f labels (s.Load v name a)
 unfolding lines rule_of
@@ -151,10 +151,10 @@ load_case f labels k v name a =
     (ap (lines sc) (sym (s.rolls-Load v name a)) ∙ fold-roll-Stmt Lines Texts (lines_step sc) arm_step (Stmt-F.Load v name a))
     (ap (rule_of f labels) (sym (s.rolls-Load v name a)) ∙ fold-roll-Stmt Rule Cased (rule_step f labels) cased_step (Stmt-F.Load v name a))
     (λ after_call in_loop room d sd h.
-        let three = and_both (is_variable ws v) (is_space name && is_right (shape_of ws a)) h in
-        let two = and_both (is_space name) (is_right (shape_of ws a)) three.1 in
-        targeted sc room in_loop v (s.Load v name a) _ (variable_is_named sc ws v k.context three.0)
-        (load_right sc v name (variable sc v).width a (k.context.fits v) two.0 (written_right sc ws k.context a two.1)))
+    let three = and_both (is_variable ws v) (is_space name && is_right (shape_of ws a)) h in
+    let two = and_both (is_space name) (is_right (shape_of ws a)) three.1 in
+    targeted sc room in_loop v (s.Load v name a) _ (variable_is_named sc ws v k.context three.0)
+    (load_right sc v name (variable sc v).width a (k.context.fits v) two.0 (written_right sc ws k.context a two.1)))
 
 store_case : (f : CFunction) (labels : ℕ) → Setting f labels → (name : Option (List ℕ)) (a e : Expr) → LineOk f labels (s.Store name a e)
 unfolding lines rule_of
@@ -165,10 +165,10 @@ store_case f labels k name a e =
     (ap (lines sc) (sym (s.rolls-Store name a e)) ∙ fold-roll-Stmt Lines Texts (lines_step sc) arm_step (Stmt-F.Store name a e))
     (ap (rule_of f labels) (sym (s.rolls-Store name a e)) ∙ fold-roll-Stmt Rule Cased (rule_step f labels) cased_step (Stmt-F.Store name a e))
     (λ after_call in_loop room d sd h.
-        let three = and_both (is_space name) (is_right (shape_of ws a) && is_right (shape_of ws e)) h in
-        let two = and_both (is_right (shape_of ws a)) (is_right (shape_of ws e)) three.1 in
-        let y = written_right sc ws k.context e two.1 in
-        alone_line sc room in_loop (s.Store name a e) _ (store_right sc name (form sc e).width a e y.width three.0 (written_right sc ws k.context a two.0) y))
+    let three = and_both (is_space name) (is_right (shape_of ws a) && is_right (shape_of ws e)) h in
+    let two = and_both (is_right (shape_of ws a)) (is_right (shape_of ws e)) three.1 in
+    let y = written_right sc ws k.context e two.1 in
+    alone_line sc room in_loop (s.Store name a e) _ (store_right sc name (form sc e).width a e y.width three.0 (written_right sc ws k.context a two.0) y))
 
 -- a call of a declared callee
 called : (f : CFunction) (labels : ℕ) → Setting f labels → (v : Option ℕ) (address : ℕ) (es : List Expr) (o : Option CalleeDecl) (room : ℕ) (loop : Bool) → callee_at f.callees address ≡ o → is_call (widths_in f) v es o ≡ true → LineAt (scope_of f) (suc room) loop (s.Call v address es) (call_text (scope_of f) v address es)
@@ -188,7 +188,7 @@ call_case f labels k v address es =
     (ap (lines sc) (sym (s.rolls-Call v address es)) ∙ fold-roll-Stmt Lines Texts (lines_step sc) arm_step (Stmt-F.Call v address es))
     (ap (rule_of f labels) (sym (s.rolls-Call v address es)) ∙ fold-roll-Stmt Rule Cased (rule_step f labels) cased_step (Stmt-F.Call v address es))
     (λ after_call in_loop room d sd h.
-        called f labels k v address es (callee_at f.callees address) room in_loop refl (ap (is_call ws v es) (sym (declared_is f.callees address)) ∙ h))
+    called f labels k v address es (callee_at f.callees address) room in_loop refl (ap (is_call ws v es) (sym (declared_is f.callees address)) ∙ h))
 
 call_ind_case : (f : CFunction) (labels : ℕ) → Setting f labels → (v : Option ℕ) (e : Expr) (es : List Expr) → LineOk f labels (s.CallInd v e es)
 unfolding lines rule_of
@@ -199,10 +199,10 @@ call_ind_case f labels k v e es =
     (ap (lines sc) (sym (s.rolls-CallInd v e es)) ∙ fold-roll-Stmt Lines Texts (lines_step sc) arm_step (Stmt-F.CallInd v e es))
     (ap (rule_of f labels) (sym (s.rolls-CallInd v e es)) ∙ fold-roll-Stmt Rule Cased (rule_step f labels) cased_step (Stmt-F.CallInd v e es))
     (λ after_call in_loop room d sd h.
-        let three = and_both (is_target ws v) (is_right (shape_of ws e) && are_right ws es) h in
-        let two = and_both (is_right (shape_of ws e)) (are_right ws es) three.1 in
-        right_line sc room in_loop v (s.CallInd v e es) _ (target_named sc ws v k.context three.0)
-        (indirect_right sc v (target_width sc v) e es (target_fits sc ws k.context v) (written_right sc ws k.context e two.0) (all_right sc ws k.context es two.1)))
+    let three = and_both (is_target ws v) (is_right (shape_of ws e) && are_right ws es) h in
+    let two = and_both (is_right (shape_of ws e)) (are_right ws es) three.1 in
+    right_line sc room in_loop v (s.CallInd v e es) _ (target_named sc ws v k.context three.0)
+    (indirect_right sc v (target_width sc v) e es (target_fits sc ws k.context v) (written_right sc ws k.context e two.0) (all_right sc ws k.context es two.1)))
 
 other_case : (f : CFunction) (labels : ℕ) → Setting f labels → (v : Option ℕ) (index : ℕ) (es : List Expr) → LineOk f labels (s.Other v index es)
 unfolding lines rule_of
@@ -213,10 +213,10 @@ other_case f labels k v index es =
     (ap (lines sc) (sym (s.rolls-Other v index es)) ∙ fold-roll-Stmt Lines Texts (lines_step sc) arm_step (Stmt-F.Other v index es))
     (ap (rule_of f labels) (sym (s.rolls-Other v index es)) ∙ fold-roll-Stmt Rule Cased (rule_step f labels) cased_step (Stmt-F.Other v index es))
     (λ after_call in_loop room d sd h.
-        let three = and_both (is_target ws v) (is_long index && are_right ws es) h in
-        let two = and_both (is_long index) (are_right ws es) three.1 in
-        right_line sc room in_loop v (s.Other v index es) _ (target_named sc ws v k.context three.0)
-        (other_right sc v (target_width sc v) index es (target_fits sc ws k.context v) (ltb-true _ _ two.0) (all_right sc ws k.context es two.1)))
+    let three = and_both (is_target ws v) (is_long index && are_right ws es) h in
+    let two = and_both (is_long index) (are_right ws es) three.1 in
+    right_line sc room in_loop v (s.Other v index es) _ (target_named sc ws v k.context three.0)
+    (other_right sc v (target_width sc v) index es (target_fits sc ws k.context v) (ltb-true _ _ two.0) (all_right sc ws k.context es two.1)))
 
 extra_case : (f : CFunction) (labels : ℕ) → Setting f labels → (v offset : ℕ) → LineOk f labels (s.Extra v offset)
 unfolding lines rule_of
@@ -227,10 +227,10 @@ extra_case f labels k v offset =
     (ap (lines sc) (sym (s.rolls-Extra v offset)) ∙ fold-roll-Stmt Lines Texts (lines_step sc) arm_step (Stmt-F.Extra v offset))
     (ap (rule_of f labels) (sym (s.rolls-Extra v offset)) ∙ fold-roll-Stmt Rule Cased (rule_step f labels) cased_step (Stmt-F.Extra v offset))
     (λ after_call in_loop room d sd h.
-        let three = and_both after_call (is_variable ws v && is_long offset) h in
-        let two = and_both (is_variable ws v) (is_long offset) three.1 in
-        right_line sc room in_loop (Some v) (s.Extra v offset) _ (variable_is_named sc ws v k.context two.0)
-        (extra_right sc v (variable sc v).width offset (k.context.fits v) (ltb-true _ _ two.1)))
+    let three = and_both after_call (is_variable ws v && is_long offset) h in
+    let two = and_both (is_variable ws v) (is_long offset) three.1 in
+    right_line sc room in_loop (Some v) (s.Extra v offset) _ (variable_is_named sc ws v k.context two.0)
+    (extra_right sc v (variable sc v).width offset (k.context.fits v) (ltb-true _ _ two.1)))
 
 divide_case : (f : CFunction) (labels : ℕ) → Setting f labels → (v : ℕ) (op : StatementDivision) (a b : Expr) → LineOk f labels (s.Divide v op a b)
 unfolding lines rule_of
@@ -241,10 +241,10 @@ divide_case f labels k v op a b =
     (ap (lines sc) (sym (s.rolls-Divide v op a b)) ∙ fold-roll-Stmt Lines Texts (lines_step sc) arm_step (Stmt-F.Divide v op a b))
     (ap (rule_of f labels) (sym (s.rolls-Divide v op a b)) ∙ fold-roll-Stmt Rule Cased (rule_step f labels) cased_step (Stmt-F.Divide v op a b))
     (λ after_call in_loop room d sd h.
-        let two = and_both (is_assigned ws v (shape_of ws a)) (has_width (ws v) (shape_of ws b)) h in
-        let left = and_both (is_variable ws v) (has_width (ws v) (shape_of ws a)) two.0 in
-        right_line sc room in_loop (Some v) (s.Divide v op a b) _ (variable_is_named sc ws v k.context left.0)
-        (divide_right sc v op a b (written_width sc ws k.context (ws v) a left.1) (written_width sc ws k.context (ws v) b two.1)))
+    let two = and_both (is_assigned ws v (shape_of ws a)) (has_width (ws v) (shape_of ws b)) h in
+    let left = and_both (is_variable ws v) (has_width (ws v) (shape_of ws a)) two.0 in
+    right_line sc room in_loop (Some v) (s.Divide v op a b) _ (variable_is_named sc ws v k.context left.0)
+    (divide_right sc v op a b (written_width sc ws k.context (ws v) a left.1) (written_width sc ws k.context (ws v) b two.1)))
 
 -- ---- statements with bodies
 
@@ -257,8 +257,8 @@ if_case f labels k e xs all =
     (ap (lines sc) (sym (s.rolls-If e xs)) ∙ fold-roll-Stmt Lines Texts (lines_step sc) arm_step (Stmt-F.If e xs))
     (ap (rule_of f labels) (sym (s.rolls-If e xs)) ∙ fold-roll-Stmt Rule Cased (rule_step f labels) cased_step (Stmt-F.If e xs))
     (λ after_call in_loop room d sd h.
-        let both = and_both (is_condition (shape_of ws e)) (all_hold false (map (rule_of f labels) xs) in_loop room) h in
-        if_line f labels e xs (written_test sc ws k.context e both.0) all in_loop room d sd both.1)
+    let both = and_both (is_condition (shape_of ws e)) (all_hold false (map (rule_of f labels) xs) in_loop room) h in
+    if_line f labels e xs (written_test sc ws k.context e both.0) all in_loop room d sd both.1)
 
 else_case : (f : CFunction) (labels : ℕ) → Setting f labels → (e : Expr) (xs ys : List Stmt) → AllOk f labels xs → AllOk f labels ys → LineOk f labels (s.IfElse e xs ys)
 unfolding lines rule_of
@@ -270,9 +270,9 @@ else_case f labels k e xs ys all also =
     (ap (lines sc) (sym (s.rolls-IfElse e xs ys)) ∙ fold-roll-Stmt Lines Texts (lines_step sc) arm_step (Stmt-F.IfElse e xs ys))
     (ap (rule_of f labels) (sym (s.rolls-IfElse e xs ys)) ∙ fold-roll-Stmt Rule Cased (rule_step f labels) cased_step (Stmt-F.IfElse e xs ys))
     (λ after_call in_loop room d sd h.
-        let three = and_both (is_condition (shape_of ws e)) (all_hold false (map r xs) in_loop room && all_hold false (map r ys) in_loop room) h in
-        let two = and_both (all_hold false (map r xs) in_loop room) (all_hold false (map r ys) in_loop room) three.1 in
-        else_line f labels e xs ys (written_test sc ws k.context e three.0) all also in_loop room d sd two.0 two.1)
+    let three = and_both (is_condition (shape_of ws e)) (all_hold false (map r xs) in_loop room && all_hold false (map r ys) in_loop room) h in
+    let two = and_both (all_hold false (map r xs) in_loop room) (all_hold false (map r ys) in_loop room) three.1 in
+    else_line f labels e xs ys (written_test sc ws k.context e three.0) all also in_loop room d sd two.0 two.1)
 
 while_case : (f : CFunction) (labels : ℕ) → Setting f labels → (e : Expr) (xs : List Stmt) → AllOk f labels xs → LineOk f labels (s.While e xs)
 unfolding lines rule_of
@@ -283,8 +283,8 @@ while_case f labels k e xs all =
     (ap (lines sc) (sym (s.rolls-While e xs)) ∙ fold-roll-Stmt Lines Texts (lines_step sc) arm_step (Stmt-F.While e xs))
     (ap (rule_of f labels) (sym (s.rolls-While e xs)) ∙ fold-roll-Stmt Rule Cased (rule_step f labels) cased_step (Stmt-F.While e xs))
     (λ after_call in_loop room d sd h.
-        let both = and_both (is_condition (shape_of ws e)) (all_hold false (map (rule_of f labels) xs) true room) h in
-        while_line f labels e xs (written_test sc ws k.context e both.0) all in_loop room d sd both.1)
+    let both = and_both (is_condition (shape_of ws e)) (all_hold false (map (rule_of f labels) xs) true room) h in
+    while_line f labels e xs (written_test sc ws k.context e both.0) all in_loop room d sd both.1)
 
 do_case : (f : CFunction) (labels : ℕ) → Setting f labels → (xs : List Stmt) (e : Expr) → AllOk f labels xs → LineOk f labels (s.DoWhile xs e)
 unfolding lines rule_of
@@ -295,8 +295,8 @@ do_case f labels k xs e all =
     (ap (lines sc) (sym (s.rolls-DoWhile xs e)) ∙ fold-roll-Stmt Lines Texts (lines_step sc) arm_step (Stmt-F.DoWhile xs e))
     (ap (rule_of f labels) (sym (s.rolls-DoWhile xs e)) ∙ fold-roll-Stmt Rule Cased (rule_step f labels) cased_step (Stmt-F.DoWhile xs e))
     (λ after_call in_loop room d sd h.
-        let both = and_both (is_condition (shape_of ws e)) (all_hold false (map (rule_of f labels) xs) true room) h in
-        do_line f labels xs e all (written_test sc ws k.context e both.0) in_loop room d sd both.1)
+    let both = and_both (is_condition (shape_of ws e)) (all_hold false (map (rule_of f labels) xs) true room) h in
+    do_line f labels xs e all (written_test sc ws k.context e both.0) in_loop room d sd both.1)
 
 loop_case : (f : CFunction) (labels : ℕ) → (xs : List Stmt) → AllOk f labels xs → LineOk f labels (s.Loop xs)
 unfolding lines rule_of
@@ -328,8 +328,8 @@ switch_case f labels k e arms all =
     (ap (lines sc) (sym (s.rolls-Switch e arms)) ∙ fold-roll-Stmt Lines Texts (lines_step sc) arm_step (Stmt-F.Switch e arms))
     (ap (rule_of f labels) (sym (s.rolls-Switch e arms)) ∙ fold-roll-Stmt Rule Cased (rule_step f labels) cased_step (Stmt-F.Switch e arms))
     (λ after_call in_loop room d sd h.
-        let both = and_both (are_cases_of (all_cases (map (cased_of f labels) arms)) (shape_of ws e)) (arms_hold (map (cased_of f labels) arms) room) h in
-        switched f labels k e arms (shape_of ws e) all in_loop room d sd refl both.0 both.1)
+    let both = and_both (are_cases_of (all_cases (map (cased_of f labels) arms)) (shape_of ws e)) (arms_hold (map (cased_of f labels) arms) room) h in
+    switched f labels k e arms (shape_of ws e) all in_loop room d sd refl both.0 both.1)
 
 -- ---- the others
 
@@ -350,10 +350,10 @@ goto_case f labels k n =
     (ap (lines sc) (sym (s.rolls-Goto n)) ∙ fold-roll-Stmt Lines Texts (lines_step sc) arm_step (Stmt-F.Goto n))
     (ap (rule_of f labels) (sym (s.rolls-Goto n)) ∙ fold-roll-Stmt Rule Cased (rule_step f labels) cased_step (Stmt-F.Goto n))
     (λ after_call in_loop room d sd h.
-        let both = and_both (ltb 0 n) (ltb n labels) h in
-        let low : n < labels = ltb-true _ _ both.1 in
-        let few = k.few in
-        goto_line sc n room in_loop (omega arith))
+    let both = and_both (ltb 0 n) (ltb n labels) h in
+    let low : n < labels = ltb-true _ _ both.1 in
+    let few = k.few in
+    goto_line sc n room in_loop (omega arith))
 
 label_case : (f : CFunction) (labels : ℕ) (n : ℕ) → LineOk f labels (s.Label n)
 unfolding lines rule_of

@@ -253,10 +253,10 @@ switch_line f labels w e arms x all in_loop room d sd le words h =
     let body = all_arms (map (arm_text sc) arms) d in
     worded sc (suc room) in_loop (s.Switch e arms) (codes "switch (" ++ (value ++ (codes ") {\n" ++ (body ++ (d ++ codes "}\n")))))
     (λ rest.
-        let last = d ++ 125 ∷ 10 ∷ rest in
-        let grouped : (value ++ (codes ") {\n" ++ (body ++ (d ++ codes "}\n")))) ++ rest ≡ value ++ 41 ∷ 32 ∷ 123 ∷ 10 ∷ (body ++ last) = simp append_assoc in
-        let head = head_again sc e value (body ++ last) x.plain in
-        let inner = arms_again f labels w arms room (length (body ++ last)) d (10 ∷ rest) all sd le words h (arms_long f labels arms room d last h) in
-        let p = past_pad d 125 (10 ∷ rest) sd refl in
-        rw (grouped, head, inner, p) refl)
+    let last = d ++ 125 ∷ 10 ∷ rest in
+    let grouped : (value ++ (codes ") {\n" ++ (body ++ (d ++ codes "}\n")))) ++ rest ≡ value ++ 41 ∷ 32 ∷ 123 ∷ 10 ∷ (body ++ last) = simp append_assoc in
+    let head = head_again sc e value (body ++ last) x.plain in
+    let inner = arms_again f labels w arms room (length (body ++ last)) d (10 ∷ rest) all sd le words h (arms_long f labels arms room d last h) in
+    let p = past_pad d 125 (10 ∷ rest) sd refl in
+    rw (grouped, head, inner, p) refl)
     (λ z. record { no_space = refl; not_case = refl; not_local = refl }) (λ z. refl) (omega arith)

@@ -55,7 +55,6 @@ word_small w =
     let p : w.value < limit w.width.bytes = w.below in
     omega (arith, p, limit_most w.width.bytes w.width.to)
 
-
 -- a type before another byte
 pub type_again : (signed : Bool) (w c : ℕ) (rest : List ℕ) → w < 17 → is_digit c 10 ≡ false → type_at (type_text signed w ++ c ∷ rest) ≡ Some (record { width = width_by w; signed = signed }, c ∷ rest)
 unfolding type_at after

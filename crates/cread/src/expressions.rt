@@ -365,11 +365,7 @@ fn atom<'b>(
 
 /// An expression. A level of a tree takes at most three levels of the reader, and a signed form one more.
 #[tactic(auto, unfolding(crate::specs::Expressions::expr_at))]
-pub fn expr<'b>(
-    alloc: Global,
-    f: &CFunction,
-    bytes: &'b [u8],
-) -> Result<(Expr, &'b [u8]), CFault>
+pub fn expr<'b>(alloc: Global, f: &CFunction, bytes: &'b [u8]) -> Result<(Expr, &'b [u8]), CFault>
     ensures { Gives (λ x. (x.0, x.1.now)) result (expr_at (scope_of f.now) bytes.now) }
 {
     let (a, rest) = inner(alloc, f, 200, bytes)?;

@@ -62,11 +62,7 @@ fn division(bytes: &[u8]) -> Option<(Right, &[u8])>
 }
 
 /// A value at the end of a line.
-pub fn value<'b>(
-    alloc: Global,
-    f: &CFunction,
-    bytes: &'b [u8],
-) -> Result<(Expr, &'b [u8]), CFault>
+pub fn value<'b>(alloc: Global, f: &CFunction, bytes: &'b [u8]) -> Result<(Expr, &'b [u8]), CFault>
     ensures { Gives (λ x. (x.0, x.1.now)) result (value_at (scope_of f.now) bytes.now) }
 {
     let (e, rest) = expr(alloc, f, bytes)?;
@@ -115,11 +111,7 @@ fn further<'b>(
 
 /// The arguments of a call, up to the parenthesis behind them.
 #[tactic(auto, unfolding(crate::specs::Statements::args_at))]
-fn args<'b>(
-    alloc: Global,
-    f: &CFunction,
-    bytes: &'b [u8],
-) -> Result<(Exprs, &'b [u8]), CFault>
+fn args<'b>(alloc: Global, f: &CFunction, bytes: &'b [u8]) -> Result<(Exprs, &'b [u8]), CFault>
     ensures { Gives (λ x. (x.0, x.1.now)) result (args_at (scope_of f.now) bytes.now) }
 {
     let mut found = Exprs::new(alloc);
@@ -134,11 +126,7 @@ fn args<'b>(
 // ---- memory
 
 #[tactic(auto, unfolding(crate::specs::Statements::pointed_at))]
-fn pointed<'b>(
-    alloc: Global,
-    f: &CFunction,
-    bytes: &'b [u8],
-) -> Result<(Access, &'b [u8]), CFault>
+fn pointed<'b>(alloc: Global, f: &CFunction, bytes: &'b [u8]) -> Result<(Access, &'b [u8]), CFault>
     ensures { Gives (λ x. (x.0, x.1.now)) result (pointed_at (scope_of f.now) bytes.now) }
 {
     let (_, rest) = decimal(bytes);
@@ -150,11 +138,7 @@ fn pointed<'b>(
 }
 
 #[tactic(auto, unfolding(crate::specs::Statements::memory_at))]
-fn memory<'b>(
-    alloc: Global,
-    f: &CFunction,
-    bytes: &'b [u8],
-) -> Result<(Access, &'b [u8]), CFault>
+fn memory<'b>(alloc: Global, f: &CFunction, bytes: &'b [u8]) -> Result<(Access, &'b [u8]), CFault>
     ensures { Gives (λ x. (x.0, x.1.now)) result (memory_at (scope_of f.now) bytes.now) }
 {
     let (_, rest) = decimal(bytes);
@@ -396,11 +380,7 @@ fn assigned<'b>(
 }
 
 #[tactic(auto, unfolding(crate::specs::Statements::target_at))]
-fn assign<'b>(
-    alloc: Global,
-    f: &CFunction,
-    bytes: &'b [u8],
-) -> Result<(Stmt, &'b [u8]), CFault>
+fn assign<'b>(alloc: Global, f: &CFunction, bytes: &'b [u8]) -> Result<(Stmt, &'b [u8]), CFault>
     ensures { Gives (λ x. (x.0, x.1.now)) result (target_at (scope_of f.now) bytes.now) }
 {
     match variable(f, bytes) {
@@ -414,11 +394,7 @@ fn assign<'b>(
 
 /// A statement of one line that begins with no word of its own.
 #[tactic(auto, unfolding(crate::specs::Statements::effect_at))]
-pub fn effect<'b>(
-    alloc: Global,
-    f: &CFunction,
-    bytes: &'b [u8],
-) -> Result<(Stmt, &'b [u8]), CFault>
+pub fn effect<'b>(alloc: Global, f: &CFunction, bytes: &'b [u8]) -> Result<(Stmt, &'b [u8]), CFault>
     ensures { Gives (λ x. (x.0, x.1.now)) result (effect_at (scope_of f.now) bytes.now) }
 {
     if let Some((word, rest)) = right(bytes) {

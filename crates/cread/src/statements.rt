@@ -77,11 +77,7 @@ fn number<'b>(word: &[u8], bytes: &'b [u8]) -> Result<(u32, &'b [u8]), CFault>
 }
 
 /// A condition or a switch's value, up to the brace.
-fn head<'b>(
-    alloc: Global,
-    f: &CFunction,
-    bytes: &'b [u8],
-) -> Result<(Expr, &'b [u8]), CFault>
+fn head<'b>(alloc: Global, f: &CFunction, bytes: &'b [u8]) -> Result<(Expr, &'b [u8]), CFault>
     ensures { Gives (λ x. (x.0, x.1.now)) result (head_at (scope_of f.now) bytes.now) }
 {
     let (e, rest) = expr(alloc, f, bytes)?;
