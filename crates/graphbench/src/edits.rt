@@ -1,4 +1,6 @@
 //! The edits of the graph.
+ghost use Rattle.std.specs.Prelude.{◌≡◌};
+
 use bits_core::{Memory, Width};
 use opgraph::{BlockId, Code, OpGraph, OpId, ValueId};
 use std::alloc::Global;
@@ -6,7 +8,9 @@ use std::vec::Vec;
 
 const WIDTH: Width = Width { bytes: 4 };
 
-fn value(op: OpId) -> ValueId {
+fn value(op: OpId) -> ValueId
+    ensures { result.0 ≡ op.0 }
+{
     ValueId(op.0)
 }
 
