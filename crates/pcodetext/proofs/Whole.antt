@@ -54,7 +54,7 @@ lines_kept (line ∷ lines) n s f = by_step (λ t g. lines_kept lines (n + 1) t 
     by_step on (Goes t) e = on t (step_kept s t line f e)
     by_step on (Fails w) e = subst OfGoing (sym (stays _ lines)) tt
 
-start_formed : IsFormed start
+pub start_formed : IsFormed start
 start_formed = record {
   version = tt;
   spaces = (refl, tt);
