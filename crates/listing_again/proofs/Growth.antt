@@ -1,20 +1,18 @@
 -- What has been said has a canonical text, which grows by one line with each line.
-use Rattle.std.proofs.Common.{◌≡◌, ◌∙◌, ◌<◌, ◌≤◌, ◌+◌, ◌⊎◌, ℕ, Bool, true, false, List, [], ◌∷◌, ◌++◌, length, map, ap, sym, refl, arith, append_assoc, append-nil, subst}
-use Rattle.std.specs.Prelude.{◌==◌, ◌&&◌, ◌||◌, not, codes, Option, Some, None, IfSome, if◌then◌else◌}
-use Rattle.std.specs.Option.{is_none, is_some, option_map, option_to_list}
+use Rattle.std.proofs.Common.{◌≡◌, ◌∙◌, ◌<◌, ℕ, Bool, true, false, List, [], ◌∷◌, ◌++◌, length, map, ap, sym, refl, arith, append_assoc, append-nil}
+use Rattle.std.specs.Prelude.{codes, Option, Some, None}
+use Rattle.std.specs.Option.{is_some, option_to_list}
 use Rattle.listing_lines.specs.Text.{Line}
-use Rattle.listing_print.specs.Printed.{at_line, body_text, bytes_line, code_text, declared, ended, function_line, header_text, op_line, proto_line, space_line, stack_line, stack_lines, text_of, version_line}
+use Rattle.listing_print.specs.Printed.{at_line, bytes_line, code_text, declared, ended, function_line, header_text, op_line, proto_line, space_line, stack_lines, text_of, version_line}
 use Rattle.pcode_model.specs.declared.listing.Fixed.{Fixed}
 use Rattle.pcode_model.specs.declared.listing.Function.{Function}
 use Rattle.pcode_model.specs.declared.listing.Instruction.{Instruction}
-use Rattle.pcode_model.specs.declared.listing.Listing.{Listing}
 use Rattle.pcode_model.specs.declared.listing.Op.{Op}
 use Rattle.pcode_model.specs.declared.listing.Proto.{Proto}
 use Rattle.pcode_model.specs.declared.listing.Space.{Space}
 use Rattle.pcode_model.specs.declared.listing.Varnode.{Varnode}
 use Rattle.pcodetext.specs.declared.said.Said.{Said}
 use Rattle.pcodetext.specs.Meaning.{listing_of}
-use Rattle.pcodetext.specs.Tables.{constant}
 use Rattle.listing_again.proofs.Cuts.{ended_append}
 use Rattle.listing_again.proofs.Lines.{version_of}
 

@@ -1,27 +1,19 @@
 -- The canonical line of a form is read as that form.
-use Rattle.std.proofs.Common.{◌≡◌, ◌∙◌, ◌<◌, ◌≤◌, ◌+◌, ◌^◌, ℕ, Bool, true, false, List, [], ◌∷◌, ◌++◌, length, map, ap, sym, refl, arith, append_assoc, subst, rules}
-use Rattle.std.specs.Prelude.{◌==◌, ◌&&◌, ◌||◌, not, nat_lt, codes, decimal, Option, Some, None, IfSome, if◌then◌else◌, slice_get}
-use Rattle.std.specs.List.{AllByRecursion, list_any}
-use Rattle.std.specs.Option.{is_none, is_some, option_map}
-use Rattle.std.specs.Str.{bytes_eq}
+use Rattle.std.proofs.Common.{◌≡◌, ◌∙◌, ◌<◌, ◌^◌, ℕ, Bool, true, false, List, [], ◌∷◌, ◌++◌, map, ap, sym, refl, append_assoc, subst, rules}
+use Rattle.std.specs.Prelude.{◌==◌, codes, decimal, Option, Some, None, IfSome, if◌then◌else◌, slice_get}
+use Rattle.std.specs.List.{AllByRecursion}
+use Rattle.std.specs.Option.{is_none}
 use Rattle.listing_lines.specs.Text.{Line, parts_of}
-use Rattle.listing_lines.specs.Tokens.{bytes_of, decimal_of, hexadecimal_of, is_name}
+use Rattle.listing_lines.specs.Tokens.{bytes_of, decimal_of, is_name}
 use Rattle.listing_print.specs.Printed as printed
 use Rattle.listing_print.specs.Printed.{at_line, bytes_line, function_line, hexadecimal, kind_word, name_of, op_line, order_word, output_parts, pairs, place_part, proto_line, range_part, result_part, returns_parts, space_line, spaced, stack_line, storage_part, version_line, word_parts}
-use Rattle.listing_print.specs.Words.{word_of}
-use Rattle.pcode_model.specs.declared.listing.Fixed.{Fixed}
-use Rattle.pcode_model.specs.declared.listing.Function.{Function}
-use Rattle.pcode_model.specs.declared.listing.Instruction.{Instruction}
-use Rattle.pcode_model.specs.declared.listing.Op.{Op}
 use Rattle.pcode_model.specs.declared.listing.Proto.{Proto}
 use Rattle.pcode_model.specs.declared.listing.Space.{Space}
 use Rattle.pcode_model.specs.declared.listing.SpaceKind.{SpaceKind}
 use Rattle.pcode_model.specs.declared.listing.SpaceKind.TheVariants.{Constant, Ram, Register, Unique}
-use Rattle.pcode_model.specs.declared.opcode.Opcode.{Opcode}
 use Rattle.pcode_model.specs.Spaces.{number_of, same_kind}
 use Rattle.pcode_model.specs.WellFormed.{AreSpaces}
 use Rattle.pcodetext.specs.declared.said.Said.{Said}
-use Rattle.pcodetext.specs.declared.fault.Why.{Why}
 use Rattle.pcodetext.specs.declared.form.AtLine.{AtLine}
 use Rattle.pcodetext.specs.declared.form.BytesLine.{BytesLine}
 use Rattle.pcodetext.specs.declared.form.Form.{Form}
@@ -29,21 +21,18 @@ use Rattle.pcodetext.specs.declared.form.Form.TheVariants as form
 use Rattle.pcodetext.specs.declared.form.FunctionLine.{FunctionLine}
 use Rattle.pcodetext.specs.declared.form.Named.{Named}
 use Rattle.pcodetext.specs.declared.form.Named.TheVariants as named
-use Rattle.pcodetext.specs.declared.form.OpLine.{OpLine}
-use Rattle.pcodetext.specs.declared.form.ProtoLine.{ProtoLine}
 use Rattle.pcodetext.specs.declared.form.SpaceLine.{SpaceLine}
 use Rattle.pcodetext.specs.declared.form.Written.{Written}
-use Rattle.pcodetext.specs.Faults.{faults, first_fault, is_first_ram, is_misplaced, is_of_kind, of_no_argument, of_other, of_some, of_unknown}
-use Rattle.pcodetext.specs.Forms.{at_made, bytes_made, callee_made, form_by, form_of, func_made, function_made, is_two, kind_of, op_made, order_of, pcode_made, proto_args, proto_made, returns_by, space_made, stack_made, word_by}
-use Rattle.pcodetext.specs.Meaning.{after, function_of, number, proto_number, storage_of, varnode}
-use Rattle.pcodetext.specs.Opcodes.{opcode_of}
+use Rattle.pcodetext.specs.Faults.{is_first_ram, is_misplaced, is_of_kind}
+use Rattle.pcodetext.specs.Forms.{at_made, bytes_made, callee_made, form_by, form_of, func_made, function_made, is_two, kind_of, order_of, pcode_made, returns_by, space_made, stack_made, word_by}
+use Rattle.pcodetext.specs.Meaning.{function_of, number, proto_number, varnode}
 use Rattle.pcodetext.specs.Tables.{place_in, proto_name}
-use Rattle.pcodetext.specs.Written.{named_by, place_of, range_of, ranges_of, ranges_until}
-use Rattle.pcodetext.proofs.Passing.{eq_true, left_false, never, not_false, right_false}
+use Rattle.pcodetext.specs.Written.{named_by, place_of}
+use Rattle.pcodetext.proofs.Passing.{eq_true, left_false, never, not_false}
 use Rattle.listing_again.proofs.Cuts.{IsLine, IsPart, all_append, parts_are, spaced_append, spaced_is_line, token_is_part}
 use Rattle.listing_again.proofs.Numbers.{both_true, bytes_back, decimal_back, decimal_token, hexadecimal_back, hexadecimal_token, pairs_part}
-use Rattle.listing_again.proofs.Ranges.{IsCalled, IsRange, IsReadBack, IsSpelled, argument_back, canonical, kept_back, name_token, not_word, place_back, place_part_is, range_back, register_back}
-use Rattle.listing_again.proofs.Told.{IsBytesTold, IsFunctionTold, IsOpTold, IsProtoTold, IsSpaceTold, IsTold, IsWord}
+use Rattle.listing_again.proofs.Ranges.{IsCalled, IsRange, IsSpelled, name_token, place_back, place_part_is, register_back}
+use Rattle.listing_again.proofs.Told.{IsBytesTold, IsFunctionTold, IsSpaceTold}
 
 -- a line whose parts are read as a form
 pub record IsReadAs (s : Said) (line : Line) (f : Form) : Type 0 where
@@ -165,7 +154,7 @@ function_parts spaces protos name address proto = name ∷ place_part (name_of s
 record IsFunctionBack (spaces : List Space) (protos : List Proto) (l : FunctionLine) : Type 0 where
   parts : AllByRecursion IsPart (function_parts spaces protos l.name l.address (proto_number l.proto))
   read : (returns : Option Bool) → returns ≡ Some l.returns
-    → function_made protos l.name (printed.proto_name (slice_get protos (proto_number l.proto))) (place_of spaces (place_part (name_of spaces (number_of Ram spaces)) l.address)) returns ≡ Some l
+      → function_made protos l.name (printed.proto_name (slice_get protos (proto_number l.proto))) (place_of spaces (place_part (name_of spaces (number_of Ram spaces)) l.address)) returns ≡ Some l
 
 function_by : (spaces : List Space) (protos : List Proto) (name : Line) (space : Named) (address : ℕ) (proto : Option ℕ) (returns : Bool) → is_name name ≡ true → IsSpelled spaces space → address < 16 ^ 16
     → IfSome proto (IsCalled protos) → is_first_ram spaces space ≡ true → is_none proto ≡ false
@@ -181,10 +170,10 @@ function_by spaces protos name (named.Space k) address (Some p) returns n s far 
     record {
       parts = (name_part name n, (place_part_is (name_of spaces (number_of Ram spaces)) address is far, (name_part called c.name, tt)));
       read = λ r e. ap (function_made protos name called (place_of spaces (place_part (name_of spaces (number_of Ram spaces)) address))) e
-        ∙ ap (λ (o : Option (Named × ℕ)). function_made protos name called o (Some returns)) (place_back spaces (name_of spaces (number_of Ram spaces)) address is far)
-        ∙ ap (λ (t : Bool). if t then Some (record { name = name; space = named_by spaces (name_of spaces (number_of Ram spaces)); address = address; proto = place_in called (map proto_name protos); returns = returns }) else None) (both_true _ _ n c.name)
-        ∙ ap (λ (space : Named). Some (record { name = name; space = space; address = address; proto = place_in called (map proto_name protos); returns = returns })) stands
-        ∙ ap (λ (o : Option ℕ). Some (record { name = name; space = named.Space k; address = address; proto = o; returns = returns })) c.known;
+          ∙ ap (λ (o : Option (Named × ℕ)). function_made protos name called o (Some returns)) (place_back spaces (name_of spaces (number_of Ram spaces)) address is far)
+          ∙ ap (λ (t : Bool). if t then Some (record { name = name; space = named_by spaces (name_of spaces (number_of Ram spaces)); address = address; proto = place_in called (map proto_name protos); returns = returns }) else None) (both_true _ _ n c.name)
+          ∙ ap (λ (space : Named). Some (record { name = name; space = space; address = address; proto = place_in called (map proto_name protos); returns = returns })) stands
+          ∙ ap (λ (o : Option ℕ). Some (record { name = name; space = named.Space k; address = address; proto = o; returns = returns })) c.known;
     }
 
 function_back : (spaces : List Space) (protos : List Proto) (l : FunctionLine) → IsFunctionTold spaces protos l → is_misplaced spaces l ≡ false → is_none l.proto ≡ false → IsFunctionBack spaces protos l

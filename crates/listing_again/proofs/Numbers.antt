@@ -1,12 +1,12 @@
 -- Numbers and bytes are read back from their canonical text.
-use Rattle.std.proofs.Common.{◌≡◌, ◌∙◌, ◌<◌, ◌≤◌, ◌+◌, ◌*◌, ◌/◌, ◌%◌, ◌^◌, ℕ, zero, suc, Bool, true, false, List, [], ◌∷◌, ◌++◌, length, get_or, ap, sym, refl, arith, subst, lit<}
+use Rattle.std.proofs.Common.{◌≡◌, ◌∙◌, ◌<◌, ◌≤◌, ◌+◌, ◌*◌, ◌/◌, ◌%◌, ◌^◌, ℕ, zero, suc, Bool, true, false, List, [], ◌∷◌, length, get_or, ap, sym, refl, arith}
 use Rattle.std.proofs.Math.Nat.{pow-le-pow_right}
-use Rattle.std.specs.Prelude.{◌==◌, ◌&&◌, nat_le, nat_lt, codes, decimal, Option, Some, None, IfSome, if◌then◌else◌}
+use Rattle.std.specs.Prelude.{◌==◌, ◌&&◌, nat_le, nat_lt, decimal, Option, Some, None, IfSome, if◌then◌else◌}
 use Rattle.std.specs.Fmt.{digit_glyph, digits, digits_onto}
 use Rattle.std.specs.List.{AllByRecursion, list_all}
 use Rattle.std.specs.Option.{option_map}
 use Rattle.std.specs.Char.{digit_value, is_digit}
-use Rattle.std.specs.Str.Parse.{AllDigits, digits_value, digits_value_after}
+use Rattle.std.specs.Str.Parse.{AllDigits, digits_value}
 use Rattle.std.proofs.lemmas.Fmt.{decimal_digit, decimal_is_IsNumeral, digits_is_IsNumeral, first_decimal, hex_one_digit, length-decimal-le}
 use Rattle.std.proofs.lemmas.Int.Digits.{digits_value-lt}
 use Rattle.std.proofs.lemmas.Bool.Decides.{nat_tests}
@@ -87,7 +87,7 @@ number_small radix most ds one = by_test _ refl
         → IfSome (if t then Some (digits_value radix ds) else None) (λ n. n < radix ^ most)
     by_test false e = tt
     by_test true e =
-        let rest = right_true _ _ e in
+        let rest : (nat_le (length ds) most && list_all (λ b. is_digit b radix) ds) ≡ true = right_true (nat_le 1 (length ds)) (nat_le (length ds) most && list_all (λ b. is_digit b radix) ds) e in
         let few : length ds ≤ most = is_within _ _ (left_true _ _ rest) in
         let lower : digits_value radix ds < radix ^ length ds = digits_value-lt radix ds (digits_all radix ds (right_true _ _ rest)) in
         let power : radix ^ length ds ≤ radix ^ most = pow-le-pow_right one few in

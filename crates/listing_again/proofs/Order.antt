@@ -1,20 +1,17 @@
 -- A line without a fault adds one canonical line, which says the same.
-use Rattle.std.proofs.Common.{◌≡◌, ◌∙◌, ◌<◌, ◌≤◌, ◌+◌, ℕ, Bool, true, false, List, [], ◌∷◌, ◌++◌, length, map, ap, sym, refl, arith, append_assoc, append-nil, subst}
-use Rattle.std.specs.Prelude.{◌==◌, ◌&&◌, ◌||◌, not, codes, nat_le, Option, Some, None, IfSome, if◌then◌else◌}
-use Rattle.std.specs.List.{AllByRecursion, list_any}
-use Rattle.std.specs.Option.{is_none, is_some, option_map, option_to_list}
+use Rattle.std.proofs.Common.{◌≡◌, ◌∙◌, ◌<◌, ◌+◌, ℕ, Bool, true, false, List, [], ◌∷◌, ◌++◌, length, map, ap, sym, refl, arith, append-nil, subst}
+use Rattle.std.specs.Prelude.{◌==◌, not, codes, Option, Some, None}
+use Rattle.std.specs.Option.{is_none, is_some, option_to_list}
 use Rattle.listing_lines.specs.Text.{Line}
 use Rattle.listing_print.specs.Printed.{at_line, bytes_line, function_line, op_line, proto_line, space_line, stack_line, version_line}
 use Rattle.pcode_model.specs.declared.listing.Function.{Function}
 use Rattle.pcode_model.specs.declared.listing.Instruction.{Instruction}
-use Rattle.pcode_model.specs.declared.listing.Op.{Op}
 use Rattle.pcode_model.specs.declared.listing.Proto.{Proto}
 use Rattle.pcode_model.specs.declared.listing.Space.{Space}
 use Rattle.pcode_model.specs.declared.listing.Varnode.{Varnode}
 use Rattle.pcode_model.specs.declared.opcode.Opcode.{Opcode}
 use Rattle.pcode_model.specs.WellFormed.{AreSpaces}
 use Rattle.pcodetext.specs.declared.said.Said.{Said}
-use Rattle.pcodetext.specs.declared.fault.Why.{Why}
 use Rattle.pcodetext.specs.declared.form.AtLine.{AtLine}
 use Rattle.pcodetext.specs.declared.form.BytesLine.{BytesLine}
 use Rattle.pcodetext.specs.declared.form.Form.{Form}
@@ -24,17 +21,14 @@ use Rattle.pcodetext.specs.declared.form.OpLine.{OpLine}
 use Rattle.pcodetext.specs.declared.form.ProtoLine.{ProtoLine}
 use Rattle.pcodetext.specs.declared.form.SpaceLine.{SpaceLine}
 use Rattle.pcodetext.specs.declared.form.Written.{Written}
-use Rattle.pcodetext.specs.Faults.{faults, first_fault, is_complete, is_empty, is_unknown, of_some, of_unknown}
-use Rattle.pcodetext.specs.Forms.{is_two}
-use Rattle.pcodetext.specs.Meaning.{after, function_of, number, start, varnode, with_op}
+use Rattle.pcodetext.specs.Faults.{faults, first_fault, is_complete}
+use Rattle.pcodetext.specs.Meaning.{after, function_of, number, varnode, with_op}
 use Rattle.pcodetext.specs.Tables.{constant}
 use Rattle.pcodetext.proofs.Formed.{IsFormed}
 use Rattle.pcodetext.proofs.Passing.{AllFalse, all_false, eq_true, left_false, never, nil_is, none_is, not_false, right_false, zero_false}
 use Rattle.listing_again.proofs.Growth.{at_grows, bytes_grow, callees_grow, early_lines, end_grows, late_lines, no_ops, op_grows, protos_grow, said_lines, space_grows, up_to_bytes, up_to_callees, up_to_protos}
-use Rattle.listing_again.proofs.Lines.{IsReadAs, at_again, bytes_again, callee_again, end_again, func_again, pcode_again, space_again, space_of, stack_again, version_of}
-use Rattle.listing_again.proofs.Ranged.{canonical_op, op_again, op_of, proto_again, proto_of}
-use Rattle.listing_again.proofs.Ranges.{canonical, same_varnode}
-use Rattle.listing_again.proofs.Told.{IsTold}
+use Rattle.listing_again.proofs.Lines.{IsReadAs, space_of, version_of}
+use Rattle.listing_again.proofs.Ranged.{op_of, proto_of}
 
 -- what stands after what hasn't come yet
 pub record IsOrdered (s : Said) : Type 0 where
@@ -105,7 +99,7 @@ pcode_kept s n f o h =
     record {
       ordered = record { version = λ e. absurd (never (sym e)); callees = o.callees; fixed = o.fixed; last = o.last };
       lines = before_protos s f empty.1.1 (early_lines (Some n) s.spaces s.stack) s.spaces ∙ first
-        ∙ ap (λ (r : List Line). r ++ version_line n ∷ []) (sym (before_protos s f empty.1.1 (early_lines s.version s.spaces s.stack) s.spaces ∙ old));
+          ∙ ap (λ (r : List Line). r ++ version_line n ∷ []) (sym (before_protos s f empty.1.1 (early_lines s.version s.spaces s.stack) s.spaces ∙ old));
     }
   where
     none_early : (v : Option ℕ) (spaces : List Space) (stack : Option Varnode) → is_some v ≡ false → spaces ≡ constant ∷ [] → is_some stack ≡ false → early_lines v spaces stack ≡ []
@@ -129,8 +123,8 @@ space_kept s l f o h =
     record {
       ordered = record { version = λ e. absurd (never_both _ e (left_false _ _ (left_false _ _ p.0))); callees = o.callees; fixed = o.fixed; last = o.last };
       lines = before_protos s f none (early_lines s.version spaces s.stack) spaces
-        ∙ space_grows s.version s.spaces (space_of l) s.stack (some_spaces s.spaces f.spaces) (right_false _ _ (left_false _ _ p.0))
-        ∙ ap (λ (r : List Line). r ++ space_line (version_of s.version) (space_of l) ∷ []) (sym (before_protos s f none (early_lines s.version s.spaces s.stack) s.spaces));
+          ∙ space_grows s.version s.spaces (space_of l) s.stack (some_spaces s.spaces f.spaces) (right_false _ _ (left_false _ _ p.0))
+          ∙ ap (λ (r : List Line). r ++ space_line (version_of s.version) (space_of l) ∷ []) (sym (before_protos s f none (early_lines s.version s.spaces s.stack) s.spaces));
     }
 
 -- the constant space alone is no complete list
@@ -145,7 +139,7 @@ stack_kept s w f o h =
     record {
       ordered = record { version = λ e. absurd (not_complete s.spaces (o.version e).0 complete); callees = o.callees; fixed = o.fixed; last = o.last };
       lines = before_protos s f none (early_lines s.version s.spaces (Some (varnode w))) s.spaces ∙ grows s.stack (right_false _ _ (left_false _ _ p.0))
-        ∙ ap (λ (r : List Line). r ++ stack_line s.spaces (varnode w) ∷ []) (sym (before_protos s f none (early_lines s.version s.spaces s.stack) s.spaces));
+          ∙ ap (λ (r : List Line). r ++ stack_line s.spaces (varnode w) ∷ []) (sym (before_protos s f none (early_lines s.version s.spaces s.stack) s.spaces));
     }
   where
     grows : (stack : Option Varnode) → is_some stack ≡ false → early_lines s.version s.spaces (Some (varnode w)) ≡ early_lines s.version s.spaces stack ++ stack_line s.spaces (varnode w) ∷ []
@@ -162,8 +156,11 @@ proto_kept s l f o h =
     record {
       ordered = record { version = λ e. absurd (not_complete s.spaces (o.version e).0 complete); callees = o.callees; fixed = o.fixed; last = o.last };
       lines = up_to_protos front s.spaces (s.protos ++ proto_of l ∷ []) s.func s.callees s.fixed code s.ended (none_is s.func (right_false _ _ p.1.0)) (o.callees none) (o.fixed none) (no_code s f (o.last none)) (not_ended s f (o.last none))
-        ∙ protos_grow front s.spaces s.protos (proto_of l) ∙ ap (λ (r : List Line). r ++ proto_line s.spaces (proto_of l) ∷ []) (sym (before_func s f o none front s.spaces));
+          ∙ protos_grow front s.spaces s.protos (proto_of l) ∙ ap (λ (r : List Line). r ++ proto_line s.spaces (proto_of l) ∷ []) (sym (before_func s f o none front s.spaces));
     }
+
+no_protos : (n : ℕ) → 0 < n → n ≡ 0 → ⊥
+no_protos n some none = omega arith
 
 pub func_kept : (s : Said) (l : FunctionLine) → IsFormed s → IsOrdered s → first_fault (faults s (form.Func l)) ≡ None → IsKept s (after s (form.Func l)) (function_line (codes "func") s.spaces s.protos (function_of l))
 func_kept s l f o h =
@@ -174,10 +171,10 @@ func_kept s l f o h =
     let code : List Instruction = s.done ++ option_to_list s.last in
     let line : Line = function_line (codes "func") s.spaces s.protos (function_of l) in
     record {
-      ordered = record { version = λ e. absurd (let z = (o.version e).1.1 in omega (arith, some, z)); callees = λ e. absurd (never (sym e)); fixed = λ e. absurd (never (sym e)); last = λ e. absurd (never (sym e)) };
+      ordered = record { version = λ e. absurd (no_protos (length s.protos) some (o.version e).1.1); callees = λ e. absurd (never (sym e)); fixed = λ e. absurd (never (sym e)); last = λ e. absurd (never (sym e)) };
       lines = up_to_callees front s.spaces s.protos (Some (function_of l)) s.callees s.fixed code s.ended (o.fixed none) (no_code s f (o.last none)) (not_ended s f (o.last none))
-        ∙ ap (λ (cs : List Function). ((front ++ map (proto_line s.spaces) s.protos) ++ line ∷ []) ++ map (function_line (codes "callee") s.spaces s.protos) cs) (o.callees none) ∙ append-nil _
-        ∙ ap (λ (r : List Line). r ++ line ∷ []) (sym (before_func s f o none front s.spaces));
+          ∙ ap (λ (cs : List Function). ((front ++ map (proto_line s.spaces) s.protos) ++ line ∷ []) ++ map (function_line (codes "callee") s.spaces s.protos) cs) (o.callees none) ∙ append-nil _
+          ∙ ap (λ (r : List Line). r ++ line ∷ []) (sym (before_func s f o none front s.spaces));
     }
 
 pub callee_kept : (s : Said) (l : FunctionLine) → IsFormed s → IsOrdered s → first_fault (faults s (form.Callee l)) ≡ None → IsKept s (after s (form.Callee l)) (function_line (codes "callee") s.spaces s.protos (function_of l))
@@ -192,8 +189,8 @@ callee_kept s l f o h =
     record {
       ordered = record { version = o.version; callees = λ e. absurd (never_both _ e some); fixed = o.fixed; last = o.last };
       lines = up_to_callees front s.spaces s.protos s.func (s.callees ++ function_of l ∷ []) s.fixed code s.ended fixed (no_code s f none) (not_ended s f none)
-        ∙ callees_grow _ s.spaces s.protos s.callees (function_of l)
-        ∙ ap (λ (r : List Line). r ++ line ∷ []) (sym (up_to_callees front s.spaces s.protos s.func s.callees s.fixed code s.ended fixed (no_code s f none) (not_ended s f none)));
+          ∙ callees_grow _ s.spaces s.protos s.callees (function_of l)
+          ∙ ap (λ (r : List Line). r ++ line ∷ []) (sym (up_to_callees front s.spaces s.protos s.func s.callees s.fixed code s.ended fixed (no_code s f none) (not_ended s f none)));
     }
 
 pub bytes_kept : (s : Said) (l : BytesLine) → IsFormed s → IsOrdered s → first_fault (faults s (form.Bytes l)) ≡ None
@@ -207,9 +204,9 @@ bytes_kept s l f o h =
     record {
       ordered = record { version = o.version; callees = o.callees; fixed = λ e. absurd (never_both _ e some); last = o.last };
       lines = up_to_bytes front s.spaces s.protos s.func s.callees (s.fixed ++ record { space = number l.space; offset = l.offset; bytes = l.bytes } ∷ []) code s.ended (no_code s f none) (not_ended s f none)
-        ∙ bytes_grow _ s.spaces s.fixed (record { space = number l.space; offset = l.offset; bytes = l.bytes })
-        ∙ ap (λ (r : List Line). r ++ bytes_line s.spaces (record { space = number l.space; offset = l.offset; bytes = l.bytes }) ∷ [])
-        (sym (up_to_bytes front s.spaces s.protos s.func s.callees s.fixed code s.ended (no_code s f none) (not_ended s f none)));
+          ∙ bytes_grow _ s.spaces s.fixed (record { space = number l.space; offset = l.offset; bytes = l.bytes })
+          ∙ ap (λ (r : List Line). r ++ bytes_line s.spaces (record { space = number l.space; offset = l.offset; bytes = l.bytes }) ∷ [])
+          (sym (up_to_bytes front s.spaces s.protos s.func s.callees s.fixed code s.ended (no_code s f none) (not_ended s f none)));
     }
 
 pub at_kept : (s : Said) (l : AtLine) → IsOrdered s → first_fault (faults s (form.At l)) ≡ None → IsKept s (after s (form.At l)) (at_line (record { address = l.address; length = l.length; ops = [] }))

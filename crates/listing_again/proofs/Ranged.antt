@@ -1,13 +1,13 @@
 -- The lines that have any number of ranges: of prototypes and of operations.
-use Rattle.std.proofs.Common.{◌≡◌, ◌∙◌, ◌<◌, ◌≤◌, ◌+◌, ◌^◌, ℕ, Bool, true, false, List, [], ◌∷◌, ◌++◌, length, map, ap, sym, refl, arith, append_assoc, subst, rules}
-use Rattle.std.specs.Prelude.{◌==◌, ◌&&◌, ◌||◌, codes, Option, Some, None, IfSome, if◌then◌else◌}
+use Rattle.std.proofs.Common.{◌≡◌, ◌∙◌, ℕ, Bool, true, false, List, [], ◌∷◌, ◌++◌, map, ap, sym, refl, append_assoc, subst, rules}
+use Rattle.std.specs.Prelude.{◌&&◌, codes, Option, Some, None, IfSome, if◌then◌else◌}
 use Rattle.std.specs.List.{AllByRecursion, list_any}
-use Rattle.std.specs.Option.{is_none, option_map}
+use Rattle.std.specs.Option.{option_map}
 use Rattle.std.specs.Str.{bytes_eq}
 use Rattle.std.proofs.lemmas.Slice.Eq.{bytes_eq-Decides}
 use Rattle.listing_lines.specs.Text.{Line}
 use Rattle.listing_lines.specs.Tokens.{hexadecimal_of, is_name}
-use Rattle.listing_print.specs.Printed.{hexadecimal, op_line, output_parts, proto_line, range_part, result_part, spaced, storage_part}
+use Rattle.listing_print.specs.Printed.{hexadecimal, op_line, proto_line, range_part, result_part, spaced, storage_part}
 use Rattle.listing_print.specs.Words.{word_of}
 use Rattle.pcode_model.specs.declared.listing.Op.{Op}
 use Rattle.pcode_model.specs.declared.listing.Proto.{Proto}
@@ -15,17 +15,16 @@ use Rattle.pcode_model.specs.declared.listing.Space.{Space}
 use Rattle.pcode_model.specs.declared.opcode.Opcode.{Opcode}
 use Rattle.pcode_model.specs.WellFormed.{AreSpaces}
 use Rattle.pcodetext.specs.declared.said.Said.{Said}
-use Rattle.pcodetext.specs.declared.form.Form.{Form}
 use Rattle.pcodetext.specs.declared.form.Form.TheVariants as form
 use Rattle.pcodetext.specs.declared.form.OpLine.{OpLine}
 use Rattle.pcodetext.specs.declared.form.ProtoLine.{ProtoLine}
 use Rattle.pcodetext.specs.declared.form.Written.{Written}
 use Rattle.pcodetext.specs.Faults.{is_foreign, is_unknown_proto, of_no_argument, of_other, of_some, of_unknown}
-use Rattle.pcodetext.specs.Forms.{form_by, op_assigned, op_by, op_made, proto_args, proto_made, proto_rest}
+use Rattle.pcodetext.specs.Forms.{op_assigned, op_by, op_made, proto_args, proto_made}
 use Rattle.pcodetext.specs.Meaning.{storage_of, varnode}
 use Rattle.pcodetext.specs.Opcodes.{opcode_of}
 use Rattle.pcodetext.specs.Written.{before, range_of, range_or_none, ranges_of, ranges_until, with_first}
-use Rattle.pcodetext.proofs.Passing.{left_false, never, right_false}
+use Rattle.pcodetext.proofs.Passing.{left_false, right_false}
 use Rattle.listing_again.proofs.Cuts.{IsPart, all_append, spaced_append}
 use Rattle.listing_again.proofs.Numbers.{hexadecimal_back}
 use Rattle.listing_again.proofs.Ranges.{IsRange, IsReadBack, argument_back, canonical, kept_back, not_word, range_back}
@@ -87,6 +86,21 @@ result_back spaces (Some w) a h other known =
     let back = kept_back spaces w a h other known in
     (ap (λ (t : Bool). if t then Some None else option_map Some (range_of spaces (range_part spaces (varnode w)))) (not_word spaces (range_part spaces (varnode w)) (codes "none") w refl back.read) ∙ ap (option_map Some) back.read, back.part)
 
+args_word : IsPart (codes "args")
+args_word = search rules
+
+result_word : IsPart (codes "result")
+result_word = search rules
+
+pop_word : IsPart (codes "pop")
+pop_word = search rules
+
+keep_word : IsPart (codes "keep")
+keep_word = search rules
+
+proto_word : IsPart (codes "proto")
+proto_word = search rules
+
 abbrev pub proto_of : ProtoLine → Proto
 proto_of l = record { name = l.name; args = map storage_of l.args; gives = option_map varnode l.gives; pop = l.pop; keep = map varnode l.keep }
 
@@ -113,9 +127,9 @@ proto_again s l a h foreign unknown =
     let gives_back = result_back spaces l.gives a h.gives (right_false _ _ (left_false _ _ foreign)) (right_false _ _ (left_false _ _ unknown)) in
     let keep_back = keeps_back spaces l.keep a h.keep (right_false _ _ foreign) (right_false _ _ unknown) in
     let rest : List Line = gives ∷ codes "pop" ∷ hexadecimal l.pop ∷ codes "keep" ∷ keep in
-    let rest_parts : AllByRecursion IsPart (codes "result" ∷ rest) = (search rules, (gives_back.1, (search rules, (hexadecimal_part l.pop h.pop, (search rules, all_parts spaces keep l.keep keep_back))))) in
-    made_of s _ (codes "proto") (proto_parts l.name args gives l.pop keep) _ (proto_line_is l.name args gives l.pop keep) (search rules)
-    (name_part l.name h.name, (search rules, all_append IsPart args (codes "result" ∷ rest) (all_parts spaces args l.args args_back) rest_parts))
+    let rest_parts : AllByRecursion IsPart (codes "result" ∷ rest) = (result_word, (gives_back.1, (pop_word, (hexadecimal_part l.pop h.pop, (keep_word, all_parts spaces keep l.keep keep_back))))) in
+    made_of s _ (codes "proto") (proto_parts l.name args gives l.pop keep) _ (proto_line_is l.name args gives l.pop keep) proto_word
+    (name_part l.name h.name, (args_word, all_append IsPart args (codes "result" ∷ rest) (all_parts spaces args l.args args_back) rest_parts))
     (ap (λ (t : Bool). if t && true then proto_args spaces l.name (ranges_until (codes "result") spaces (args ++ codes "result" ∷ rest)) else form.Nothing) h.name
     ∙ ap (proto_args spaces l.name) (until_back (codes "result") rest spaces refl args l.args args_back)
     ∙ ap (λ (g : Option (Option Written)). proto_made l.name l.args g (hexadecimal_of (hexadecimal l.pop)) (ranges_of spaces keep)) gives_back.0

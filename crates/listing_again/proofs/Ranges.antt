@@ -1,9 +1,9 @@
 -- Ranges, places and names are read back from their canonical text.
-use Rattle.std.proofs.Common.{◌≡◌, ◌∙◌, ◌<◌, ◌≤◌, ◌+◌, ◌%◌, ◌^◌, ℕ, zero, suc, Bool, true, false, List, [], ◌∷◌, ◌++◌, length, map, ap, sym, refl, arith, subst, append_assoc}
+use Rattle.std.proofs.Common.{◌≡◌, ◌∙◌, ◌<◌, ◌≤◌, ◌+◌, ◌%◌, ◌^◌, ℕ, zero, suc, Bool, true, false, List, [], ◌∷◌, ◌++◌, map, ap, sym, refl, arith, subst, append_assoc}
 use Rattle.std.proofs.Math.Nat.{mod-le, mod-mod}
-use Rattle.std.specs.Prelude.{◌==◌, ◌&&◌, ◌||◌, nat_le, codes, decimal, Option, Some, None, IfSome, if◌then◌else◌, slice_get}
+use Rattle.std.specs.Prelude.{◌==◌, codes, decimal, Option, Some, None, IfSome, if◌then◌else◌, slice_get}
 use Rattle.std.specs.Fmt.{digits}
-use Rattle.std.specs.List.{AllByRecursion, list_all}
+use Rattle.std.specs.List.{list_all}
 use Rattle.std.specs.Option.{option_map}
 use Rattle.std.specs.Str.{bytes_eq}
 use Rattle.std.proofs.lemmas.Bool.Decides.{nat_tests}
@@ -14,12 +14,11 @@ use Rattle.listing_print.specs.Printed as printed
 use Rattle.listing_print.specs.Printed.{hexadecimal, name_of, place_part, range_part, sized_part, storage_part}
 use Rattle.pcode_model.specs.declared.listing.Space.{Space}
 use Rattle.pcode_model.specs.declared.listing.Proto.{Proto}
-use Rattle.pcode_model.specs.declared.listing.Varnode.{Varnode}
 use Rattle.pcodetext.specs.declared.form.Named.{Named}
 use Rattle.pcodetext.specs.declared.form.Named.TheVariants as named
 use Rattle.pcodetext.specs.declared.form.Written.{Written}
 use Rattle.pcode_model.specs.declared.listing.SpaceKind.{SpaceKind}
-use Rattle.pcode_model.specs.declared.listing.SpaceKind.TheVariants.{Constant, Ram, Register}
+use Rattle.pcode_model.specs.declared.listing.SpaceKind.TheVariants.{Register}
 use Rattle.pcode_model.specs.Ranges.{is_kind}
 use Rattle.pcode_model.specs.Spaces.{same_kind}
 use Rattle.pcode_model.specs.WellFormed.{AreSpaces}
@@ -29,7 +28,7 @@ use Rattle.pcodetext.proofs.Passing.{never, not_false}
 use Rattle.pcodetext.specs.Tables.{place_from, place_in, proto_name, space_name}
 use Rattle.pcodetext.specs.Written.{named_by, numbered, place_by, place_of, placed, range_by, range_of, written}
 use Rattle.listing_again.proofs.Cuts.{IsPart, IsToken, all_append, one_token, token_is_part, token_then}
-use Rattle.listing_again.proofs.Numbers.{both_true, decimal_back, decimal_small, decimal_token, hexadecimal_back, hexadecimal_small, hexadecimal_token, left_true, right_true}
+use Rattle.listing_again.proofs.Numbers.{decimal_back, decimal_small, decimal_token, hexadecimal_back, hexadecimal_small, hexadecimal_token, left_true, right_true}
 
 -- ---- names
 

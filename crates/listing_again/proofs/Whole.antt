@@ -1,10 +1,10 @@
 -- The canonical text of a listing that was read is read as that listing.
-use Rattle.std.proofs.Common.{◌≡◌, ◌∙◌, ◌<◌, ◌≤◌, ◌+◌, ℕ, suc, Bool, true, false, List, [], ◌∷◌, ◌++◌, length, map, ap, sym, refl, arith, subst, ap₂}
-use Rattle.std.specs.Prelude.{◌==◌, ◌&&◌, ◌||◌, not, codes, nat_le, Option, Some, None, IfSome, if◌then◌else◌}
+use Rattle.std.proofs.Common.{◌≡◌, ◌∙◌, ◌+◌, ℕ, Bool, true, false, List, [], ◌∷◌, ◌++◌, map, ap, sym, refl, subst, ap₂}
+use Rattle.std.specs.Prelude.{◌||◌, codes, nat_le, Option, Some, None, if◌then◌else◌}
 use Rattle.std.specs.List.{AllByRecursion, list_any}
-use Rattle.std.specs.Option.{is_none, is_some, option_map}
+use Rattle.std.specs.Option.{is_none, option_map}
 use Rattle.listing_lines.specs.Text.{Line, lines_of}
-use Rattle.listing_print.specs.Printed.{at_line, bytes_line, ended, function_line, op_line, proto_line, space_line, stack_line, text_of, version_line}
+use Rattle.listing_print.specs.Printed.{at_line, bytes_line, function_line, op_line, proto_line, space_line, stack_line, text_of, version_line}
 use Rattle.pcode_model.specs.declared.listing.Function.{Function}
 use Rattle.pcode_model.specs.declared.listing.Instruction.{Instruction}
 use Rattle.pcode_model.specs.declared.listing.Listing.{Listing}
@@ -21,7 +21,7 @@ use Rattle.pcodetext.specs.declared.form.OpLine.{OpLine}
 use Rattle.pcodetext.specs.declared.form.Written.{Written}
 use Rattle.pcodetext.specs.Faults.{faults, first_fault, is_empty, of_some, of_unknown}
 use Rattle.pcodetext.specs.Forms.{form_of, is_two}
-use Rattle.pcodetext.specs.Meaning.{Progress, Read, Step, advance, advanced, after, concluded, finished, function_of, is_skipped, listing_of, moved, number, reading, start, step, step_by, stepped, varnode, whole, with_op}
+use Rattle.pcodetext.specs.Meaning.{Progress, Step, advance, advanced, after, concluded, function_of, is_skipped, listing_of, moved, number, reading, start, step, step_by, stepped, varnode, whole, with_op}
 use Rattle.pcodetext.specs.Meaning.Progress.{Going, Stopped}
 use Rattle.pcodetext.specs.Meaning.Read.{Good, Bad}
 use Rattle.pcodetext.specs.Meaning.Step.{Fails, Goes}
@@ -65,7 +65,7 @@ any_same test same (w ∷ ws) = ap₂ (λ (a b : Bool). a || b) (same w) (any_sa
 op_faults : (s : Said) (l : OpLine) → faults s (form.Op (canonical_op l)) ≡ faults s (form.Op l)
 op_faults s l =
     ap₂ (λ (a b : Bool). (is_none s.last || s.ended, why.Order) ∷ ((is_none l.code || a) || b, why.Unknown) ∷ (nat_le 16384 s.ops, why.Range)
-        ∷ (of_some is_empty (option_map canonical l.out) || list_any is_empty (map canonical l.inputs), why.Range) ∷ [])
+    ∷ (of_some is_empty (option_map canonical l.out) || list_any is_empty (map canonical l.inputs), why.Range) ∷ [])
     (some_same of_unknown (λ w. refl) l.out) (any_same of_unknown (λ w. refl) l.inputs)
     ∙ ap₂ (λ (a b : Bool). (is_none s.last || s.ended, why.Order) ∷ ((is_none l.code || of_some of_unknown l.out) || list_any of_unknown l.inputs, why.Unknown) ∷ (nat_le 16384 s.ops, why.Range) ∷ (a || b, why.Range) ∷ [])
     (some_same is_empty (λ w. refl) l.out) (any_same is_empty (λ w. refl) l.inputs)
@@ -93,12 +93,14 @@ op_said s l o h none = by_code l.code refl (left_false _ _ (left_false _ _ p.1.0
     by_code : (c : Option Opcode) → l.code ≡ c → is_none c ≡ false → (line : Line) × IsSaidAgain s (after s (form.Op l)) line
     by_code None e known = absurd (never known)
     by_code (Some code) e known =
-        let read = op_again s l code e h (right_false _ _ (left_false _ _ p.1.0)) (right_false _ _ p.1.0) in
-        (op_line s.spaces (op_of l code), record {
-          kept = op_kept s l code e o none;
-          clean = read.clean;
-          said = says s (after s (form.Op l)) _ (form.Op (canonical_op l)) refl read (ap first_fault (op_faults s l) ∙ none) (ap (λ (last : Option Instruction). record s { last = last; ops = s.ops + 1 }) (with_same l l.code s.last));
-        })
+        let read = op_again s l code e h (right_false _ _ (left_false _ _ p.1.0)) (right_false _ _ p.1.0) in (
+          op_line s.spaces (op_of l code),
+          record {
+            kept = op_kept s l code e o none;
+            clean = read.clean;
+            said = says s (after s (form.Op l)) _ (form.Op (canonical_op l)) refl read (ap first_fault (op_faults s l) ∙ none) (ap (λ (last : Option Instruction). record s { last = last; ops = s.ops + 1 }) (with_same l l.code s.last));
+          },
+        )
 
 said_again : (s : Said) (f : Form) → IsFormed s → IsOrdered s → IsTold (is_two s.version) s.spaces s.protos f → first_fault (faults s f) ≡ None → (line : Line) × IsSaidAgain s (after s f) line
 said_again s form.Nothing g o h none = absurd (never (all_false (faults s form.Nothing) none).0)

@@ -4,3 +4,6 @@
 mod again;
 
 pub use again::{canonical_text, print_listing};
+
+#[cfg(test)]
+mod tests;
