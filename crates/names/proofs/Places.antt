@@ -1,6 +1,7 @@
 -- The place of a name among texts.
-use Rattle.std.proofs.Common.{◌≡◌, ◌∙◌, ◌+◌, ℕ, suc, Bool, true, false, List, [], ◌∷◌, ◌++◌, map, ap, ap₂, sym, refl}
-use Rattle.std.specs.Prelude.{◌||◌, Option, Some, None, if◌then◌else◌, position}
+use Rattle.std.proofs.Common.{◌≡◌, ◌∙◌, ◌+◌, ◌<◌, ℕ, suc, Bool, true, false, List, [], ◌∷◌, ◌++◌, length, map, ap, ap₂, sym, refl, arith}
+use Rattle.std.specs.Prelude.{◌||◌, IsSome, Option, Some, None, if◌then◌else◌, position}
+use Rattle.std.specs.Option.{option_to_list}
 use Rattle.std.specs.List.{list_any}
 use Rattle.std.specs.List.{position_from}
 use Rattle.std.proofs.lemmas.Iterator.Adapters.{position_from-zero}
@@ -62,3 +63,41 @@ pub grown : {A : Type 0} (text : A → List ℕ) (name : List ℕ) (names : List
     → ys ≡ (if list_any (λ y. bytes_eq (text x) (text y)) xs then xs else xs ++ x ∷ []) → map text ys ≡ names ++ name ∷ []
 grown text name names xs ys x known is none e =
     added text name xs ys x is (ap (place_in name) known ∙ none) e ∙ ap (λ (r : List (List ℕ)). r ++ name ∷ []) known
+
+pub map_length : {A : Type 0} (text : A → List ℕ) (xs : List A) → length (map text xs) ≡ length xs
+map_length text [] = refl
+map_length text (x ∷ xs) = let more = map_length text xs in omega (arith, more)
+
+-- what stands before the last name
+front_of : (a b : List (List ℕ)) (x y : List ℕ) → a ++ x ∷ [] ≡ b ++ y ∷ [] → a ≡ b
+front_of [] [] x y e = refl
+front_of [] (b ∷ bs) x y e = absurd (too_long bs (ap length e))
+  where
+    too_long : (cs : List (List ℕ)) → length (x ∷ []) ≡ length (b ∷ (cs ++ y ∷ [])) → ⊥
+    too_long [] e = omega (arith, e)
+    too_long (c ∷ cs) e = omega (arith, e)
+front_of (a ∷ more) [] x y e = absurd (too_long more (ap length e))
+  where
+    too_long : (cs : List (List ℕ)) → length (a ∷ (cs ++ x ∷ [])) ≡ length (y ∷ []) → ⊥
+    too_long [] e = omega (arith, e)
+    too_long (c ∷ cs) e = omega (arith, e)
+front_of (a ∷ more) (b ∷ bs) x y e = heads a b (more ++ x ∷ []) (bs ++ y ∷ []) e (front_of more bs x y)
+  where
+    heads : (c d : List ℕ) (cs ds : List (List ℕ)) → c ∷ cs ≡ d ∷ ds → (cs ≡ ds → more ≡ bs) → c ∷ more ≡ d ∷ bs
+    heads c d cs ds is next = let tail : cs ≡ ds = cc in let rest : more ≡ bs = next tail in let head : c ≡ d = cc in cc
+
+-- the names after the last key was taken out
+pub shrunk : {A : Type 0} (text : A → List ℕ) (old new : List A) (last : Option A) (now names : List (List ℕ)) (name : List ℕ) → old ≡ new ++ option_to_list last → (0 < length old → IsSome last)
+    → map text old ≡ now → now ≡ names ++ name ∷ [] → map text new ≡ names
+shrunk text old new None now names name e some is was = absurd (no (some (positive (length old) (length names) (sym (map_length text old) ∙ ap length (is ∙ was) ∙ snoc names))))
+  where
+    no : false ≡ true → ⊥
+    no h = never (sym h)
+
+    snoc : (ns : List (List ℕ)) → length (ns ++ name ∷ []) ≡ length ns + 1
+    snoc [] = refl
+    snoc (n ∷ ns) = let more = snoc ns in omega (arith, more)
+
+    positive : (m n : ℕ) → m ≡ n + 1 → 0 < m
+    positive m n e = omega (arith, e)
+shrunk text old new (Some x) now names name e some is was = front_of (map text new) names (text x) name (sym (map_more text new x) ∙ sym (ap (map text) e) ∙ is ∙ was)

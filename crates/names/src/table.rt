@@ -1,6 +1,6 @@
 //! A table of names.
 
-ghost use Rattle.std.specs.Prelude.{◌≡◌, ◌∷◌, ◌++◌, [], None, OnOk};
+ghost use Rattle.std.specs.Prelude.{◌≡◌, ◌∷◌, ◌++◌, ◌<◌, [], ℕ, List, None, length, IfSome, OnErr, OnOk};
 ghost use Rattle.names.specs.Names.{place_in};
 
 use indexmap::IndexSet;
@@ -32,7 +32,8 @@ impl NameTable {
 
     /// The number of a name, if it stands in the table.
     pub fn number(&self, name: &[u8]) -> Option<usize>
-        ensures { result ≡ place_in name.now self.now }
+        ensures place { result ≡ place_in name.now self.now }
+        ensures within { IfSome result (λ n. n < length self.now) }
     {
         self.names.get_index_of(name)
     }
@@ -40,12 +41,20 @@ impl NameTable {
     /// Adds a name that doesn't stand in the table yet.
     pub fn push(&mut self, alloc: Global, name: &[u8]) -> Result<(), AllocError>
         requires { place_in name.now self.old ≡ None }
-        ensures { OnOk result (self.new ≡ self.old ++ name.now ∷ []) }
+        ensures ok { OnOk result (self.new ≡ self.old ++ name.now ∷ []) }
+        ensures err { OnErr result (self.new ≡ self.old) }
     {
         let copy = Vec::from_slice(alloc, name)?;
         match self.names.insert(copy) {
             Ok(_) => Ok(()),
             Err(_) => Err(AllocError),
         }
+    }
+
+    /// Takes the last name out.
+    pub fn pop(&mut self)
+        ensures { (names : List (List ℕ)) (name : List ℕ) → self.old ≡ names ++ name ∷ [] → self.new ≡ names }
+    {
+        self.names.pop();
     }
 }
