@@ -89,7 +89,8 @@ number_small radix most ds one = by_test _ refl
     by_test true e =
         let rest : (nat_le (length ds) most && list_all (λ b. is_digit b radix) ds) ≡ true = right_true (nat_le 1 (length ds)) (nat_le (length ds) most && list_all (λ b. is_digit b radix) ds) e in
         let few : length ds ≤ most = is_within _ _ (left_true _ _ rest) in
-        let lower : digits_value radix ds < radix ^ length ds = digits_value-lt radix ds (digits_all radix ds (right_true _ _ rest)) in
+        let all : AllDigits radix ds = digits_all radix ds (right_true (nat_le (length ds) most) (list_all (λ b. is_digit b radix) ds) rest) in
+        let lower : digits_value radix ds < radix ^ length ds = digits_value-lt radix ds all in
         let power : radix ^ length ds ≤ radix ^ most = pow-le-pow_right one few in
         omega (arith, lower, power)
 
