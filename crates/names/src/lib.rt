@@ -4,3 +4,6 @@
 mod table;
 
 pub use table::NameTable;
+
+#[cfg(test)]
+mod tests;
