@@ -10,4 +10,4 @@ returns-clause-lowers c =
     let n = c.in_ok-name.ensures in
     let w = c.result_width.ensures in
     let is : c.in_ok-function.function ≡ plain_function c.args.listing.now c.in_ok-flow.flow c.in_ok-atoms.atoms = cc in
-    lowers c.args.listing.now c.requires.ops c.requires.built c.in_ok-flow.flow c.in_ok-flow.ensures.blocks c.in_ok-flow.ensures.no_fault c.in_ok-flow.ensures.few c.in_ok-atoms.atoms c.in_ok-atoms.ensures.ok c.in_ok-function.function is
+    lowers c.args.listing.now c.requires.read c.requires.ops c.requires.supported c.in_ok-flow.flow c.in_ok-flow.ensures.blocks c.in_ok-flow.ensures.no_fault c.in_ok-flow.ensures.few c.in_ok-atoms.atoms c.in_ok-atoms.ensures.ok c.in_ok-function.function is
