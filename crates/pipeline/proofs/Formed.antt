@@ -27,7 +27,7 @@ use Rattle.pcodetext.specs.Formed.{HasKnownOps, IsKnown, IsKnownOp, IsRead}
 use Rattle.supported.specs.Ranges.{code_ranges, is_local, is_local_kind, local_of, locals_of, named_ranges, op_ranges, ops_ranges, output_of, result_range, storage_range, storage_ranges}
 use Rattle.plain_laws.proofs.Accessed.{in_either}
 use Rattle.plain_laws.proofs.Formed.{IsFormed, IsInput, IsWritten, Inside}
-use Rattle.plain_laws.proofs.Rules.{both, breaks_none, either, neither}
+use Rattle.plain_laws.proofs.Rules.{both, breaks_none, neither}
 use Rattle.plain_laws.proofs.Standing.{StandsIn}
 use Rattle.pipeline.proofs.Spaces.{constant_is, first_constant, kind_at, kind_of_first, low, only}
 
@@ -171,11 +171,12 @@ no_output_constant (Some z) h v (inl same) e = let f : z.space ≡ 0 = sym (ap (
 no_output_constant (Some z) h v (inr is) e = absurd is
 
 -- a destination that names an address is in the first ram space
+by_either : (a b : Bool) → not a ≡ true → or a b ≡ true → b ≡ true
+by_either true b other h = absurd (cc)
+by_either false b other h = h
+
 ram_of : (l : Listing) (x : Varnode) → not (is_constant x) ≡ true → or (is_constant x) (is_in_first_ram l x) ≡ true → x.space ≡ first_ram l
-ram_of l x names stands = elim (either _ _ stands) [
-  | inl constant ↦ absurd (let f = false_of _ names in cc)
-  | inr first ↦ same_number x.space (first_ram l) first
-]
+ram_of l x names stands = same_number x.space (first_ram l) (by_either (is_constant x) (is_in_first_ram l x) names stands)
 
 destination : (l : Listing) (code : Opcode) (x : Varnode) (vs : List Varnode) → names_address code (x ∷ vs) ≡ true → inputs_stand l code (x ∷ vs) ≡ true → x.space ≡ first_ram l
 destination l O.Branch x vs names stands = ram_of l x names stands

@@ -4,3 +4,5 @@ pub mod Forms
 pub mod Names
 pub mod Spaces
 pub mod Formed
+pub mod Ordered
+pub mod Verdicts

@@ -8,8 +8,9 @@ use Rattle.listing_lines.specs.Tokens as lines
 use Rattle.cmeaning.specs.Valid as tree
 use Rattle.plain_laws.proofs.Rules.{both}
 
-all_of : (a b c : Bool) → a ≡ true → b ≡ true → c ≡ true → (a && (b && c)) ≡ true
-all_of a b c e f g = cc
+and_true : (a b : Bool) → a ≡ true → b ≡ true → (a && b) ≡ true
+and_true true b e f = f
+and_true false b e f = absurd (cc)
 
 turned : (a b c : Bool) → (a || (b || c)) ≡ true → or b (or c a) ≡ true
 turned true true c h = refl
@@ -32,7 +33,7 @@ byte_is b h = by_letter (lines.is_letter b) (tree.is_letter b) (nat_le 48 b && n
 
 bytes_are : (bs : List ℕ) → list_all lines.is_name_byte bs ≡ true → tree.all_letters_or_digits bs ≡ true
 bytes_are [] h = refl
-bytes_are (b ∷ bs) h = let p = both _ _ h in let here = byte_is b p.0 in let rest = bytes_are bs p.1 in cc
+bytes_are (b ∷ bs) h = let p = both _ _ h in and_true _ _ (byte_is b p.0) (bytes_are bs p.1)
 
 one_more : (n : ℕ) → nat_le n 63 ≡ true → nat_le (suc n) 64 ≡ true
 one_more n h = grind (arith, nat_tests)
@@ -49,7 +50,5 @@ name_is [] h = absurd (cc)
 name_is (b ∷ bs) h =
     let p = both _ _ h in
     let q = both _ _ p.1 in
-    let first = first_is b p.0 in
-    let rest = bytes_are bs q.1 in
-    let all : tree.all_letters_or_digits (b ∷ bs) ≡ true = cc in
-    all_of (tree.is_letter b) (tree.all_letters_or_digits (b ∷ bs)) (nat_le (length (b ∷ bs)) 64) (letter_is b p.0) all (one_more (length bs) q.0)
+    let all = and_true _ _ (first_is b p.0) (bytes_are bs q.1) in
+    and_true _ _ (letter_is b p.0) (and_true _ _ all (one_more (length bs) q.0))

@@ -80,28 +80,31 @@ low (s ∷ declared) h (suc n) not = declared_low declared h.1 n
 
 pub kind_of_first : (k : SpaceKind) (spaces : List Space) → 1 ≤ how_many k spaces → kind_at spaces (number_of k spaces) ≡ k
 kind_of_first k [] h = absurd (omega arith)
-kind_of_first k (s ∷ rest) h = by_kind (same_kind k s.kind) refl h
+kind_of_first k (s ∷ rest) h = by_kind (same_kind k s.kind) refl (kind_of_first k rest) h
   where
-    by_kind : (t : Bool) → same_kind k s.kind ≡ t → 1 ≤ (if t then suc (how_many k rest) else how_many k rest) → kind_at (s ∷ rest) (if t then 0 else suc (number_of k rest)) ≡ k
-    by_kind true e h = sym (same_is k s.kind e)
-    by_kind false e h = kind_of_first k rest h
+    by_kind : (t : Bool) → same_kind k s.kind ≡ t → (1 ≤ how_many k rest → kind_at rest (number_of k rest) ≡ k) → 1 ≤ (if t then suc (how_many k rest) else how_many k rest)
+        → kind_at (s ∷ rest) (if t then 0 else suc (number_of k rest)) ≡ k
+    by_kind true e more h = sym (same_is k s.kind e)
+    by_kind false e more h = more h
 
 none_there : (k : SpaceKind) → (k ≡ Constant → ⊥) → (spaces : List Space) → how_many k spaces ≡ 0 → (n : ℕ) → kind_at spaces n ≡ k → ⊥
-none_there k not [] h n e = not (sym e)
-none_there k not (s ∷ rest) h n e = by_kind (same_kind k s.kind) refl h n e
+none_there k other [] h n e = other (sym e)
+none_there k other (s ∷ rest) h n e = by_kind (same_kind k s.kind) refl (none_there k other rest) h n e
   where
-    by_kind : (t : Bool) → same_kind k s.kind ≡ t → (if t then suc (how_many k rest) else how_many k rest) ≡ 0 → (n : ℕ) → kind_at (s ∷ rest) n ≡ k → ⊥
-    by_kind true f h n e = absurd (omega arith)
-    by_kind false f h zero e = differ k s.kind f e
-    by_kind false f h (suc n) e = none_there k not rest h n e
+    by_kind : (t : Bool) → same_kind k s.kind ≡ t → (how_many k rest ≡ 0 → (n : ℕ) → kind_at rest n ≡ k → ⊥) → (if t then suc (how_many k rest) else how_many k rest) ≡ 0
+        → (n : ℕ) → kind_at (s ∷ rest) n ≡ k → ⊥
+    by_kind true f more h n e = absurd (omega arith)
+    by_kind false f more h zero e = differ k s.kind f e
+    by_kind false f more h (suc n) e = more h n e
 
 -- where there is one space of a kind, it is the first one
 pub only : (k : SpaceKind) → (k ≡ Constant → ⊥) → (spaces : List Space) → how_many k spaces ≡ 1 → (n : ℕ) → kind_at spaces n ≡ k → n ≡ number_of k spaces
-only k not [] h n e = absurd (omega arith)
-only k not (s ∷ rest) h n e = by_kind (same_kind k s.kind) refl h n e
+only k other [] h n e = absurd (omega arith)
+only k other (s ∷ rest) h n e = by_kind (same_kind k s.kind) refl (only k other rest) h n e
   where
-    by_kind : (t : Bool) → same_kind k s.kind ≡ t → (if t then suc (how_many k rest) else how_many k rest) ≡ 1 → (n : ℕ) → kind_at (s ∷ rest) n ≡ k → n ≡ (if t then 0 else suc (number_of k rest))
-    by_kind true f h zero e = refl
-    by_kind true f h (suc n) e = absurd (none_there k not rest (omega arith) n e)
-    by_kind false f h zero e = absurd (differ k s.kind f e)
-    by_kind false f h (suc n) e = ap suc (only k not rest h n e)
+    by_kind : (t : Bool) → same_kind k s.kind ≡ t → (how_many k rest ≡ 1 → (n : ℕ) → kind_at rest n ≡ k → n ≡ number_of k rest) → (if t then suc (how_many k rest) else how_many k rest) ≡ 1
+        → (n : ℕ) → kind_at (s ∷ rest) n ≡ k → n ≡ (if t then 0 else suc (number_of k rest))
+    by_kind true f more h zero e = refl
+    by_kind true f more h (suc n) e = absurd (none_there k other rest (omega arith) n e)
+    by_kind false f more h zero e = absurd (differ k s.kind f e)
+    by_kind false f more h (suc n) e = ap suc (more h n e)

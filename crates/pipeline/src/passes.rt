@@ -2,6 +2,7 @@
 ghost use Rattle.std.specs.Prelude.{◌≡◌, ◌-◌, ◌^◌, ◌≤◌, length, IfErr, IfOk, List, [], None, OnOk};
 ghost use Rattle.pcode_model.specs.Flow.{IsFlow, NoFault};
 ghost use Rattle.pcode_model.specs.Rules.{first_bad};
+ghost use Rattle.pcode_model.specs.WellFormed.{IsWellFormed};
 ghost use Rattle.pcodetext.specs.Formed.{IsRead};
 ghost use Rattle.pipeline.specs.Lowers.{Lowers, StopsLowering};
 ghost use Rattle.pipeline.specs.Outcome.{IsCause};
@@ -56,8 +57,7 @@ pub fn lower(alloc: Global, listing: &Listing) -> Result<CFunction, Refusal>
 }
 
 fn blocks(alloc: Global, listing: &Listing) -> Result<Flow, Refusal>
-    requires read { IsRead listing.now }
-    requires supported { IsSupported listing.now }
+    requires formed { IsWellFormed listing.now }
     ensures blocks { IfOk result (λ flow. IsFlow listing.now [] flow) }
     ensures no_fault { OnOk result (NoFault listing.now []) }
     ensures few { IfOk result (λ flow. length flow ≤ 2048) }

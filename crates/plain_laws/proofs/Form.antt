@@ -92,7 +92,7 @@ mapped l (x ∷ xs) (suc n) v h = mapped l xs n v h
 
 -- ---- atoms in order are different ranges
 
-before_trans : (r s t : ParamStorage) → StandsBefore r s → StandsBefore s t → StandsBefore r t
+pub before_trans : (r s t : ParamStorage) → StandsBefore r s → StandsBefore s t → StandsBefore r t
 before_trans (P.Register a) (P.Register b) (P.Register c) p q = omega (arith, p, q)
 before_trans (P.Register a) (P.Register b) (P.Unique c) p q = tt
 before_trans (P.Register a) (P.Register b) (P.Stack c) p q = absurd q
@@ -116,7 +116,7 @@ order_tail : (a : Atom) (rest : List Atom) → InOrder (a ∷ rest) → InOrder 
 order_tail a [] h = tt
 order_tail a (x ∷ rest) h = h.1
 
-spaces_differ : (l : Listing) → IsFormed l → register_space l ≡ unique_space l → ⊥
+pub spaces_differ : (l : Listing) → IsFormed l → register_space l ≡ unique_space l → ⊥
 spaces_differ l formed e =
     let P : ℕ → Type 0 = λ n. kind_of l n ≡ Unique in
     kinds_differ (sym formed.register ∙ subst P (sym e) formed.unique) where

@@ -1,7 +1,16 @@
-use Rattle.std.proofs.Common.{◌≡◌}
+use Rattle.std.proofs.Common.{◌≡◌, arith}
 use Rattle.plaincode.specs.Lowered.{plain_function}
 use Rattle.pipeline.proofs.Forms.{lowers}
 use Rattle.pipeline.proofs.passes.lower.Goals as goal
+
+pub blocks-requires : goal.blocks-requires
+blocks-requires c = record { formed = c.requires.read.formed }
+
+pub plain-requires-clause-code : goal.plain-requires-clause-code
+plain-requires-clause-code c = c.requires.read.formed.apart
+
+pub plain-requires-clause-spaces : goal.plain-requires-clause-spaces
+plain-requires-clause-spaces c = let few = c.requires.read.limited.spaces in omega (arith, few)
 
 pub returns-clause-lowers : goal.returns-clause-lowers
 returns-clause-lowers c =

@@ -7,3 +7,6 @@ atoms-requires-clause-sized c = accessed_sized c.args.listing.now c.requires.sup
 
 pub atoms-requires-clause-apart : goal.atoms-requires-clause-apart
 atoms-requires-clause-apart c = accessed_equal_or_apart c.args.listing.now c.requires.supported (formed_is c.args.listing.now c.requires.read c.requires.ops)
+
+pub atoms-requires-clause-instructions : goal.atoms-requires-clause-instructions
+atoms-requires-clause-instructions c = c.requires.read.formed.apart
