@@ -19,21 +19,34 @@ fn add(graph: &mut OpGraph, block: BlockId, before: OpId) -> Result<OpId, Memory
     if !graph.contains_block(block) || !graph.contains_value(value(before)) {
         return Ok(before);
     }
-    graph.add_op(block, Code::Add, &[value(before), value(before)], Some(WIDTH))
+    graph.add_op(
+        block,
+        Code::Add,
+        &[value(before), value(before)],
+        Some(WIDTH),
+    )
 }
 
 /// The op reads the constant alone.
 fn retarget(graph: &mut OpGraph, op: OpId, constant: OpId) {
-    if graph.contains_op(op) && graph.input_count(op) == 2 && graph.contains_value(value(constant)) {
+    if graph.contains_op(op)
+        && graph.input_count(op) == 2
+        && graph.contains_value(value(constant))
+    {
         graph.retarget(op, Code::Negate, &[value(constant)]);
     }
 }
 
 /// The op goes, where nothing reads it.
 fn remove(graph: &mut OpGraph, op: OpId, constant: OpId) {
-    if op.0 != constant.0 && graph.contains_value(value(op)) && graph.contains_value(value(constant)) {
+    if op.0 != constant.0
+        && graph.contains_value(value(op))
+        && graph.contains_value(value(constant))
+    {
         graph.replace_uses(value(op), value(constant));
-        graph.remove(op);
+        if graph.contains_op(op) {
+            graph.remove(op);
+        }
     }
 }
 
