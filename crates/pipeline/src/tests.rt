@@ -22,10 +22,7 @@ struct Ended {
 }
 
 fn source(alloc: Global, input: &[u8]) -> Result<MemSource, Memory> {
-    Ok(MemSource::new(
-        Bytes::copy_of(alloc, input)?,
-        Fails::new(alloc),
-    ))
+    Ok(MemSource::new(Bytes::copy_of(alloc, input)?, Fails::new(alloc)))
 }
 
 fn sink(alloc: Global, room: u32) -> Result<MemSink, Memory> {
@@ -187,7 +184,11 @@ fn a_write_to_out_that_fails_is_told(rt: HostRuntime) -> Result<(), Fail> {
         let out = MemSink::new(alloc, 65536, failing(alloc, number)?)?;
         let ended = told(alloc, &words, source(alloc, ADD1)?, out, sink(alloc, 99)?)?;
         assert_eq!(rt; ended.status == 4, number == 0, "write {number}");
-        assert_eq!(rt; ended.out.as_slice().is_empty(), number == 0, "write {number}");
+        assert_eq!(rt;
+            ended.out.as_slice().is_empty(),
+            number == 0,
+            "write {number}"
+        );
         assert!(rt; ended.err.as_slice().is_empty(), "write {number}");
     }
     for room in 0..200u32 {

@@ -120,8 +120,8 @@ pub spaces_differ : (l : Listing) → IsFormed l → register_space l ≡ unique
 spaces_differ l formed e =
     let P : ℕ → Type 0 = λ n. kind_of l n ≡ Unique in
     kinds_differ (sym formed.register ∙ subst P (sym e) formed.unique) where
-  kinds_differ : Register ≡ Unique → ⊥
-  kinds_differ h = cc
+      kinds_differ : Register ≡ Unique → ⊥
+      kinds_differ h = cc
 
 different : (l : Listing) → IsFormed l → (s t : ParamStorage) (j k : ℕ) → StandsBefore s t → range_at l s j ≡ range_at l t k → ⊥
 different l formed (P.Register a) (P.Register b) j k p e = let f : a ≡ b = ap (λ v. v.offset) e in absurd (omega (arith, p, f))
