@@ -4,6 +4,7 @@ pub mod SlotEdits
 pub mod OpEdits
 pub mod Relinks
 pub mod MoveAll
+pub mod Members
 pub mod More
 pub mod Empty
 pub mod Sames

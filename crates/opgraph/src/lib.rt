@@ -10,6 +10,8 @@ pub mod growth;
 pub mod ids;
 pub mod reads;
 pub mod slots;
+#[cfg(test)]
+mod tests;
 pub mod walks;
 
 pub use code::{Body, Code};

@@ -1,10 +1,10 @@
 //! What the graph says.
-ghost use Rattle.std.specs.Prelude.{◌≡◌, ◌<◌, length, Some, IsSome, IfSome, slice_get};
-ghost use Rattle.opgraph.specs.Graph.{OpRow, op_at, IsOp, IsValue, inputs_in, IsWhole};
+ghost use Rattle.std.specs.Prelude.{◌≡◌, ◌<◌, ◌↔◌, length, Some, IsTrue, IsSome, IfSome, slice_get};
+ghost use Rattle.opgraph.specs.Graph.{OpRow, op_at, IsOp, IsBlock, IsValue, inputs_in, IsWhole};
 
 use crate::code::Code;
 use crate::graph::OpGraph;
-use crate::ids::{OpId, ValueId};
+use crate::ids::{BlockId, OpId, ValueId};
 use bits_core::Width;
 
 impl OpGraph {
@@ -13,6 +13,35 @@ impl OpGraph {
         ensures { IsWhole self.now }
     {
         let _ = &self.ops;
+    }
+
+    /// Whether the op is in the graph.
+    pub fn contains_op(&self, op: OpId) -> bool
+        ensures { IsTrue result ↔ IsOp self.now op.0 }
+    {
+        if op.0 < self.ops.size() {
+            self.ops.list(op.0).is_some()
+        } else {
+            false
+        }
+    }
+
+    /// Whether the value is in the graph: that of an op with a width.
+    pub fn contains_value(&self, v: ValueId) -> bool
+        ensures { IsTrue result ↔ IsValue self.now v.0 }
+    {
+        if self.contains_op(OpId(v.0)) {
+            self.width(OpId(v.0)).is_some()
+        } else {
+            false
+        }
+    }
+
+    /// Whether the block is in the graph.
+    pub fn contains_block(&self, b: BlockId) -> bool
+        ensures { IsTrue result ↔ IsBlock self.now b.0 }
+    {
+        b.0 < self.ops.lists()
     }
 
     /// The op whose value it is.

@@ -26,10 +26,20 @@ use Rattle.pcodetext.specs.declared.form.ProtoLine.{ProtoLine}
 use Rattle.pcodetext.specs.declared.form.SpaceLine.{SpaceLine}
 use Rattle.pcodetext.specs.declared.form.Written.{Written}
 use Rattle.pcodetext.specs.Faults.{has_bad_size, is_bad_argument, is_bad_kept, is_bad_proto, is_bad_result, is_complete, is_empty, is_far, is_first_ram, is_foreign, is_misplaced, is_no_argument, is_of_kind, is_other, is_outside, is_stack, is_unknown, is_unknown_proto, leaves_known, leaves_space, meets_stack, of_no_argument, of_other, of_some, of_unknown}
+use Rattle.pcodetext.specs.Formed.{HasKnownOps, IsKnown, IsKnownOp, IsNamedFunction, IsNamedProto, IsNamedSpace, total_ops}
 use Rattle.pcodetext.specs.Meaning.{function_of, number, proto_number, reduced, storage_of, varnode}
-use Rattle.pcodetext.proofs.FormIs.{NamesProto}
-use Rattle.pcodetext.proofs.Instructions.{total_ops}
+use Rattle.pcodetext.proofs.FormIs.{IsAmong, IsWritten, NamesProto}
 use Rattle.pcodetext.proofs.Passing.{all_map, all_snoc, eq_true, le_false, left_false, lt_false, lt_true, never, not_false, right_false, zero_false}
+
+-- what is declared: its names have their form, and there isn't too much of it
+pub record AreDeclared (spaces : List Space) (protos : List Proto) (func : Option Function) (callees : List Function) : Type 0 where
+  pub spaces_named : AllByRecursion IsNamedSpace spaces
+  pub protos_named : AllByRecursion IsNamedProto protos
+  pub func_named : IfSome func IsNamedFunction
+  pub callees_named : AllByRecursion IsNamedFunction callees
+  pub spaces_few : length spaces ≤ 9
+  pub protos_few : length protos ≤ 64
+  pub callees_few : length callees ≤ 1024
 
 -- before the first prototype there is nothing after the spaces but the stack pointer
 pub record IsEarly (s : Said) : Type 0 where
@@ -55,6 +65,8 @@ pub record IsFormed (s : Said) : Type 0 where
   pub total : total_ops (s.done ++ option_to_list s.last) ≡ s.ops
   pub few : s.ops ≤ 16384
   pub closed : s.ended ≡ true → is_some s.last ≡ true
+  pub declared : AreDeclared s.spaces s.protos s.func s.callees
+  pub known : AllByRecursion (HasKnownOps s.spaces) (s.done ++ option_to_list s.last)
 
 -- ---- parts
 
@@ -163,6 +175,24 @@ output_is (Some w) some = operand_is w some
 pub inputs_are : (ws : List Written) → list_any is_empty ws ≡ false → AllByRecursion IsOperand (map varnode ws)
 inputs_are [] some = tt
 inputs_are (w ∷ ws) some = (operand_is w (left_false _ _ some), inputs_are ws (right_false _ _ some))
+
+-- a range with the number of one of so many spaces
+known_by : (n : ℕ) (space : Named) → 0 < n → IsAmong n space → number space < n
+known_by n (named.Space k) some h = h
+known_by n named.Stack some h = some
+known_by n named.Unknown some h = some
+
+some_spaces : (spaces : List Space) → AreSpaces spaces → 0 < length spaces
+some_spaces [] h = absurd h
+some_spaces (s ∷ declared) h = omega arith
+
+pub output_known : (spaces : List Space) → AreSpaces spaces → (out : Option Written) → IfSome out (IsWritten (length spaces)) → IfSome (option_map varnode out) (IsKnown spaces)
+output_known spaces h None is = tt
+output_known spaces h (Some w) is = known_by (length spaces) w.space (some_spaces spaces h) is
+
+pub inputs_known : (spaces : List Space) → AreSpaces spaces → (ws : List Written) → AllByRecursion (IsWritten (length spaces)) ws → AllByRecursion (IsKnown spaces) (map varnode ws)
+inputs_known spaces h [] is = tt
+inputs_known spaces h (w ∷ ws) is = (known_by (length spaces) w.space (some_spaces spaces h) is.0, inputs_known spaces h ws is.1)
 
 misplaced_by : (spaces : List Space) (space : Named) (address : ℕ) → (not (is_first_ram spaces space) || leaves_known spaces space address 1) ≡ false → leaves spaces (number_of Ram spaces) address 1 ≡ false
 misplaced_by spaces (named.Space n) address h =

@@ -7,8 +7,8 @@ use Rattle.pcode_model.specs.declared.listing.Instruction.{Instruction}
 use Rattle.pcode_model.specs.declared.listing.Op.{Op}
 use Rattle.pcode_model.specs.Flow.{AreApart}
 use Rattle.pcode_model.specs.Rules.{HasFewOps}
-use Rattle.pcode_model.specs.WellFormed.{HasOps, IsOp}
 use Rattle.pcodetext.specs.Faults.{is_behind, of_some}
+use Rattle.pcodetext.specs.Formed.{total_ops}
 use Rattle.pcodetext.proofs.Passing.{all_snoc, le_false, left_false, lt_false, never, right_false}
 
 apart_snoc : (xs : List Instruction) (x y : Instruction) → AreApart (xs ++ x ∷ []) → x.address + x.length ≤ y.address → 0 < y.length → AreApart ((xs ++ x ∷ []) ++ y ∷ [])
@@ -27,11 +27,6 @@ pub apart_same : (done : List Instruction) (x y : Instruction) → x.address ≡
 apart_same [] x y at long h = subst (λ (n : ℕ). 0 < n) long h
 apart_same (a ∷ []) x y at long h = (h.0, (subst (λ (n : ℕ). a.address + a.length ≤ n) at h.1.0, subst (λ (n : ℕ). 0 < n) long h.1.1))
 apart_same (a ∷ b ∷ rest) x y at long h = (h.0, (h.1.0, apart_same (b ∷ rest) x y at long h.1.1))
-
--- how many ops instructions have
-abbrev pub total_ops : List Instruction → ℕ
-total_ops [] = 0
-total_ops (i ∷ rest) = length i.ops + total_ops rest
 
 pub total_more : (xs : List Instruction) (y : Instruction) → total_ops (xs ++ y ∷ []) ≡ total_ops xs + length y.ops
 total_more [] y = omega arith
@@ -52,7 +47,11 @@ total_op done x op =
     let one = length_snoc x.ops op in
     omega (arith, new, old, one)
 
+-- what holds of the ops of each instruction
+abbrev pub EachOp : (Op → Type 0) → Instruction → Type 0
+EachOp P i = AllByRecursion P i.ops
+
 -- the ops of the last instruction, with one more
-pub ops_op : (done : List Instruction) (x : Instruction) (op : Op) → AllByRecursion HasOps (done ++ x ∷ []) → IsOp op → AllByRecursion HasOps (done ++ record x { ops = x.ops ++ op ∷ [] } ∷ [])
-ops_op [] x op h p = (all_snoc IsOp x.ops op h.0 p, tt)
-ops_op (a ∷ done) x op h p = (h.0, ops_op done x op h.1 p)
+pub ops_op : (P : Op → Type 0) (done : List Instruction) (x : Instruction) (op : Op) → AllByRecursion (EachOp P) (done ++ x ∷ []) → P op → AllByRecursion (EachOp P) (done ++ record x { ops = x.ops ++ op ∷ [] } ∷ [])
+ops_op P [] x op h p = (all_snoc P x.ops op h.0 p, tt)
+ops_op P (a ∷ done) x op h p = (h.0, ops_op P done x op h.1 p)

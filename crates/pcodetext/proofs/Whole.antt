@@ -1,4 +1,4 @@
--- A listing that is read is well formed.
+-- What holds of every listing that is read.
 use Rattle.std.proofs.Common.{◌≡◌, ◌∙◌, ◌<◌, ◌≤◌, ◌+◌, ◌⊎◌, ℕ, suc, Bool, true, false, List, [], ◌∷◌, ◌++◌, length, ap, sym, refl, arith, subst}
 use Rattle.std.specs.Prelude.{Option, Some, None, IfSome, IfOk, Result, Ok, Err, if◌then◌else◌}
 use Rattle.std.specs.Option.{is_none, is_some, option_to_list}
@@ -13,6 +13,7 @@ use Rattle.pcodetext.specs.declared.fault.TextFault.TheVariants.{Syntax}
 use Rattle.pcodetext.specs.declared.fault.Why.{Why}
 use Rattle.pcodetext.specs.declared.form.Form.{Form}
 use Rattle.pcodetext.specs.Faults.{faults, first_fault}
+use Rattle.pcodetext.specs.Formed.{IsNamedFunction, IsRead}
 use Rattle.pcodetext.specs.Forms.{form_of}
 use Rattle.pcodetext.specs.Meaning.{Progress, Read, Step, advanced, after, concluded, finished, is_skipped, listing_of, moved, reading, start, step, step_by, stepped, whole}
 use Rattle.pcodetext.specs.Meaning.Progress.{Going, Stopped}
@@ -54,7 +55,7 @@ lines_kept (line ∷ lines) n s f = by_step (λ t g. lines_kept lines (n + 1) t 
     by_step on (Goes t) e = on t (step_kept s t line f e)
     by_step on (Fails w) e = subst OfGoing (sym (stays _ lines)) tt
 
-start_formed : IsFormed start
+pub start_formed : IsFormed start
 start_formed = record {
   version = tt;
   spaces = (refl, tt);
@@ -71,6 +72,8 @@ start_formed = record {
   total = refl;
   few = omega arith;
   closed = λ e. absurd (never (sym e));
+  declared = record { spaces_named = (refl, tt); protos_named = tt; func_named = tt; callees_named = tt; spaces_few = omega arith; protos_few = omega arith; callees_few = omega arith };
+  known = tt;
 }
 
 some_of : {A : Type 0} (P : A → Type 0) (o : Option A) (a : A) → o ≡ Some a → IfSome o P → P a
@@ -102,28 +105,46 @@ listing_formed s version func ended v g f =
     positive : (n : ℕ) → (n ≡ 0 → ⊥) → 0 < n
     positive n h = omega (arith, h)
 
+said_is_read : (s : Said) (version : ℕ) (func : Function) → s.ended ≡ true → s.version ≡ Some version → s.func ≡ Some func → IsFormed s → IsRead (listing_of s version func)
+said_is_read s version func ended v g f = record {
+  formed = listing_formed s version func ended v g f;
+  named = record {
+    spaces = f.declared.spaces_named;
+    protos = f.declared.protos_named;
+    func = some_of IsNamedFunction s.func func g f.declared.func_named;
+    callees = f.declared.callees_named;
+  };
+  known = f.known;
+  limited = record {
+    spaces = f.declared.spaces_few;
+    protos = f.declared.protos_few;
+    callees = f.declared.callees_few;
+    ops = omega (arith, f.total, f.few);
+  };
+}
+
 good_same : (l m : Listing) → Good l ≡ Good m → l ≡ m
 good_same l m e = cc
 
 bad_not : (fault : TextFault) (l : Listing) → Bad fault ≡ Good l → ⊥
 bad_not fault l e = cc
 
-pub well_formed : (bytes : List ℕ) (l : Listing) → reading bytes ≡ Good l → IsWellFormed l
-well_formed bytes l = by_progress (advanced (Going 1 start) (lines_of bytes)) (lines_kept (lines_of bytes) 1 start start_formed)
+pub is_read : (bytes : List ℕ) (l : Listing) → reading bytes ≡ Good l → IsRead l
+is_read bytes l = by_progress (advanced (Going 1 start) (lines_of bytes)) (lines_kept (lines_of bytes) 1 start start_formed)
   where
     by_end : (s : Said) (n : ℕ) (ended : Bool) (version : Option ℕ) (func : Option Function) → s.ended ≡ ended → s.version ≡ version → s.func ≡ func → IsFormed s
-        → (if ended then whole s n version func else Bad (Syntax n)) ≡ Good l → IsWellFormed l
+        → (if ended then whole s n version func else Bad (Syntax n)) ≡ Good l → IsRead l
     by_end s n false version func a b c f e = absurd (bad_not _ _ e)
     by_end s n true None func a b c f e = absurd (bad_not _ _ e)
     by_end s n true (Some v) None a b c f e = absurd (bad_not _ _ e)
-    by_end s n true (Some v) (Some g) a b c f e = subst IsWellFormed (good_same _ _ e) (listing_formed s v g a b c f)
+    by_end s n true (Some v) (Some g) a b c f e = subst IsRead (good_same _ _ e) (said_is_read s v g a b c f)
 
-    by_progress : (p : Progress) → OfGoing p → concluded p ≡ Good l → IsWellFormed l
+    by_progress : (p : Progress) → OfGoing p → concluded p ≡ Good l → IsRead l
     by_progress (Going n s) f e = by_end s n s.ended s.version s.func refl refl refl f e
     by_progress (Stopped fault) f e = absurd (bad_not _ _ e)
 
 -- where no line is left
-pub formed_at_end : (bytes rest : List ℕ) (n : ℕ) (s : Said) (result : Result Listing TextFault) → reading bytes ≡ concluded (advanced (Going n s) (lines_of rest)) → length rest ≡ 0
-    → IfOk result (λ l. finished n s ≡ Good l) → IfOk result IsWellFormed
-formed_at_end bytes rest n s (Ok l) same none good = well_formed bytes l (same ∙ ap (λ (r : List ℕ). concluded (advanced (Going n s) (lines_of r))) (nil_is rest none) ∙ good)
-formed_at_end bytes rest n s (Err e) same none good = tt
+pub read_at_end : (bytes rest : List ℕ) (n : ℕ) (s : Said) (result : Result Listing TextFault) → reading bytes ≡ concluded (advanced (Going n s) (lines_of rest)) → length rest ≡ 0
+    → IfOk result (λ l. finished n s ≡ Good l) → IfOk result IsRead
+read_at_end bytes rest n s (Ok l) same none good = is_read bytes l (same ∙ ap (λ (r : List ℕ). concluded (advanced (Going n s) (lines_of r))) (nil_is rest none) ∙ good)
+read_at_end bytes rest n s (Err e) same none good = tt

@@ -5,3 +5,4 @@ pub mod Forms
 pub mod Faults
 pub mod Meaning
 pub mod Reader
+pub mod Formed

@@ -9,6 +9,7 @@ use Rattle.pcode_model.specs.declared.listing.Proto.{Proto}
 use Rattle.pcode_model.specs.declared.listing.Function.{Function}
 use Rattle.pcode_model.specs.declared.listing.Fixed.{Fixed}
 use Rattle.pcode_model.specs.Ranges.{meets}
+pub use Rattle.names.specs.Names.{place_from, place_in}
 pub use Rattle.pcode_model.specs.WellFormed.{how_many}
 
 -- space 0
@@ -23,14 +24,6 @@ proto_name p = p.name
 
 abbrev pub function_name : Function → Line
 function_name f = f.name
-
--- where a name stands first among names, which are those from k on
-abbrev pub place_from : ℕ → Line → List Line → Option ℕ
-place_from k name [] = None
-place_from k name (known ∷ names) = if bytes_eq known name then Some k else place_from (k + 1) name names
-
-abbrev pub place_in : Line → List Line → Option ℕ
-place_in name names = place_from 0 name names
 
 -- some bytes of that space stand at the offset or after it
 abbrev pub begins_late : ℕ → ℕ → Fixed → Bool

@@ -1,7 +1,7 @@
 //! Reading a text, line by line.
 
 ghost use Rattle.std.specs.Prelude.{◌≡◌, ◌≤◌, ◌-◌, ◌^◌, length, IfErr, IfOk};
-ghost use Rattle.pcode_model.specs.WellFormed.{IsWellFormed};
+ghost use Rattle.pcodetext.specs.Formed.{IsRead};
 ghost use Rattle.pcodetext.specs.Meaning.{fault_at, finished, reading};
 ghost use Rattle.pcodetext.specs.Meaning.Read.{Good};
 ghost use Rattle.pcodetext.specs.Reader.{IsFaultOf, placed};
@@ -17,7 +17,7 @@ use std::alloc::Global;
 pub fn read_listing(alloc: Global, bytes: &[u8]) -> Result<Listing, TextFault>
     requires { length bytes.now ≤ 2 ^ 32 - 2 }
     ensures good { IfOk result (λ listing. reading bytes.now ≡ Good listing) }
-    ensures formed { IfOk result IsWellFormed }
+    ensures formed { IfOk result IsRead }
     ensures bad { IfErr result (IsFaultOf (reading bytes.now)) }
 {
     let mut said = match Said::new(alloc) {

@@ -59,7 +59,7 @@ impl Said {
             Form::Func(line) => self.func(line),
             Form::Proto(line) => self.proto(alloc, line),
             Form::Stack(range) => self.stack(range),
-            Form::Space(line) => self.space(line),
+            Form::Space(line) => self.space(alloc, line),
             Form::Pcode(version) => self.pcode(version),
             Form::End => self.end(),
             Form::Nothing => Err(LineFault::Wrong(Why::Syntax)),
@@ -79,7 +79,7 @@ impl Said {
         Ok(())
     }
 
-    fn space(&mut self, line: SpaceLine) -> Result<(), LineFault>
+    fn space(&mut self, alloc: Global, line: SpaceLine) -> Result<(), LineFault>
         ensures { Does (step_by self.old (Form.Space line)) self.new result }
     {
         if self.version.is_none() || self.stack.is_some() || !self.protos.is_empty() {
@@ -107,13 +107,14 @@ impl Said {
             big,
             word,
         } = line;
-        self.spaces.push(Space {
+        let space = Space {
             name,
             kind,
             size: size as u8,
             big,
             word: word as u8,
-        })?;
+        };
+        self.spaces.push(alloc, space)?;
         Ok(())
     }
 
@@ -175,13 +176,14 @@ impl Said {
         } = line;
         let args = storages(alloc, args.as_slice())?;
         let keep = varnodes(alloc, keep.as_slice())?;
-        self.protos.push(Proto {
+        let proto = Proto {
             name,
             args,
             gives: optional(gives),
             pop: pop as u32,
             keep,
-        })?;
+        };
+        self.protos.push(alloc, proto)?;
         Ok(())
     }
 

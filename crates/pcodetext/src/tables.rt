@@ -1,8 +1,9 @@
 //! Tables of what is declared: spaces, prototypes and read-only bytes.
 
-ghost use Rattle.std.specs.Prelude.{◌≡◌, ◌∷◌, ◌++◌, [], false, nat_le, ◌==◌, length, IfOk, OnOk, map};
+ghost use Rattle.std.specs.Prelude.{◌≡◌, ◌∷◌, ◌++◌, [], None, false, nat_le, ◌==◌, length, IfOk, OnOk, map};
 ghost use Rattle.pcodetext.specs.Tables.{constant, how_many, place_in, space_name, proto_name};
 
+use names::NameTable;
 use pcode_model::{Proto, Protos, Space, SpaceKind, Spaces};
 use sqlite_items::Items;
 use std::alloc::{AllocError, Global};
@@ -12,17 +13,19 @@ use std::marker::Model;
 #[derive(Drop)]
 pub struct SpaceTable {
     spaces: Spaces,
+    names: NameTable,
 }
 
 impl Model for SpaceTable {
-    ghost use Rattle.std.specs.Prelude.{List, length, ◌≤◌};
+    ghost use Rattle.std.specs.Prelude.{List, length, map, ◌≡◌, ◌≤◌};
     ghost use Rattle.pcode_model.specs.declared.listing.Space.{Space};
+    ghost use Rattle.pcodetext.specs.Tables.{space_name};
 
     ghost Value = { List Space };
 
     ghost view = { λ t. t.spaces };
 
-    ghost invariant = { λ t. length t.spaces ≤ 9 };
+    ghost invariant = { λ t. (length t.spaces ≤ 9) × (t.names ≡ map space_name t.spaces) };
 }
 
 impl SpaceTable {
@@ -38,7 +41,9 @@ impl SpaceTable {
             big: false,
             word: 1,
         })?;
-        Ok(SpaceTable { spaces })
+        let mut names = NameTable::new(alloc);
+        names.push(alloc, b"const")?;
+        Ok(SpaceTable { spaces, names })
     }
 
     pub fn as_slice(&self) -> &[Space]
@@ -53,24 +58,29 @@ impl SpaceTable {
         self.spaces.len() >= 9
     }
 
-    pub fn push(&mut self, space: Space) -> Result<(), AllocError>
-        requires { nat_le 9 (length self.old) ≡ false }
+    pub fn push(&mut self, alloc: Global, space: Space) -> Result<(), AllocError>
+        requires few { nat_le 9 (length self.old) ≡ false }
+        requires other { place_in space.name (map space_name self.old) ≡ None }
         ensures { OnOk result (self.new ≡ self.old ++ space ∷ []) }
     {
-        self.spaces.push(space)
+        self.names.push(alloc, space.name.as_slice())?;
+        match self.spaces.push(space) {
+            Ok(()) => Ok(()),
+            Err(refused) => {
+                self.names.pop();
+                Err(refused)
+            }
+        }
     }
 
     /// The number of the space of that name.
     pub fn number(&self, name: &[u8]) -> Option<u8>
         ensures { result ≡ place_in name.now (map space_name self.now) }
     {
-        let spaces = self.spaces.as_slice();
-        for i in 0..spaces.len() {
-            if spaces[i].name.as_slice() == name {
-                return Some(i as u8);
-            }
+        match self.names.number(name) {
+            Some(number) => Some(number as u8),
+            None => None,
         }
-        None
     }
 
     /// How many spaces are of that kind.
@@ -97,17 +107,19 @@ impl SpaceTable {
 #[derive(Drop)]
 pub struct ProtoTable {
     protos: Protos,
+    names: NameTable,
 }
 
 impl Model for ProtoTable {
-    ghost use Rattle.std.specs.Prelude.{List, length, ◌≤◌};
+    ghost use Rattle.std.specs.Prelude.{List, length, map, ◌≡◌, ◌≤◌};
     ghost use Rattle.pcode_model.specs.declared.listing.Proto.{Proto};
+    ghost use Rattle.pcodetext.specs.Tables.{proto_name};
 
     ghost Value = { List Proto };
 
     ghost view = { λ t. t.protos };
 
-    ghost invariant = { λ t. length t.protos ≤ 64 };
+    ghost invariant = { λ t. (length t.protos ≤ 64) × (t.names ≡ map proto_name t.protos) };
 }
 
 impl ProtoTable {
@@ -116,6 +128,7 @@ impl ProtoTable {
     {
         ProtoTable {
             protos: Items::new(alloc),
+            names: NameTable::new(alloc),
         }
     }
 
@@ -131,24 +144,29 @@ impl ProtoTable {
         self.protos.len() >= 64
     }
 
-    pub fn push(&mut self, proto: Proto) -> Result<(), AllocError>
-        requires { nat_le 64 (length self.old) ≡ false }
+    pub fn push(&mut self, alloc: Global, proto: Proto) -> Result<(), AllocError>
+        requires few { nat_le 64 (length self.old) ≡ false }
+        requires other { place_in proto.name (map proto_name self.old) ≡ None }
         ensures { OnOk result (self.new ≡ self.old ++ proto ∷ []) }
     {
-        self.protos.push(proto)
+        self.names.push(alloc, proto.name.as_slice())?;
+        match self.protos.push(proto) {
+            Ok(()) => Ok(()),
+            Err(refused) => {
+                self.names.pop();
+                Err(refused)
+            }
+        }
     }
 
     /// The number of the prototype of that name.
     pub fn number(&self, name: &[u8]) -> Option<u32>
         ensures { result ≡ place_in name.now (map proto_name self.now) }
     {
-        let protos = self.protos.as_slice();
-        for i in 0..protos.len() {
-            if protos[i].name.as_slice() == name {
-                return Some(i as u32);
-            }
+        match self.names.number(name) {
+            Some(number) => Some(number as u32),
+            None => None,
         }
-        None
     }
 
     pub fn into_items(self) -> Protos

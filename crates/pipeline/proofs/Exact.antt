@@ -10,6 +10,7 @@ use Rattle.pipeline.specs.Verdict.{Bytes, IsAccepted, IsRefused}
 use Rattle.pipeline.specs.Outcome.{Because, Delivers, WritesLine, WritesText, limit}
 use Rattle.pipeline.specs.Table.{Due, BadArguments, TooManyBytes, Accepted, Faulty, Quiet}
 use Rattle.pipeline.specs.declared.refusal.Refusal.{Refusal}
+use Rattle.pipeline.proofs.Verdicts.{never_both}
 use Rattle.pipeline.specs.declared.outcome.Outcome.{Outcome}
 use Rattle.pipeline.specs.declared.outcome.Outcome.TheVariants as outcome
 
@@ -42,7 +43,7 @@ module _ (input input_new : Told) (quiet_input : Quiet input.faults input_new.fa
 
   faulty : (bytes : Bytes) (fault : Refusal) → Gave limit input input_new (Ok bytes) → IsRefused bytes fault → Due Decompile told 1
   faulty bytes fault g wrong = let w = came_whole bytes g in
-      subst (λ (b : Bytes). Due Decompile b 1) (sym w.0) (Faulty bytes fault w.1 wrong)
+      subst (λ (b : Bytes). Due Decompile b 1) (sym w.0) (Faulty bytes fault w.1 (λ fine. never_both bytes fault fine wrong) wrong)
 
   module _ (out out_new err err_new : Held) (quiet_out : Quiet out.faults out_new.faults) (quiet_err : Quiet err.faults err_new.faults) where
     written : (status n : ℕ) (line : Bytes) → WritesLine n line err err_new status → status ≡ n

@@ -1,5 +1,5 @@
 -- What the tests of a listing give the passes.
-use Rattle.std.proofs.Common.{◌≡◌, ◌≤◌, ◌<◌, ◌+◌, ◌^◌, ℕ, true, List, [], ◌∷◌, Some, None, length, length-append, refl, inl, inr, sym, subst, arith}
+use Rattle.std.proofs.Common.{◌≡◌, ◌≤◌, ◌<◌, ◌+◌, ◌^◌, ℕ, List, [], ◌∷◌, Some, None, length, length-append, refl, inl, inr, sym, subst, arith}
 use Rattle.pcode_model.specs.declared.atoms.Atom.{Atom}
 use Rattle.pcode_model.specs.declared.flow.Block.{Block}
 use Rattle.pcode_model.specs.declared.flow.Exit.{Exit}
@@ -15,17 +15,19 @@ use Rattle.pcode_model.specs.Flow.{AllRun, AreStarts, IsFlow, IsIn, NoFault, Run
 use Rattle.pcode_model.specs.Atoms.{Accesses}
 use Rattle.pcode_model.specs.Rules.{first_bad}
 use Rattle.supported.specs.Ranges.{AllInSpace, named_ranges}
-use Rattle.supported.specs.Formed.{IsFormed, are_inside}
+use Rattle.supported.specs.Supported.{IsSupported}
 use Rattle.stackvars.specs.Accessed as listed
 use Rattle.stackvars.specs.Accessed.{AreAccessed}
 use Rattle.cmeaning.specs.Agree.{AgreesWith}
 use Rattle.cmeaning.specs.Valid.{IsValid}
+use Rattle.pcodetext.specs.Formed.{IsRead}
+use Rattle.plaincode.specs.Form.{IsPlainForm}
 use Rattle.plaincode.specs.Lowered.{plain_function}
 use Rattle.plaincode.proofs.Agrees.{plain_agrees}
 use Rattle.plain_valid.specs.Long.{AreLong, IsLong}
 use Rattle.plain_valid.proofs.Valid.{plain_valid}
-use Rattle.plain_laws.proofs.Rules.{both}
-use Rattle.plain_laws.proofs.Accessed.{accessed_inside, inside_of}
+use Rattle.plain_laws.proofs.Formed.{IsFormed, Inside}
+use Rattle.plain_laws.proofs.Accessed.{accessed_inside}
 use Rattle.plain_laws.proofs.Form.{plain_form}
 use Rattle.stackvars.specs.declared.accessed.AtomFault.{AtomFault}
 use Rattle.stackvars.specs.declared.accessed.AtomFault.TheVariants as A
@@ -37,41 +39,46 @@ use Rattle.pipeline.specs.Outcome.{IsCause}
 use Rattle.pipeline.specs.Refused.{of_atoms, of_flow}
 use Rattle.pipeline.specs.declared.refusal.Refusal.{Refusal}
 use Rattle.pipeline.specs.declared.refusal.Refusal.TheVariants as R
-use Rattle.pipeline.specs.Verdict.{IsBuilt, IsGood}
+use Rattle.pipeline.specs.Verdict.{IsGood}
+use Rattle.pipeline.proofs.Formed.{formed_is}
+use Rattle.pipeline.proofs.Names.{name_is}
 
-all_in_space : (l : Listing) (vs : List Varnode) → are_inside l vs ≡ true → AllInSpace vs
+all_in_space : (l : Listing) (vs : List Varnode) → ((v : Varnode) → IsIn v vs → Inside l v) → AllInSpace vs
 all_in_space l [] h = tt
-all_in_space l (v ∷ vs) h = let i = inside_of l v (both _ _ h).0 in ((i.some, i.low), all_in_space l vs (both _ _ h).1)
+all_in_space l (v ∷ vs) h = let i = h v (inl refl) in ((i.some, i.low), all_in_space l vs (λ w is. h w (inr is)))
 
-pub named_in_space : (l : Listing) → IsFormed l → AllInSpace (named_ranges l)
-named_in_space l formed = all_in_space l (named_ranges l) formed.ranges
+pub named_in_space : (l : Listing) → IsRead l → first_bad l ≡ None → AllInSpace (named_ranges l)
+named_in_space l read good = all_in_space l (named_ranges l) (formed_is l read good).ranges
 
 -- an atom that is accessed begins at a number of 64 bits
-long_at : (l : Listing) → IsBuilt l → (s : ParamStorage) (k : ℕ) (v : Varnode) → listed.range_at l s k ≡ Some v → Accesses l [] v → IsLong s
-long_at l built (P.Register o) k v e acc =
-    let i = accessed_inside l built.supported built.formed v acc in
+long_at : (l : Listing) → IsSupported l → IsFormed l → (s : ParamStorage) (k : ℕ) (v : Varnode) → listed.range_at l s k ≡ Some v → Accesses l [] v → IsLong s
+long_at l sup formed (P.Register o) k v e acc =
+    let i = accessed_inside l sup formed v acc in
     let f : listed.range (register_space l) o k ≡ v = cc in
     let R : Varnode → Type 0 = λ x. (0 < x.size) × (x.offset + x.size ≤ 2 ^ 64) in
     let g = subst R (sym f) (i.some, i.low) in omega (arith, g.0, g.1)
-long_at l built (P.Unique o) k v e acc =
-    let i = accessed_inside l built.supported built.formed v acc in
+long_at l sup formed (P.Unique o) k v e acc =
+    let i = accessed_inside l sup formed v acc in
     let f : listed.range (unique_space l) o k ≡ v = cc in
     let R : Varnode → Type 0 = λ x. (0 < x.size) × (x.offset + x.size ≤ 2 ^ 64) in
     let g = subst R (sym f) (i.some, i.low) in omega (arith, g.0, g.1)
-long_at l built (P.Stack o) k v e acc = absurd (cc)
+long_at l sup formed (P.Stack o) k v e acc = absurd (cc)
 
-are_long : (l : Listing) → IsBuilt l → (atoms : List Atom) → ((a : Atom) → IsIn a atoms → (v : Varnode) × ((listed.range_of l a ≡ Some v) × Accesses l [] v)) → AreLong atoms
-are_long l built [] h = tt
-are_long l built (a ∷ rest) h = let x = h a (inl refl) in (long_at l built a.storage a.size x.0 x.1.0 x.1.1, are_long l built rest (λ b is. h b (inr is)))
+are_long : (l : Listing) → IsSupported l → IsFormed l → (atoms : List Atom) → ((a : Atom) → IsIn a atoms → (v : Varnode) × ((listed.range_of l a ≡ Some v) × Accesses l [] v)) → AreLong atoms
+are_long l sup formed [] h = tt
+are_long l sup formed (a ∷ rest) h = let x = h a (inl refl) in (long_at l sup formed a.storage a.size x.0 x.1.0 x.1.1, are_long l sup formed rest (λ b is. h b (inr is)))
 
-module _ (l : Listing) (good : first_bad l ≡ None) (built : IsBuilt l) (blocks : List Block) (flow : IsFlow l [] blocks) (fine : NoFault l []) (few : length blocks ≤ 2048) (atoms : List Atom) (are : AreAccessed l atoms) where
+module _ (l : Listing) (read : IsRead l) (good : first_bad l ≡ None) (sup : IsSupported l) (blocks : List Block) (flow : IsFlow l [] blocks) (fine : NoFault l []) (few : length blocks ≤ 2048) (atoms : List Atom) (are : AreAccessed l atoms) where
+  form : IsPlainForm l [] blocks atoms
+  form = plain_form l good sup (formed_is l read good) blocks flow fine few atoms are
+
   -- the function of the plain lowering means what the listing means
   pub agrees : AgreesWith l no_frame (plain_function l blocks atoms)
-  agrees = plain_agrees l no_frame [] blocks atoms (plain_form l good built.supported built.formed blocks flow fine few atoms are)
+  agrees = plain_agrees l no_frame [] blocks atoms form
 
   -- and is a valid tree
   pub is_valid : IsValid (plain_function l blocks atoms)
-  is_valid = plain_valid l [] blocks atoms (plain_form l good built.supported built.formed blocks flow fine few atoms are) are.listed.in_order (are_long l built atoms are.listed.accessed) (omega (arith, are.few)) built.name
+  is_valid = plain_valid l [] blocks atoms form are.listed.in_order (are_long l sup (formed_is l read good) atoms are.listed.accessed) (omega (arith, are.few)) (name_is l.func.name read.named.func)
 
 -- ---- blocks and where they begin
 
@@ -91,15 +98,15 @@ pub few_atoms : (l : Listing) (atoms : List Atom) → AreAccessed l atoms → (n
 few_atoms l atoms are = (length atoms, ((atoms, (are.listed, refl)), are.few))
 
 -- all of it
-pub lowers : (l : Listing) → first_bad l ≡ None → IsBuilt l → (blocks : List Block) → IsFlow l [] blocks → NoFault l [] → length blocks ≤ 2048 → (atoms : List Atom) → AreAccessed l atoms → (f : CFunction) → f ≡ plain_function l blocks atoms → Lowers l f
-lowers l good built blocks flow fine few atoms are f is =
+pub lowers : (l : Listing) → IsRead l → first_bad l ≡ None → IsSupported l → (blocks : List Block) → IsFlow l [] blocks → NoFault l [] → length blocks ≤ 2048 → (atoms : List Atom) → AreAccessed l atoms → (f : CFunction) → f ≡ plain_function l blocks atoms → Lowers l f
+lowers l read good sup blocks flow fine few atoms are f is =
     let P : CFunction → Type 0 = λ g. Lowers l g in
     subst P (sym is) (record {
       flow = fine;
       blocks = few_starts l blocks flow few;
       atoms = few_atoms l atoms are;
-      valid = is_valid l good built blocks flow fine few atoms are;
-      agrees = agrees l good built blocks flow fine few atoms are;
+      valid = is_valid l read good sup blocks flow fine few atoms are;
+      agrees = agrees l read good sup blocks flow fine few atoms are;
     })
 
 -- ---- faults
@@ -117,7 +124,7 @@ pub atoms_stops : (l : Listing) (fault : AtomFault) → NoFault l [] → listed.
 atoms_stops l (A.TooManyAtoms n) fine h = (fine, h)
 atoms_stops l A.Memory fine h = tt
 
-pub stops_refused : (bytes : List ℕ) (l : Listing) → IsGood bytes l → IsBuilt l → (fault : Refusal) → StopsLowering l fault → IsCause bytes fault
+pub stops_refused : (bytes : List ℕ) (l : Listing) → IsGood bytes l → IsSupported l → (fault : Refusal) → StopsLowering l fault → IsCause bytes fault
 stops_refused bytes l good built (R.Text fault) h = absurd h
 stops_refused bytes l good built (R.Op fault) h = absurd h
 stops_refused bytes l good built R.NotBuilt h = absurd h

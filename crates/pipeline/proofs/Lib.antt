@@ -1,3 +1,8 @@
 pub mod Rows
 pub mod Exact
 pub mod Forms
+pub mod Names
+pub mod Spaces
+pub mod Formed
+pub mod Ordered
+pub mod Verdicts

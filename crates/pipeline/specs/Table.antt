@@ -40,7 +40,7 @@ pub data Due : Asked → Bytes → ℕ → Type 0 where
   BadArguments : (bytes : Bytes) → Due Refused bytes 2
   TooManyBytes : (bytes : Bytes) → limit < length bytes → Due Decompile bytes 6
   Accepted : (bytes : Bytes) → length bytes ≤ limit → IsAccepted bytes → Due Decompile bytes 0
-  Faulty : (bytes : Bytes) (fault : Refusal) → length bytes ≤ limit → IsRefused bytes fault → Due Decompile bytes 1
+  Faulty : (bytes : Bytes) (fault : Refusal) → length bytes ≤ limit → (IsAccepted bytes → ⊥) → IsRefused bytes fault → Due Decompile bytes 1
 
 -- no fault was counted
 abbrev pub Quiet : ℕ → ℕ → Type 0

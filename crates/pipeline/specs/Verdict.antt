@@ -1,6 +1,6 @@
 -- Which inputs are accepted, why the others are refused, and what may be printed. This project's own.
 -- The order of refusals: faults of the text, faults of ops, not built, faults of the flow, too many blocks, too many atoms.
-use Rattle.std.specs.Prelude.{◌≡◌, ℕ, ◌<◌, ◌≤◌, IsTrue, List, [], length, Some, None}
+use Rattle.std.specs.Prelude.{◌≡◌, ℕ, ◌≤◌, List, [], length, Some, None}
 use Rattle.pcode_model.specs.declared.listing.Listing.{Listing}
 use Rattle.pcode_model.specs.declared.listing.Place.{Place}
 use Rattle.pcode_model.specs.Memory.{no_frame}
@@ -8,14 +8,13 @@ use Rattle.pcode_model.specs.Flow.{AreStarts, NoFault}
 use Rattle.pcode_model.specs.Rules.{first_bad}
 use Rattle.pcodetext.specs.Meaning.{Good, Bad, reading}
 use Rattle.supported.specs.Supported.{IsSupported}
-use Rattle.supported.specs.Formed.{IsFormed}
 use Rattle.flow.specs.Answer.{IsFlowFault}
 use Rattle.flow.specs.declared.answer.FlowFault.TheVariants as flow
 use Rattle.stackvars.specs.Accessed as accessed
 use Rattle.stackvars.specs.declared.accessed.AtomFault.TheVariants as atoms
 use Rattle.cmeaning.specs.declared.tree.CFunction.{CFunction}
 use Rattle.cmeaning.specs.Agree.{AgreesWith}
-use Rattle.cmeaning.specs.Valid.{IsValid, is_name}
+use Rattle.cmeaning.specs.Valid.{IsValid}
 use Rattle.ctext.specs.Text.{text_of}
 use Rattle.pipeline.specs.declared.refusal.Refusal.{Refusal}
 use Rattle.pipeline.specs.declared.refusal.Refusal.TheVariants as refusal
@@ -28,19 +27,11 @@ pub record IsGood (bytes : Bytes) (l : Listing) : Type 0 where
   pub read : reading bytes ≡ Good l
   pub ops : first_bad l ≡ None
 
--- The listing is one of those that are built so far. What `formed`, `spaces` and `name` say, every listing has that was
--- read and whose ops obey their rules.
-pub record IsBuilt (l : Listing) : Type 0 where
-  pub supported : IsSupported l
-  pub formed : IsFormed l
-  pub spaces : length l.spaces < 256
-  pub name : IsTrue (is_name l.func.name)
-
 -- the input is a listing that is built, no place of its flow has a fault, and there are at most 2,048 blocks and 1,024
 -- atoms
 pub record Accepts (bytes : Bytes) (l : Listing) : Type 0 where
   pub good : IsGood bytes l
-  pub built : IsBuilt l
+  pub built : IsSupported l
   pub flow : NoFault l []
   pub blocks : (starts : List Place) × (AreStarts l [] starts × (length starts ≤ 2048))
   pub atoms : (n : ℕ) × (accessed.AccessesSoMany l n × (n ≤ 1024))
@@ -55,11 +46,11 @@ RefusedBy bytes P = (l : Listing) × (IsGood bytes l × P l)
 abbrev pub IsRefused : Bytes → Refusal → Type 0
 IsRefused bytes (refusal.Text fault) = reading bytes ≡ Bad fault
 IsRefused bytes (refusal.Op fault) = (l : Listing) × ((reading bytes ≡ Good l) × (first_bad l ≡ Some fault))
-IsRefused bytes refusal.NotBuilt = RefusedBy bytes (λ l. IsBuilt l → ⊥)
+IsRefused bytes refusal.NotBuilt = RefusedBy bytes (λ l. IsSupported l → ⊥)
 IsRefused bytes (refusal.Flow flow.Memory) = ⊥
-IsRefused bytes (refusal.Flow fault) = RefusedBy bytes (λ l. IsBuilt l × IsFlowFault l [] fault)
+IsRefused bytes (refusal.Flow fault) = RefusedBy bytes (λ l. IsSupported l × IsFlowFault l [] fault)
 IsRefused bytes (refusal.Atoms atoms.Memory) = ⊥
-IsRefused bytes (refusal.Atoms fault) = RefusedBy bytes (λ l. IsBuilt l × (NoFault l [] × accessed.IsCause l fault))
+IsRefused bytes (refusal.Atoms fault) = RefusedBy bytes (λ l. IsSupported l × (NoFault l [] × accessed.IsCause l fault))
 IsRefused bytes refusal.Memory = ⊥
 
 -- The text of a valid C function that agrees with the listing of the input: for every entry and every number of steps,

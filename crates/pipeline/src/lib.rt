@@ -1,7 +1,6 @@
 //! The product from bytes to text: the passes in their order, the verdict, and the top call.
 #![tactic(auto)]
 
-mod built;
 mod input;
 mod message;
 mod outcome;

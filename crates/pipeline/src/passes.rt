@@ -3,12 +3,13 @@ ghost use Rattle.std.specs.Prelude.{◌≡◌, ◌-◌, ◌^◌, ◌≤◌, leng
 ghost use Rattle.pcode_model.specs.Flow.{IsFlow, NoFault};
 ghost use Rattle.pcode_model.specs.Rules.{first_bad};
 ghost use Rattle.pcode_model.specs.WellFormed.{IsWellFormed};
+ghost use Rattle.pcodetext.specs.Formed.{IsRead};
 ghost use Rattle.pipeline.specs.Lowers.{Lowers, StopsLowering};
 ghost use Rattle.pipeline.specs.Outcome.{IsCause};
-ghost use Rattle.pipeline.specs.Verdict.{IsAccepted, IsBuilt, MayPrint};
+ghost use Rattle.pipeline.specs.Verdict.{IsAccepted, MayPrint};
 ghost use Rattle.stackvars.specs.Accessed.{AreAccessed};
+ghost use Rattle.supported.specs.Supported.{IsSupported};
 
-use crate::built::is_built;
 use crate::refusal::Refusal;
 use cmeaning::CFunction;
 use ctext::print_c;
@@ -19,6 +20,7 @@ use pcodetext::read_listing;
 use plaincode::{plain, result_width};
 use stackvars::atoms;
 use std::alloc::Global;
+use supported::is_supported;
 
 /// The C of a listing, or why there is none.
 pub fn decompile(alloc: Global, bytes: &[u8]) -> Result<Text, Refusal>
@@ -29,7 +31,7 @@ pub fn decompile(alloc: Global, bytes: &[u8]) -> Result<Text, Refusal>
 {
     let listing = read_listing(alloc, bytes)?;
     check_ops(&listing)?;
-    let built = is_built(alloc, &listing)?;
+    let built = is_supported(alloc, &listing)?;
     if !built {
         return Err(Refusal::NotBuilt);
     }
@@ -40,9 +42,9 @@ pub fn decompile(alloc: Global, bytes: &[u8]) -> Result<Text, Refusal>
 
 /// The C function of a listing that is built: its blocks, its atoms, the plain lowering, and that one's layout.
 pub fn lower(alloc: Global, listing: &Listing) -> Result<CFunction, Refusal>
-    requires formed { IsWellFormed listing.now }
+    requires read { IsRead listing.now }
     requires ops { first_bad listing.now ≡ None }
-    requires built { IsBuilt listing.now }
+    requires supported { IsSupported listing.now }
     ensures lowers { IfOk result (λ f. Lowers listing.now f) }
     ensures stops { IfErr result (λ fault. StopsLowering listing.now fault) }
 {
@@ -56,7 +58,6 @@ pub fn lower(alloc: Global, listing: &Listing) -> Result<CFunction, Refusal>
 
 fn blocks(alloc: Global, listing: &Listing) -> Result<Flow, Refusal>
     requires formed { IsWellFormed listing.now }
-    requires built { IsBuilt listing.now }
     ensures blocks { IfOk result (λ flow. IsFlow listing.now [] flow) }
     ensures no_fault { OnOk result (NoFault listing.now []) }
     ensures few { IfOk result (λ flow. length flow ≤ 2048) }
@@ -70,8 +71,9 @@ fn blocks(alloc: Global, listing: &Listing) -> Result<Flow, Refusal>
 }
 
 fn ranges(alloc: Global, listing: &Listing, flow: &Flow) -> Result<Atoms, Refusal>
-    requires formed { IsWellFormed listing.now }
-    requires built { IsBuilt listing.now }
+    requires read { IsRead listing.now }
+    requires ops { first_bad listing.now ≡ None }
+    requires supported { IsSupported listing.now }
     requires flow { IsFlow listing.now [] flow.now }
     requires no_fault { NoFault listing.now [] }
     ensures ok { IfOk result (λ atoms. AreAccessed listing.now atoms) }

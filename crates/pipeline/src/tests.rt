@@ -21,19 +21,31 @@ struct Ended {
     err: Bytes,
 }
 
-/// Runs the program on an input, with failing reads, and so much room in `out`.
+fn source(alloc: Global, input: &[u8]) -> Result<MemSource, Memory> {
+    Ok(MemSource::new(Bytes::copy_of(alloc, input)?, Fails::new(alloc)))
+}
+
+fn sink(alloc: Global, room: u32) -> Result<MemSink, Memory> {
+    MemSink::new(alloc, room, Fails::new(alloc))
+}
+
+/// The call of this number fails.
+fn failing(alloc: Global, number: u32) -> Result<Fails, Memory> {
+    let mut fails = Fails::new(alloc);
+    fails.push(number)?;
+    Ok(fails)
+}
+
+/// Runs the program.
 fn told(
     alloc: Global,
     words: &Words,
-    input: &[u8],
-    fails: Fails,
-    room: u32,
+    mut input: MemSource,
+    mut out: MemSink,
+    mut err: MemSink,
 ) -> Result<Ended, Memory> {
-    let mut source = MemSource::new(Bytes::copy_of(alloc, input)?, fails);
     let mut shelf = MemShelf::new(Files::new(alloc), Fails::new(alloc));
-    let mut out = MemSink::new(alloc, room, Fails::new(alloc))?;
-    let mut err = MemSink::new(alloc, 4096, Fails::new(alloc))?;
-    let status = decompile_words(alloc, words, &mut source, &mut shelf, &mut out, &mut err);
+    let status = decompile_words(alloc, words, &mut input, &mut shelf, &mut out, &mut err);
     Ok(Ended {
         status,
         out: Bytes::copy_of(alloc, out.taken())?,
@@ -43,7 +55,14 @@ fn told(
 
 /// The same without words and faults, with ample room.
 fn plainly(alloc: Global, input: &[u8]) -> Result<Ended, Memory> {
-    told(alloc, &Words::new(alloc), input, Fails::new(alloc), 65536)
+    let words = Words::new(alloc);
+    told(
+        alloc,
+        &words,
+        source(alloc, input)?,
+        sink(alloc, 65536)?,
+        sink(alloc, 4096)?,
+    )
 }
 
 /// The least function's listing with other lines for its one op.
@@ -126,22 +145,105 @@ fn faults_are_named(rt: HostRuntime) -> Result<(), Fail> {
     Ok(())
 }
 
+/// A comment of so many bytes, its line feed included, and then the listing of one addition.
+fn after_a_comment(alloc: Global, length: usize) -> Result<Bytes, Memory> {
+    let filler = vec![in alloc; b'#'; length]?;
+    let mut text = Bytes::copy_of(alloc, &filler)?;
+    text.append(b"\n")?;
+    text.append(ADD1)?;
+    Ok(text)
+}
+
+// Reads of at most 4,096 bytes: the first is all comment, the third finds the end, and a fourth isn't made.
 #[test]
-fn failures_have_their_status(rt: HostRuntime) -> Result<(), Fail> {
+fn a_read_that_fails_is_told(rt: HostRuntime) -> Result<(), Fail> {
     let alloc = rt.alloc();
-    let mut words = Words::new(alloc);
-    words.push(String::from_str(alloc, "x")?)?;
-    let refused = told(alloc, &words, ADD1, Fails::new(alloc), 65536)?;
-    assert_eq!(rt; refused.status, 2);
-    assert!(rt; refused.err.as_slice() == b"pcode2c: bad arguments\n".as_slice());
-    let mut first = Fails::new(alloc);
-    first.push(0)?;
-    let broken = told(alloc, &Words::new(alloc), ADD1, first, 65536)?;
-    assert_eq!(rt; broken.status, 3);
-    assert!(rt; broken.err.as_slice() == b"pcode2c: read fault\n".as_slice());
-    let cut = told(alloc, &Words::new(alloc), ADD1, Fails::new(alloc), 10)?;
-    assert_eq!(rt; cut.status, 4);
-    assert!(rt; cut.out.as_slice() == b"u32 f_add1".as_slice());
+    for number in 0..4 {
+        let text = after_a_comment(alloc, 4096)?;
+        let input = MemSource::new(text, failing(alloc, number)?);
+        let words = Words::new(alloc);
+        let ended = told(alloc, &words, input, sink(alloc, 65536)?, sink(alloc, 99)?)?;
+        if number < 3 {
+            assert_eq!(rt; ended.status, 3, "read {number}");
+            assert!(rt; ended.out.as_slice().is_empty(), "read {number}");
+            assert!(rt; ended.err.as_slice() == b"pcode2c: read fault\n".as_slice());
+        } else {
+            assert_eq!(rt; ended.status, 0, "read {number}");
+            assert!(rt; ended.out.as_slice() == ADD1_C);
+        }
+    }
+    Ok(())
+}
+
+// The text is written by one call where there is room, and else up to the room.
+#[test]
+fn a_write_to_out_that_fails_is_told(rt: HostRuntime) -> Result<(), Fail> {
+    let alloc = rt.alloc();
+    let words = Words::new(alloc);
+    for number in 0..2 {
+        let out = MemSink::new(alloc, 65536, failing(alloc, number)?)?;
+        let ended = told(alloc, &words, source(alloc, ADD1)?, out, sink(alloc, 99)?)?;
+        assert_eq!(rt; ended.status == 4, number == 0, "write {number}");
+        assert_eq!(rt;
+            ended.out.as_slice().is_empty(),
+            number == 0,
+            "write {number}"
+        );
+        assert!(rt; ended.err.as_slice().is_empty(), "write {number}");
+    }
+    for room in 0..200u32 {
+        let out = sink(alloc, room)?;
+        let ended = told(alloc, &words, source(alloc, ADD1)?, out, sink(alloc, 99)?)?;
+        let most = ADD1_C.len().min(room as usize);
+        assert_eq!(rt; ended.status == 0, most == ADD1_C.len(), "room {room}");
+        assert_eq!(rt; ended.status == 4, most < ADD1_C.len(), "room {room}");
+        assert!(rt; ended.out.as_slice() == &ADD1_C[..most], "room {room}");
+        assert!(rt; ended.err.as_slice().is_empty(), "room {room}");
+    }
+    Ok(())
+}
+
+// The words, the input, the read that fails, the status and the line, and `err` with each room up to the line.
+#[test]
+fn a_write_to_err_that_fails_is_told(rt: HostRuntime) -> Result<(), Fail> {
+    let alloc = rt.alloc();
+    let rows: [(&[&str], &[u8], u32, u8, &[u8]); 4] = [
+        (&["x"], ADD1, 9, 2, b"pcode2c: bad arguments\n"),
+        (&["--stage", "c"], b"", 9, 2, b"pcode2c: bad arguments\n"),
+        (&[], ADD1, 0, 3, b"pcode2c: read fault\n"),
+        (&[], b"pcode 1\n", 9, 1, b"pcode2c: line 2: syntax\n"),
+    ];
+    for (list, text, number, status, line) in rows {
+        let mut words = Words::new(alloc);
+        for word in list {
+            words.push(String::from_str(alloc, *word)?)?;
+        }
+        for room in 0..40u32 {
+            let input = MemSource::new(Bytes::copy_of(alloc, text)?, failing(alloc, number)?);
+            let ended = told(alloc, &words, input, sink(alloc, 99)?, sink(alloc, room)?)?;
+            let most = line.len().min(room as usize);
+            let wanted = if most < line.len() { 4 } else { status };
+            assert_eq!(rt; ended.status, wanted, "room {room}");
+            assert!(rt; ended.err.as_slice() == &line[..most], "room {room}");
+            assert!(rt; ended.out.as_slice().is_empty(), "room {room}");
+        }
+    }
+    Ok(())
+}
+
+// 4,194,304 bytes and one more.
+#[test]
+fn an_input_may_have_so_many_bytes(rt: HostRuntime) -> Result<(), Fail> {
+    let alloc = rt.alloc();
+    let most = 4_194_303 - ADD1.len();
+    let fits = after_a_comment(alloc, most)?;
+    assert_eq!(rt; fits.as_slice().len(), 4_194_304);
+    is_printed(&rt, alloc, fits.as_slice(), ADD1_C)?;
+    let long = after_a_comment(alloc, most + 1)?;
+    let ended = plainly(alloc, long.as_slice())?;
+    assert_eq!(rt; ended.status, 6);
+    assert!(rt; ended.out.as_slice().is_empty());
+    assert!(rt; ended.err.as_slice() == b"pcode2c: input too long\n".as_slice());
     Ok(())
 }
 

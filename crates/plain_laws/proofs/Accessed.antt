@@ -23,9 +23,9 @@ use Rattle.pcode_model.specs.Atoms.{Accesses, IsLocal, further_ranges, one_range
 use Rattle.supported.specs.Ranges as named
 use Rattle.supported.specs.Ranges.{code_ranges, is_local, is_local_kind, local_of, locals_of, named_ranges, ops_ranges, output_of, result_range, storage_ranges}
 use Rattle.supported.specs.Supported.{IsSupported, is_supported_code, is_supported_op}
-use Rattle.supported.specs.Formed.{IsFormed, are_inside, is_home, is_inside}
 use Rattle.plain_laws.proofs.Rules.{both, either}
 use Rattle.plain_laws.proofs.Standing.{StandsIn, stands_in, supported_in}
+use Rattle.plain_laws.proofs.Formed.{Inside, IsFormed}
 
 -- ---- lists
 
@@ -141,57 +141,17 @@ named_op l sup i op s v local h =
       ]
     ]
 
--- ---- what named ranges have
-
-pub inside_is : (l : Listing) (vs : List Varnode) → are_inside l vs ≡ true → (v : Varnode) → IsIn v vs → is_inside l v ≡ true
-inside_is l [] h v is = absurd is
-inside_is l (x ∷ vs) h v (inl e) = let P : Varnode → Type 0 = λ y. is_inside l y ≡ true in subst P (sym e) (both _ _ h).0
-inside_is l (x ∷ vs) h v (inr is) = inside_is l vs (both _ _ h).1 v is
-
-pub record Inside (l : Listing) (v : Varnode) : Type 0 where
-  pub some : 0 < v.size
-  pub narrow : v.size ≤ 16
-  pub low : v.offset + v.size ≤ 2 ^ 64
-  pub inside : v.offset + v.size ≤ size_of l v.space
-  pub home : IsLocal l v.space
-  pub local : is_local l v ≡ true
-
-positive : (n : ℕ) → nat_lt 0 n ≡ true → 0 < n
-positive n h = grind (arith, nat_tests)
-
-at_most : (m n : ℕ) → nat_le m n ≡ true → m ≤ n
-at_most m n h = grind (arith, nat_tests)
-
-not_past : (m n : ℕ) → not (nat_lt m n) ≡ true → n ≤ m
-not_past m n h = grind (arith, nat_tests)
-
-same_number : (m n : ℕ) → (m == n) ≡ true → m ≡ n
-same_number m n h = grind (arith, nat_tests)
-
-pub inside_of : (l : Listing) (v : Varnode) → is_inside l v ≡ true → Inside l v
-inside_of l v h =
-    let p = both _ _ h in
-    let a = both _ _ p.0 in
-    let q = both _ _ p.1 in
-    let b = both _ _ q.0 in
-    let c = both _ _ q.1 in
-    record {
-      some = positive _ a.0;
-      narrow = at_most _ _ a.1;
-      low = at_most _ _ b.0;
-      inside = not_past _ _ b.1;
-      home = elim (either _ _ c.0) [ inl e ↦ inl (same_number _ _ e) | inr e ↦ inr (same_number _ _ e) ];
-      local = c.1;
-    }
-
 -- ---- what is accessed is named
 
-local_at : (l : Listing) (v : Varnode) (n : ℕ) → v.space ≡ n → is_local_kind (kind_of l n) ≡ true → is_local l v ≡ true
-local_at l v n e h = let P : ℕ → Type 0 = λ s. is_local_kind (kind_of l s) ≡ true in subst P (sym e) h
+local_at : (l : Listing) (v : Varnode) (n : ℕ) (k : SpaceKind) → v.space ≡ n → kind_of l n ≡ k → is_local_kind k ≡ true → is_local l v ≡ true
+local_at l v n k e f h =
+    let P : ℕ → Type 0 = λ s. is_local_kind (kind_of l s) ≡ true in
+    let Q : SpaceKind → Type 0 = λ j. is_local_kind j ≡ true in
+    subst P (sym e) (subst Q (sym f) h)
 
 pub local_of_home : (l : Listing) → IsFormed l → (v : Varnode) → IsLocal l v.space → is_local l v ≡ true
-local_of_home l formed v (inl e) = local_at l v (register_space l) e (both _ _ formed.spaces).0
-local_of_home l formed v (inr e) = local_at l v (unique_space l) e (both _ _ (both _ _ formed.spaces).1).0
+local_of_home l formed v (inl e) = local_at l v (register_space l) Register e formed.register refl
+local_of_home l formed v (inr e) = local_at l v (unique_space l) Unique e formed.unique refl
 
 by_standing : (l : Listing) → IsSupported l → (p : Place) (s : Standing) → standing l p ≡ s → (v : Varnode) → is_local l v ≡ true → IsIn v (ranges_in l None s) → IsIn v (named_ranges l)
 by_standing l sup p Nothing e v local h = absurd h
@@ -203,7 +163,7 @@ accessed_named l sup formed v acc = by_standing l sup acc.at (standing l acc.at)
 
 -- the ranges that a supported listing accesses have 1 to 16 bytes and lie inside their spaces
 pub accessed_inside : (l : Listing) → IsSupported l → IsFormed l → (v : Varnode) → Accesses l [] v → Inside l v
-accessed_inside l sup formed v acc = inside_of l v (inside_is l (named_ranges l) formed.ranges v (accessed_named l sup formed v acc))
+accessed_inside l sup formed v acc = formed.ranges v (accessed_named l sup formed v acc)
 
 -- any two of them are equal or apart
 pub accessed_apart : (l : Listing) → IsSupported l → IsFormed l → (v w : Varnode) → Accesses l [] v → Accesses l [] w → (v ≡ w) ⊎ named.AreApart v w

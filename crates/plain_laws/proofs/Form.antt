@@ -12,13 +12,13 @@ use Rattle.pcode_model.specs.declared.listing.Varnode.{Varnode}
 use Rattle.pcode_model.specs.declared.listing.Listing.{Listing}
 use Rattle.pcode_model.specs.declared.listing.Place.{Place}
 use Rattle.pcode_model.specs.declared.listing.Instruction.{Instruction}
-use Rattle.pcode_model.specs.Flow.{AreApart, IsFlow, IsIn, NoFault, Reached}
-use Rattle.pcode_model.specs.Spaces.{register_space, unique_space}
+use Rattle.pcode_model.specs.Flow.{IsFlow, IsIn, NoFault, Reached}
+use Rattle.pcode_model.specs.declared.listing.SpaceKind.TheVariants.{Register, Unique}
+use Rattle.pcode_model.specs.Spaces.{kind_of, register_space, unique_space}
 use Rattle.pcode_model.specs.Atoms.{Accesses, InOrder, StandsBefore}
-use Rattle.pcode_model.specs.Rules.{HasFewOps, first_bad}
+use Rattle.pcode_model.specs.Rules.{first_bad}
 use Rattle.supported.specs.Ranges as named
 use Rattle.supported.specs.Supported.{IsSupported}
-use Rattle.supported.specs.Formed.{IsFormed, has_few_ops, stand_apart, stands_before}
 use Rattle.stackvars.specs.Accessed as listed
 use Rattle.stackvars.specs.Accessed.{AreAccessed, AreEqualOrApart, AreSized}
 use Rattle.ranges.specs.Ranges.{IsInside, IsTable}
@@ -26,31 +26,9 @@ use Rattle.ranges.specs.Ranges as table
 use Rattle.plaincode.specs.Form.{AreNarrow, IsLocalStorage, IsPlainForm}
 use Rattle.plaincode.specs.Lowered.{range_at, range_of, ranges_of}
 use Rattle.plain_laws.proofs.Rules.{both}
-use Rattle.plain_laws.proofs.Accessed.{Inside, accessed_apart, accessed_inside}
+use Rattle.plain_laws.proofs.Formed.{Inside, IsFormed}
+use Rattle.plain_laws.proofs.Accessed.{accessed_apart, accessed_inside}
 use Rattle.plain_laws.proofs.Plain.{plain_at}
-
--- ---- what the tests on instructions say
-
-positive : (n : ℕ) → nat_lt 0 n ≡ true → 0 < n
-positive n h = grind (arith, nat_tests)
-
-at_most : (m n : ℕ) → nat_le m n ≡ true → m ≤ n
-at_most m n h = grind (arith, nat_tests)
-
-pub instructions_apart : (code : List Instruction) → stand_apart code ≡ true → AreApart code
-instructions_apart [] h = tt
-instructions_apart (i ∷ []) h = positive i.length (both _ _ h).0
-instructions_apart (i ∷ j ∷ rest) h =
-    let p = both _ _ h in
-    let q = both _ _ p.0 in
-    (positive i.length q.0, (at_most _ _ q.1, instructions_apart (j ∷ rest) p.1))
-
-few_is : (n : ℕ) → nat_le n 16384 ≡ true → n < 2 ^ 32
-few_is n h = grind (arith, nat_tests)
-
-pub few_ops : (code : List Instruction) → has_few_ops code ≡ true → HasFewOps code
-few_ops [] h = tt
-few_ops (i ∷ rest) h = (few_is (length i.ops) (both _ _ h).0, few_ops rest (both _ _ h).1)
 
 pub accessed_sized : (l : Listing) → IsSupported l → IsFormed l → AreSized l
 accessed_sized l sup formed v acc = let i = accessed_inside l sup formed v acc in (i.some, i.low)
@@ -114,7 +92,7 @@ mapped l (x ∷ xs) (suc n) v h = mapped l xs n v h
 
 -- ---- atoms in order are different ranges
 
-before_trans : (r s t : ParamStorage) → StandsBefore r s → StandsBefore s t → StandsBefore r t
+pub before_trans : (r s t : ParamStorage) → StandsBefore r s → StandsBefore s t → StandsBefore r t
 before_trans (P.Register a) (P.Register b) (P.Register c) p q = omega (arith, p, q)
 before_trans (P.Register a) (P.Register b) (P.Unique c) p q = tt
 before_trans (P.Register a) (P.Register b) (P.Stack c) p q = absurd q
@@ -138,12 +116,12 @@ order_tail : (a : Atom) (rest : List Atom) → InOrder (a ∷ rest) → InOrder 
 order_tail a [] h = tt
 order_tail a (x ∷ rest) h = h.1
 
-spaces_differ : (l : Listing) → IsFormed l → register_space l ≡ unique_space l → ⊥
+pub spaces_differ : (l : Listing) → IsFormed l → register_space l ≡ unique_space l → ⊥
 spaces_differ l formed e =
-    let h = (both _ _ (both _ _ formed.spaces).1).1 in
-    differ (register_space l) (unique_space l) h e where
-      differ : (m n : ℕ) → not (m == n) ≡ true → m ≡ n → ⊥
-      differ m n h e = absurd (grind (arith, nat_tests))
+    let P : ℕ → Type 0 = λ n. kind_of l n ≡ Unique in
+    kinds_differ (sym formed.register ∙ subst P (sym e) formed.unique) where
+      kinds_differ : Register ≡ Unique → ⊥
+      kinds_differ h = cc
 
 different : (l : Listing) → IsFormed l → (s t : ParamStorage) (j k : ℕ) → StandsBefore s t → range_at l s j ≡ range_at l t k → ⊥
 different l formed (P.Register a) (P.Register b) j k p e = let f : a ≡ b = ap (λ v. v.offset) e in absurd (omega (arith, p, f))

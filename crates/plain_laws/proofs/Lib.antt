@@ -1,5 +1,6 @@
 pub mod Rules
 pub mod Standing
+pub mod Formed
 pub mod Accessed
 pub mod Plain
 pub mod Form

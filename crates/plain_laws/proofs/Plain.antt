@@ -29,11 +29,11 @@ use Rattle.pcode_model.specs.Atoms.{Accesses, IsLocal, further_ranges, one_range
 use Rattle.pcode_model.specs.Rules.{any_wide, binary_sized, breaks, first_bad, has_operands, has_output, input_ranges, is_too_wide, is_wide, names_address, operands_of, output_wide, past_first, rules, sizes_fit, unary_sized}
 use Rattle.supported.specs.Ranges.{code_ranges, is_local, is_local_kind, named_ranges, result_range, storage_ranges}
 use Rattle.supported.specs.Supported.{IsSupported, is_ram, is_supported_binary, is_supported_code, none_in_ram, output_off_ram, read_inputs, rest_of}
-use Rattle.supported.specs.Formed.{IsFormed, are_formed_varnodes, is_formed_output, is_formed_varnode}
 use Rattle.plaincode.specs.Form.{HasNode, IsNarrow, IsOperand, IsOperandBy, IsOutput, IsOutputBy, IsPlain, IsPlainOp, IsResult}
 use Rattle.plain_laws.proofs.Rules.{both, breaks_none, either, neither}
-use Rattle.plain_laws.proofs.Standing.{StandsIn, formed_in, formed_varnode, stands_in, supported_in}
-use Rattle.plain_laws.proofs.Accessed.{Inside, behind, in_front, inside_is, inside_of, named_op}
+use Rattle.plain_laws.proofs.Standing.{StandsIn, stands_in, supported_in}
+use Rattle.plain_laws.proofs.Formed.{IsFormed, IsInput}
+use Rattle.plain_laws.proofs.Accessed.{behind, in_front, named_op}
 
 -- ---- sizes
 
@@ -193,18 +193,9 @@ operand_in l (O.LeftOut op) vs s v h = absurd (cc)
 
 -- ---- what an op of a supported listing has
 
-kind_true : (k : SpaceKind) → k ≡ Constant → same_kind Constant k ≡ true
-kind_true k e = let P : SpaceKind → Type 0 = λ j. same_kind Constant j ≡ true in subst P (sym e) refl
-
-some_size : (n : ℕ) → nat_lt 0 n ≡ true → 0 < n
-some_size n h = grind (arith, nat_tests)
-
-constant_fits : (l : Listing) (v : Varnode) → is_formed_varnode l v ≡ true → kind_of l v.space ≡ Constant → v.offset < limit v.size
+constant_fits : (l : Listing) (v : Varnode) → IsInput l v → kind_of l v.space ≡ Constant → v.offset < limit v.size
 unfolding limit
-constant_fits l v h e =
-    let b = both _ _ h in
-    let P : Bool → Type 0 = λ c. or (not c) (nat_lt v.offset (256 ^ v.size)) ≡ true in
-    below _ _ (subst P (kind_true _ e) b.1)
+constant_fits l v input e = input.fits e
 
 is_ram_kind : (k : SpaceKind) → k ≡ Ram → same_kind k Ram ≡ true
 is_ram_kind k e = let P : SpaceKind → Type 0 = λ j. same_kind j Ram ≡ true in subst P (sym e) refl
@@ -212,7 +203,7 @@ is_ram_kind k e = let P : SpaceKind → Type 0 = λ j. same_kind j Ram ≡ true 
 no_ram : (l : Listing) (v : Varnode) → not (is_ram l v) ≡ true → kind_of l v.space ≡ Ram → ⊥
 no_ram l v h e = let P : Bool → Type 0 = λ b. not b ≡ true in let q : not true ≡ true = subst P (is_ram_kind _ e) h in cc
 
-operand_by : (l : Listing) (ranges : List Varnode) (v : Varnode) (k : SpaceKind) → kind_of l v.space ≡ k → is_formed_varnode l v ≡ true → not (is_ram l v) ≡ true → (is_local l v ≡ true → IsIn v ranges) → IsOperandBy k ranges v
+operand_by : (l : Listing) (ranges : List Varnode) (v : Varnode) (k : SpaceKind) → kind_of l v.space ≡ k → IsInput l v → not (is_ram l v) ≡ true → (is_local l v ≡ true → IsIn v ranges) → IsOperandBy k ranges v
 operand_by l ranges v Constant e formed off has = constant_fits l v formed e
 operand_by l ranges v Ram e formed off has = absurd (no_ram l v off e)
 operand_by l ranges v Register e formed off has = has (let P : SpaceKind → Type 0 = λ k. is_local_kind k ≡ true in subst P (sym e) refl)
@@ -316,18 +307,10 @@ wide_output None h v is = absurd is
 wide_output (Some z) h v (inl e) = let P : Varnode → Type 0 = λ y. y.size ≤ 16 in subst P (sym e) (not_wide z.size h)
 wide_output (Some z) h v (inr is) = absurd is
 
-formed_output : (l : Listing) (out : Option Varnode) → is_formed_output l out ≡ true → (v : Varnode) → IsIn v (one_range out) → (is_formed_varnode l v && not (same_kind Constant (kind_of l v.space))) ≡ true
-formed_output l None h v is = absurd is
-formed_output l (Some z) h v (inl e) = let P : Varnode → Type 0 = λ y. (is_formed_varnode l y && not (same_kind Constant (kind_of l y.space))) ≡ true in subst P (sym e) h
-formed_output l (Some z) h v (inr is) = absurd is
-
 output_off : (l : Listing) (out : Option Varnode) → output_off_ram l out ≡ true → (v : Varnode) → IsIn v (one_range out) → not (is_ram l v) ≡ true
 output_off l None h v is = absurd is
 output_off l (Some z) h v (inl e) = let P : Varnode → Type 0 = λ y. not (is_ram l y) ≡ true in subst P (sym e) h
 output_off l (Some z) h v (inr is) = absurd is
-
-not_constant : (k : SpaceKind) → not (same_kind Constant k) ≡ true → k ≡ Constant → ⊥
-not_constant k h e = let P : SpaceKind → Type 0 = λ j. not (same_kind Constant j) ≡ true in let q : not true ≡ true = subst P e h in cc
 
 module _ (l : Listing) (good : first_bad l ≡ None) (sup : IsSupported l) (formed : IsFormed l) (ranges : List Varnode) (has : (v : Varnode) → Accesses l [] v → IsIn v ranges) (p : Place) (reached : Reached l [] p) (i : Instruction) (op : Op) (here : standing l p ≡ Does i op) where
   stand : StandsIn l.code i op
@@ -341,7 +324,7 @@ module _ (l : Listing) (good : first_bad l ≡ None) (sup : IsSupported l) (form
   unfolding stand
   variable v local is =
       let named = named_op l sup i op stand v local is in
-      let home = (inside_of l v (inside_is l (named_ranges l) formed.ranges v named)).home in
+      let home = (formed.ranges v named).home in
       let P : Standing → Type 0 = λ s. IsIn v (ranges_in l None s) in
       has v (record { at = p; reached = reached; range = subst P (sym here) is; is_local = home })
 
@@ -355,27 +338,25 @@ module _ (l : Listing) (good : first_bad l ≡ None) (sup : IsSupported l) (form
   code : is_supported_code op.code ≡ true
   code = (both _ _ facts).0
 
-  shapes : (are_formed_varnodes l op.inputs && is_formed_output l op.out) ≡ true
-  unfolding stand
-  shapes = formed_in l l.code formed.varnodes i op stand
-
   operand : (v : Varnode) → IsRead op.code op.inputs v → IsOperand l ranges v
+  unfolding stand
   operand v is =
       let read = read_of op.code op.inputs v is in
-      let shape = formed_varnode l op.inputs (both _ _ shapes).0 v (read_is op.code op.inputs code v read) in
+      let input = formed.inputs i op stand v (read_is op.code op.inputs code v read) in
       let narrow = narrow_in (input_ranges op.code op.inputs) (neither _ _ wide).0 v (looked_at op.code op.inputs code v read) in
       let off = off_ram l (read_inputs op.code op.inputs) (both _ _ (both _ _ facts).1).0 v read in (
-        (some_size v.size (both _ _ shape).0, narrow),
-        operand_by l ranges v (kind_of l v.space) refl shape off (λ local. variable v local (in_front (ranges_read (operands l op.code op.inputs)) _ v (operand_in l op.code op.inputs code v is))),
+        (input.some, narrow),
+        operand_by l ranges v (kind_of l v.space) refl input off (λ local. variable v local (in_front (ranges_read (operands l op.code op.inputs)) _ v (operand_in l op.code op.inputs code v is))),
       )
 
   written : (v : Varnode) → IsIn v (one_range op.out) → IsOutput l ranges v
+  unfolding stand
   written v is =
-      let shape = both _ _ (formed_output l op.out (both _ _ shapes).1 v is) in
+      let output = formed.outputs i op stand v is in
       let narrow = wide_output op.out (neither _ _ wide).1 v is in
       let off = output_off l op.out (both _ _ (both _ _ facts).1).1 v is in (
-        (some_size v.size (both _ _ shape.0).0, narrow),
-        output_by l ranges v (kind_of l v.space) refl (not_constant _ shape.1) off (λ local. variable v local (behind (ranges_read (operands l op.code op.inputs)) _ v (in_front (one_range op.out) _ v is))),
+        (output.some, narrow),
+        output_by l ranges v (kind_of l v.space) refl output.variable off (λ local. variable v local (behind (ranges_read (operands l op.code op.inputs)) _ v (in_front (one_range op.out) _ v is))),
       )
 
   given : (gives : Option Varnode) → (proto_of l None).gives ≡ gives → op.code ≡ O.Return → IsResult l ranges gives
@@ -383,7 +364,7 @@ module _ (l : Listing) (good : first_bad l ≡ None) (sup : IsSupported l) (form
   given (Some v) e is =
       let is_result : IsIn v (result_range (proto_of l None).gives) = let P : Option Varnode → Type 0 = λ o. IsIn v (result_range o) in subst P (sym e) (inl refl) in
       let named : IsIn v (named_ranges l) = behind (code_ranges l l.code) _ v (behind (storage_ranges (proto_of l None).args) _ v is_result) in
-      let inside = inside_of l v (inside_is l (named_ranges l) formed.ranges v named) in
+      let inside = formed.ranges v named in
       let further : IsIn v (further_ranges l None op.code op.inputs) =
       let P : Opcode → Type 0 = λ c. IsIn v (further_ranges l None c op.inputs) in
       let Q : Option Varnode → Type 0 = λ o. IsIn v (one_range o) in

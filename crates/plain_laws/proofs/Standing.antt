@@ -3,13 +3,11 @@ use Rattle.std.proofs.Common.{◌≡◌, ◌⊎◌, ℕ, zero, suc, Bool, true, 
 use Rattle.std.specs.Prelude.{◌&&◌, ◌==◌, if◌then◌else◌, slice_get}
 use Rattle.pcode_model.specs.declared.listing.Op.{Op}
 use Rattle.pcode_model.specs.declared.listing.Place.{Place}
-use Rattle.pcode_model.specs.declared.listing.Varnode.{Varnode}
 use Rattle.pcode_model.specs.declared.listing.Instruction.{Instruction}
 use Rattle.pcode_model.specs.declared.listing.Listing.{Listing}
 use Rattle.pcode_model.specs.Flow.{IsIn}
 use Rattle.pcode_model.specs.Places.{Standing, Nothing, Passes, Does, instruction_in, op_in, standing, standing_in, standing_of}
 use Rattle.supported.specs.Supported.{are_supported_ops, is_supported_code_of, is_supported_op}
-use Rattle.supported.specs.Formed.{are_formed_ops, are_formed_varnodes, is_formed_code, is_formed_output, is_formed_varnode}
 use Rattle.plain_laws.proofs.Rules.{both}
 
 got_in : {A : Type 0} (xs : List A) (n : ℕ) (x : A) → slice_get xs n ≡ Some x → IsIn x xs
@@ -63,20 +61,3 @@ supported_in l (x ∷ code) h i op s = elim s.code_has [
   | inl e ↦ let P : Instruction → Type 0 = λ y. IsIn op y.ops in supported_op l x.ops (both _ _ h).0 op (subst P e s.ops_have)
   | inr is ↦ supported_in l code (both _ _ h).1 i op (record { code_has = is; ops_have = s.ops_have })
 ]
-
-formed_op : (l : Listing) (ops : List Op) → are_formed_ops l ops ≡ true → (op : Op) → IsIn op ops → (are_formed_varnodes l op.inputs && is_formed_output l op.out) ≡ true
-formed_op l [] h op is = absurd is
-formed_op l (x ∷ ops) h op (inl e) = let P : Op → Type 0 = λ y. (are_formed_varnodes l y.inputs && is_formed_output l y.out) ≡ true in subst P (sym e) (both _ _ h).0
-formed_op l (x ∷ ops) h op (inr is) = formed_op l ops (both _ _ h).1 op is
-
-pub formed_in : (l : Listing) (code : List Instruction) → is_formed_code l code ≡ true → (i : Instruction) (op : Op) → StandsIn code i op → (are_formed_varnodes l op.inputs && is_formed_output l op.out) ≡ true
-formed_in l [] h i op s = absurd s.code_has
-formed_in l (x ∷ code) h i op s = elim s.code_has [
-  | inl e ↦ let P : Instruction → Type 0 = λ y. IsIn op y.ops in formed_op l x.ops (both _ _ h).0 op (subst P e s.ops_have)
-  | inr is ↦ formed_in l code (both _ _ h).1 i op (record { code_has = is; ops_have = s.ops_have })
-]
-
-pub formed_varnode : (l : Listing) (vs : List Varnode) → are_formed_varnodes l vs ≡ true → (v : Varnode) → IsIn v vs → is_formed_varnode l v ≡ true
-formed_varnode l [] h v is = absurd is
-formed_varnode l (x ∷ vs) h v (inl e) = let P : Varnode → Type 0 = λ y. is_formed_varnode l y ≡ true in subst P (sym e) (both _ _ h).0
-formed_varnode l (x ∷ vs) h v (inr is) = formed_varnode l vs (both _ _ h).1 v is

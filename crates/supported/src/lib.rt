@@ -1,9 +1,7 @@
 //! Which listings are built so far: those that the plain lowering covers. The others are refused as `not built`.
 #![tactic(auto)]
 
-mod formed;
 mod listing;
 mod ranges;
 
-pub use formed::is_formed;
 pub use listing::is_supported;

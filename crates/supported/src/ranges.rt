@@ -17,7 +17,7 @@ pub fn space_kind(listing: &Listing, space: u8) -> SpaceKind
 }
 
 /// Whether a kind is that of the register space or of the unique space.
-pub fn is_local_kind(kind: SpaceKind) -> bool
+fn is_local_kind(kind: SpaceKind) -> bool
     ensures { result ≡ is_local_kind kind }
 {
     match kind {
@@ -27,7 +27,7 @@ pub fn is_local_kind(kind: SpaceKind) -> bool
 }
 
 /// Whether the range is one of the register space or of the unique space.
-pub fn stands_locally(listing: &Listing, varnode: &Varnode) -> bool
+fn stands_locally(listing: &Listing, varnode: &Varnode) -> bool
     ensures { result ≡ is_local listing.now varnode.now }
 {
     is_local_kind(space_kind(listing, varnode.space))
@@ -140,7 +140,7 @@ pub fn are_equal_or_apart(alloc: Global, listing: &Listing) -> Result<bool, Allo
 }
 
 /// The register and unique ranges that the listing names.
-pub fn named_ranges(alloc: Global, listing: &Listing) -> Result<Vec<Varnode>, AllocError>
+fn named_ranges(alloc: Global, listing: &Listing) -> Result<Vec<Varnode>, AllocError>
     ensures { IfOk result (λ ranges. ranges.items ≡ named_ranges listing.now) }
 {
     let mut ranges = Vec::new(alloc);

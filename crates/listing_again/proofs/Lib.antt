@@ -1,0 +1,9 @@
+pub mod Cuts
+pub mod Numbers
+pub mod Ranges
+pub mod Told
+pub mod Lines
+pub mod Ranged
+pub mod Growth
+pub mod Order
+pub mod Whole

@@ -1,0 +1,253 @@
+-- Numbers and bytes are read back from their canonical text.
+use Rattle.std.proofs.Common.{◌≡◌, ◌∙◌, ◌<◌, ◌≤◌, ◌+◌, ◌*◌, ◌/◌, ◌%◌, ◌^◌, ℕ, zero, suc, Bool, true, false, List, [], ◌∷◌, length, get_or, ap, sym, refl, arith}
+use Rattle.std.proofs.Math.Nat.{pow-le-pow_right}
+use Rattle.std.specs.Prelude.{◌==◌, ◌&&◌, nat_le, nat_lt, decimal, Option, Some, None, IfSome, if◌then◌else◌}
+use Rattle.std.specs.Fmt.{digit_glyph, digits, digits_onto}
+use Rattle.std.specs.List.{AllByRecursion, list_all}
+use Rattle.std.specs.Option.{option_map}
+use Rattle.std.specs.Char.{digit_value, is_digit}
+use Rattle.std.specs.Str.Parse.{AllDigits, digits_value}
+use Rattle.std.proofs.lemmas.Fmt.{decimal_digit, decimal_is_IsNumeral, digits_is_IsNumeral, first_decimal, hex_one_digit, length-decimal-le}
+use Rattle.std.proofs.lemmas.Int.Digits.{digits_value-lt}
+use Rattle.std.proofs.lemmas.Bool.Decides.{nat_tests}
+use Rattle.listing_lines.specs.Text.{Line}
+use Rattle.listing_lines.specs.Tokens.{bytes_of, decimal_of, has_leading_zero, hexadecimal_of, number_of, pairs_of}
+use Rattle.listing_print.specs.Printed.{hexadecimal, pairs}
+use Rattle.listing_again.proofs.Cuts.{IsPart, IsToken}
+
+-- ---- digits
+
+below : (a b : ℕ) → nat_lt a b ≡ true → a < b
+below a b h = grind (arith, nat_tests)
+
+is_below : (a b : ℕ) → a < b → nat_lt a b ≡ true
+is_below a b h = grind (arith, nat_tests)
+
+within : (a b : ℕ) → a ≤ b → nat_le a b ≡ true
+within a b h = grind (arith, nat_tests)
+
+is_within : (a b : ℕ) → nat_le a b ≡ true → a ≤ b
+is_within a b h = grind (arith, nat_tests)
+
+never : true ≡ false → ⊥
+never h = cc
+
+pub left_true : (a b : Bool) → (a && b) ≡ true → a ≡ true
+left_true true b h = refl
+left_true false b h = absurd (never (sym h))
+
+pub right_true : (a b : Bool) → (a && b) ≡ true → b ≡ true
+right_true true b h = h
+right_true false b h = absurd (never (sym h))
+
+pub both_true : (a b : Bool) → a ≡ true → b ≡ true → (a && b) ≡ true
+both_true a b p q = ap (λ (t : Bool). t && b) p ∙ q
+
+-- no digit stands below `0`, nor is the colon one
+digit_token : (b : ℕ) → digit_value b < 16 → (32 < b) × ((b == 58) ≡ false)
+digit_token b h = (above, other)
+  where
+    low : b < 48 → digit_value b ≡ 36
+    low p = grind (arith, nat_tests)
+
+    colon : b ≡ 58 → digit_value b ≡ 36
+    colon p = ap digit_value p
+
+    above : 32 < b
+    above = grind (arith, low)
+
+    other : (b == 58) ≡ false
+    other = grind (arith, nat_tests, colon)
+
+pub digits_token : (ds : Line) → AllDigits 16 ds → IsToken ds
+digits_token [] h = tt
+digits_token (d ∷ ds) h = (digit_token d h.0, digits_token ds h.1)
+
+wider : (ds : Line) → AllDigits 10 ds → AllDigits 16 ds
+wider [] h = tt
+wider (d ∷ ds) h = (omega (arith, h.0), wider ds h.1)
+
+all_digits : (radix : ℕ) (ds : Line) → AllDigits radix ds → list_all (λ b. is_digit b radix) ds ≡ true
+all_digits radix [] h = refl
+all_digits radix (d ∷ ds) h = both_true _ _ (is_below _ _ h.0) (all_digits radix ds h.1)
+
+digits_all : (radix : ℕ) (ds : Line) → list_all (λ b. is_digit b radix) ds ≡ true → AllDigits radix ds
+digits_all radix [] h = tt
+digits_all radix (d ∷ ds) h = (below _ _ (left_true _ _ h), digits_all radix ds (right_true _ _ h))
+
+number_is : (radix most : ℕ) (ds : Line) → 0 < length ds → length ds ≤ most → AllDigits radix ds → number_of radix most ds ≡ Some (digits_value radix ds)
+number_is radix most ds some few all =
+    let test = both_true _ _ (within 1 (length ds) some) (both_true _ _ (within (length ds) most few) (all_digits radix ds all)) in
+    ap (λ (t : Bool). if t then Some (digits_value radix ds) else None) test
+
+number_small : (radix most : ℕ) (ds : Line) → 1 ≤ radix → IfSome (number_of radix most ds) (λ n. n < radix ^ most)
+number_small radix most ds one = by_test _ refl
+  where
+    by_test : (t : Bool) → (nat_le 1 (length ds) && (nat_le (length ds) most && list_all (λ b. is_digit b radix) ds)) ≡ t
+        → IfSome (if t then Some (digits_value radix ds) else None) (λ n. n < radix ^ most)
+    by_test false e = tt
+    by_test true e =
+        let rest : (nat_le (length ds) most && list_all (λ b. is_digit b radix) ds) ≡ true = right_true (nat_le 1 (length ds)) (nat_le (length ds) most && list_all (λ b. is_digit b radix) ds) e in
+        let few : length ds ≤ most = is_within _ _ (left_true _ _ rest) in
+        let all : AllDigits radix ds = digits_all radix ds (right_true (nat_le (length ds) most) (list_all (λ b. is_digit b radix) ds) rest) in
+        let lower : digits_value radix ds < radix ^ length ds = digits_value-lt radix ds all in
+        let power : radix ^ length ds ≤ radix ^ most = pow-le-pow_right one few in
+        omega (arith, lower, power)
+
+-- ---- hexadecimal numbers
+
+power_step : (m : ℕ) → 16 ^ suc m ≡ 16 * 16 ^ m
+power_step m = grind arith
+
+length_onto : (k m n : ℕ) (acc : Line) → 0 < m → n < 16 ^ m → length (digits_onto k 16 false n acc) ≤ m + length acc
+length_onto zero m n acc some small = omega arith
+length_onto (suc k) zero n acc some small = absurd (omega arith)
+length_onto (suc k) (suc m) n acc some small = by_end (length_onto k m (n / 16) (digit_glyph false (n % 16) ∷ acc)) (n / 16 == 0) refl
+  where
+    first : Line
+    first = digit_glyph false (n % 16) ∷ acc
+
+    zero_not : (n / 16 == 0) ≡ false → n / 16 ≡ 0 → ⊥
+    zero_not e z = grind (arith, nat_tests)
+
+    none_left : m ≡ 0 → n < 16
+    none_left z = let e : 16 ^ suc m ≡ 16 = ap (λ k. 16 ^ suc k) z in omega (arith, e, small)
+
+    some_left : (n / 16 ≡ 0 → ⊥) → 0 < m
+    some_left other = grind (arith, none_left)
+
+    by_end : (0 < m → n / 16 < 16 ^ m → length (digits_onto k 16 false (n / 16) first) ≤ m + length first)
+        → (t : Bool) → (n / 16 == 0) ≡ t → length (if t then first else digits_onto k 16 false (n / 16) first) ≤ suc m + length acc
+    by_end next true e = omega arith
+    by_end next false e =
+        let more : n / 16 < 16 ^ m = omega (arith, power_step m, small) in
+        let h = next (some_left (zero_not e)) more in
+        omega (arith, h)
+
+length_hexadecimal : (n : ℕ) → n < 16 ^ 16 → length (digits 16 false n) ≤ 16
+unfolding digits
+length_hexadecimal n small = length_onto 64 16 n [] (omega arith) small
+
+wide : (n : ℕ) → n < 16 ^ 16 → n < 16 ^ 64
+wide n small = omega arith
+
+pub digits_are : (n : ℕ) → n < 16 ^ 16 → AllDigits 16 (digits 16 false n)
+digits_are n small = (digits_is_IsNumeral 16 false (omega arith) (omega arith) n (wide n small)).0.1
+
+pub hexadecimal_back : (n : ℕ) → n < 16 ^ 16 → hexadecimal_of (hexadecimal n) ≡ Some n
+hexadecimal_back n small =
+    let numeral = digits_is_IsNumeral 16 false (omega arith) (omega arith) n (wide n small) in
+    number_is 16 16 (digits 16 false n) numeral.0.0 (length_hexadecimal n small) numeral.0.1 ∙ ap Some numeral.1
+
+pub hexadecimal_small : (part : Line) → IfSome (hexadecimal_of part) (λ n. n < 16 ^ 16)
+hexadecimal_small [] = tt
+hexadecimal_small (a ∷ []) = tt
+hexadecimal_small (a ∷ b ∷ ds) = by_test (a == 48 && b == 120)
+  where
+    by_test : (t : Bool) → IfSome (if t then number_of 16 16 ds else None) (λ n. n < 16 ^ 16)
+    by_test true = number_small 16 16 ds (omega arith)
+    by_test false = tt
+
+pub hexadecimal_token : (n : ℕ) → n < 16 ^ 16 → IsToken (hexadecimal n)
+hexadecimal_token n small = ((omega arith, refl), ((omega arith, refl), digits_token _ (digits_are n small)))
+
+-- ---- decimal numbers
+
+no_zero : (ds : Line) → 48 < get_or ds 0 0 → has_leading_zero ds ≡ false
+no_zero [] h = refl
+no_zero (a ∷ []) h = refl
+no_zero (a ∷ b ∷ ds) h = other a h
+  where
+    other : (x : ℕ) → 48 < x → (x == 48) ≡ false
+    other x p = grind (arith, nat_tests)
+
+no_leading : (n : ℕ) → n < 10 ^ 5 → has_leading_zero (decimal n) ≡ false
+no_leading zero small = ap has_leading_zero (decimal_digit 0 (omega arith))
+no_leading (suc n) small = no_zero (decimal (suc n)) (first_decimal (suc n) (omega arith) (omega arith))
+
+pub decimal_back : (n : ℕ) → n < 10 ^ 5 → decimal_of (decimal n) ≡ Some n
+decimal_back n small =
+    let numeral = decimal_is_IsNumeral n (omega arith) in
+    ap (λ (t : Bool). if t then None else number_of 10 5 (decimal n)) (no_leading n small)
+    ∙ number_is 10 5 (decimal n) numeral.0.0 (length-decimal-le 5 n (omega arith) small (omega arith)) numeral.0.1 ∙ ap Some numeral.1
+
+pub decimal_small : (part : Line) → IfSome (decimal_of part) (λ n. n < 10 ^ 5)
+decimal_small part = by_zero (has_leading_zero part)
+  where
+    by_zero : (t : Bool) → IfSome (if t then None else number_of 10 5 part) (λ n. n < 10 ^ 5)
+    by_zero true = tt
+    by_zero false = number_small 10 5 part (omega arith)
+
+pub decimal_token : (n : ℕ) → n < 10 ^ 5 → IsToken (decimal n)
+decimal_token n small = digits_token _ (wider _ (decimal_is_IsNumeral n (omega arith)).0.1)
+
+-- ---- bytes
+
+abbrev pub AreBytes : List ℕ → Type 0
+AreBytes bytes = AllByRecursion (λ b. b < 256) bytes
+
+glyph_value : (d : ℕ) → d < 16 → digit_value (digit_glyph false d) ≡ d
+glyph_value d small =
+    let numeral = digits_is_IsNumeral 16 false (omega arith) (omega arith) d (omega arith) in
+    let value : digits_value 16 (digit_glyph false d ∷ []) ≡ d = ap (digits_value 16) (sym (hex_one_digit false d small)) ∙ numeral.1 in
+    omega (arith, value)
+
+glyph_digit : (d : ℕ) → d < 16 → is_digit (digit_glyph false d) 16 ≡ true
+glyph_digit d small = is_below _ _ (omega (arith, glyph_value d small))
+
+pairs_back : (bytes : List ℕ) → AreBytes bytes → pairs_of (pairs bytes) ≡ Some bytes
+pairs_back [] h = refl
+pairs_back (b ∷ bytes) h =
+    let high : b / 16 < 16 = omega (arith, h.0) in
+    let low : b % 16 < 16 = omega arith in
+    let test = both_true _ _ (glyph_digit (b / 16) high) (glyph_digit (b % 16) low) in
+    let byte : digit_value (digit_glyph false (b / 16)) * 16 + digit_value (digit_glyph false (b % 16)) ≡ b = omega (arith, glyph_value (b / 16) high, glyph_value (b % 16) low) in
+    let value : ℕ = digit_value (digit_glyph false (b / 16)) * 16 + digit_value (digit_glyph false (b % 16)) in
+    ap (λ (t : Bool). if t then option_map (λ (more : List ℕ). value ∷ more) (pairs_of (pairs bytes)) else None) test
+    ∙ ap (option_map (λ (more : List ℕ). value ∷ more)) (pairs_back bytes h.1) ∙ ap (λ (v : ℕ). Some (v ∷ bytes)) byte
+
+pub bytes_back : (bytes : List ℕ) → 0 < length bytes → AreBytes bytes → bytes_of (pairs bytes) ≡ Some bytes
+bytes_back [] some h = absurd (omega arith)
+bytes_back (b ∷ bytes) some h = pairs_back (b ∷ bytes) h
+
+digit_small : (b : ℕ) → is_digit b 16 ≡ true → digit_value b < 16
+digit_small b h = below _ _ h
+
+pairs_small : (part : Line) → IfSome (pairs_of part) AreBytes
+pairs_small [] = tt
+pairs_small (a ∷ []) = tt
+pairs_small (a ∷ b ∷ part) = by_digits (is_digit a 16) (is_digit b 16) refl refl (pairs_of part) (pairs_small part)
+  where
+    by_more : digit_value a * 16 + digit_value b < 256 → (more : Option (List ℕ)) → IfSome more AreBytes → IfSome (option_map (λ (bytes : List ℕ). (digit_value a * 16 + digit_value b) ∷ bytes) more) AreBytes
+    by_more small None h = tt
+    by_more small (Some bytes) h = (small, h)
+
+    by_digits : (t u : Bool) → is_digit a 16 ≡ t → is_digit b 16 ≡ u → (more : Option (List ℕ)) → IfSome more AreBytes
+        → IfSome (if t && u then option_map (λ (bytes : List ℕ). (digit_value a * 16 + digit_value b) ∷ bytes) more else None) AreBytes
+    by_digits true true p q more h = by_more (omega (arith, digit_small a p, digit_small b q)) more h
+    by_digits true false p q more h = tt
+    by_digits false u p q more h = tt
+
+pub bytes_small : (part : Line) → IfSome (bytes_of part) (λ bytes. (0 < length bytes) × AreBytes bytes)
+bytes_small [] = tt
+bytes_small (a ∷ []) = tt
+bytes_small (a ∷ b ∷ part) = both (pairs_of (a ∷ b ∷ part)) (pairs_small (a ∷ b ∷ part)) (some (is_digit a 16 && is_digit b 16))
+  where
+    grown : (more : Option (List ℕ)) → IfSome (option_map (λ (bytes : List ℕ). (digit_value a * 16 + digit_value b) ∷ bytes) more) (λ bytes. 0 < length bytes)
+    grown None = tt
+    grown (Some bytes) = omega arith
+
+    some : (t : Bool) → IfSome (if t then option_map (λ (bytes : List ℕ). (digit_value a * 16 + digit_value b) ∷ bytes) (pairs_of part) else None) (λ bytes. 0 < length bytes)
+    some true = grown (pairs_of part)
+    some false = tt
+
+    both : (o : Option (List ℕ)) → IfSome o AreBytes → IfSome o (λ bytes. 0 < length bytes) → IfSome o (λ bytes. (0 < length bytes) × AreBytes bytes)
+    both None h g = tt
+    both (Some bytes) h g = (g, h)
+
+glyph_part : (d : ℕ) → d < 16 → 32 < digit_glyph false d
+glyph_part d small = (digit_token _ (omega (arith, glyph_value d small))).0
+
+pub pairs_part : (bytes : List ℕ) → AreBytes bytes → IsPart (pairs bytes)
+pairs_part [] h = tt
+pairs_part (b ∷ bytes) h = (glyph_part (b / 16) (omega (arith, h.0)), (glyph_part (b % 16) (omega arith), pairs_part bytes h.1))

@@ -1,0 +1,9 @@
+//! Names, numbered in the order in which they were first seen.
+#![tactic(auto)]
+
+mod table;
+
+pub use table::NameTable;
+
+#[cfg(test)]
+mod tests;
