@@ -1,6 +1,5 @@
 -- A statement that begins with a word of its own.
-use Rattle.std.proofs.Common.{◌≡◌, ℕ, suc, List, Option, Some, refl}
-use Rattle.cmeaning.specs.declared.tree.Stmt.{Stmt}
+use Rattle.std.proofs.Common.{◌≡◌, ℕ, suc, List, Some, refl}
 use Rattle.ctext.specs.Names.{Scope}
 use Rattle.cread.specs.declared.item.Line.{Line}
 use Rattle.cread.specs.Statements.{line_at, line_by, statement_by, statement_at}

@@ -1,5 +1,5 @@
 -- The parts of statements are read again: expressions, arguments, memory accesses and calls.
-use Rattle.std.proofs.Common.{◌≡◌, ℕ, zero, suc, ◌+◌, ◌-◌, ◌<◌, ◌≤◌, Bool, true, false, ◌&&◌, List, [], ◌∷◌, ◌++◌, length, Option, Some, None, refl, sym, subst, arith, append_assoc, length-append}
+use Rattle.std.proofs.Common.{◌≡◌, ℕ, zero, suc, ◌<◌, ◌≤◌, Bool, true, false, ◌&&◌, List, [], ◌∷◌, ◌++◌, length, Option, Some, None, refl, sym, subst, arith, append_assoc, length-append}
 use Rattle.std.specs.Prelude.{codes}
 use Rattle.bits_core.specs.declared.word.Width.{Width}
 use Rattle.cmeaning.specs.declared.shape.Shape.{Shape}
@@ -7,7 +7,6 @@ use Rattle.cmeaning.specs.Shape.{shape_of, is_right, has_width, is_condition}
 use Rattle.cmeaning.specs.Valid.{are_right, have_widths, is_variable, is_target}
 use Rattle.cmeaning.specs.declared.tree.Expr.{Expr}
 use Rattle.cmeaning.specs.declared.tree.Stmt.{Stmt}
-use Rattle.cmeaning.specs.declared.tree.Stmt.TheVariants as s
 use Rattle.ctext.specs.Names.{Scope, variable, separated, further}
 use Rattle.ctext.specs.Expressions.{form}
 use Rattle.ctext.specs.Statements.{loop_head, plain_texts, target_text}

@@ -1,12 +1,11 @@
 -- Reading expressions.
-use Rattle.std.specs.Prelude.{◌≡◌, ℕ, zero, suc, ◌+◌, ◌%◌, ◌==◌, min, nat_lt, Bool, true, false, if◌then◌else◌, List, codes, Option, Some, None}
+use Rattle.std.specs.Prelude.{ℕ, zero, suc, ◌+◌, ◌%◌, ◌==◌, min, nat_lt, Bool, true, false, if◌then◌else◌, List, codes, Option, Some, None}
 use Rattle.bits_core.specs.declared.word.Width.{Width}
 use Rattle.cmeaning.specs.declared.tree.UnaryOp.{UnaryOp}
 use Rattle.cmeaning.specs.declared.tree.UnaryOp.TheVariants.{Neg, Not}
 use Rattle.cmeaning.specs.declared.tree.ArithmeticOp.TheVariants as A
 use Rattle.cmeaning.specs.declared.tree.DivisionOp.{DivisionOp}
 use Rattle.cmeaning.specs.declared.tree.DivisionOp.TheVariants as D
-use Rattle.cmeaning.specs.declared.tree.SignedDivisionOp.{SignedDivisionOp}
 use Rattle.cmeaning.specs.declared.tree.SignedDivisionOp.TheVariants as SD
 use Rattle.cmeaning.specs.declared.tree.ShiftOp.TheVariants as H
 use Rattle.cmeaning.specs.declared.tree.CompareOp.{CompareOp}

@@ -1,5 +1,5 @@
 -- Reading a function with the declarations of its callees.
-use Rattle.std.specs.Prelude.{◌≡◌, ℕ, ◌%◌, ◌^◌, Bool, true, false, List, [], ◌∷◌, length, codes, Option, Some, None}
+use Rattle.std.specs.Prelude.{ℕ, ◌%◌, ◌^◌, Bool, true, false, List, [], length, codes, Option, Some, None}
 use Rattle.bits_core.specs.declared.word.Width.{Width}
 use Rattle.cmeaning.specs.declared.tree.CName.{CName}
 use Rattle.cmeaning.specs.declared.tree.CName.TheVariants.{Declared, Bare}
@@ -11,7 +11,7 @@ use Rattle.cmeaning.specs.declared.tree.Stmt.{Stmt}
 use Rattle.ctext.specs.Names.{scope_of}
 use Rattle.cread.specs.declared.item.Entry.{Entry}
 use Rattle.cread.specs.declared.item.Head.{Head}
-use Rattle.cread.specs.Words.{◌>>=◌, after, chosen, or_else, name_at, decimal_at, hex_at, put_first, many_by}
+use Rattle.cread.specs.Words.{◌>>=◌, after, chosen, name_at, decimal_at, hex_at, put_first, many_by}
 use Rattle.cread.specs.Names.{type_at, entry_at}
 use Rattle.cread.specs.Statements.{body_by, statement_at}
 

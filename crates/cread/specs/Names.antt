@@ -1,5 +1,5 @@
 -- Reading types and the names of variables and callees.
-use Rattle.std.specs.Prelude.{◌≡◌, ℕ, ◌+◌, ◌-◌, ◌*◌, ◌/◌, ◌%◌, ◌^◌, ◌<◌, ◌≤◌, ◌==◌, min, max, Bool, true, false, ◌&&◌, nat_lt, nat_le, if◌then◌else◌, ℤ, pos, negsuc, neg_ℤ, List, [], ◌∷◌, length, codes, Option, Some, None}
+use Rattle.std.specs.Prelude.{ℕ, ◌+◌, ◌-◌, ◌/◌, ◌%◌, ◌^◌, ◌<◌, ◌≤◌, ◌==◌, min, max, Bool, true, false, ◌&&◌, nat_lt, nat_le, if◌then◌else◌, pos, neg_ℤ, List, [], ◌∷◌, length, codes, Option, Some, None}
 use Rattle.std.proofs.Common.{arith}
 use Rattle.std.proofs.Math.Nat.{mod-lt}
 use Rattle.std.specs.Ordering.{int_eq}
@@ -16,7 +16,7 @@ use Rattle.cmeaning.specs.declared.tree.CName.TheVariants.{Declared, Bare}
 use Rattle.cmeaning.specs.declared.tree.CalleeDecl.{CalleeDecl}
 use Rattle.ctext.specs.Names.{Scope}
 use Rattle.cread.specs.declared.item.Entry.{Entry}
-use Rattle.cread.specs.Words.{◌>>=◌, after, chosen, name_at, decimal_at, hex_at}
+use Rattle.cread.specs.Words.{◌>>=◌, after, chosen, decimal_at, hex_at}
 
 -- ---- types
 

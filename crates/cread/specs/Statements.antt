@@ -1,5 +1,5 @@
 -- Reading statements.
-use Rattle.std.specs.Prelude.{◌≡◌, ℕ, zero, suc, ◌+◌, ◌%◌, ◌^◌, Bool, true, false, if◌then◌else◌, List, [], ◌∷◌, length, codes, Option, Some, None}
+use Rattle.std.specs.Prelude.{ℕ, zero, suc, ◌%◌, ◌^◌, Bool, true, false, if◌then◌else◌, List, [], length, codes, Option, Some, None}
 use Rattle.cmeaning.specs.declared.tree.StatementDivision.{StatementDivision}
 use Rattle.cmeaning.specs.declared.tree.StatementDivision.TheVariants as D
 use Rattle.cmeaning.specs.declared.tree.Expr.{Expr}

@@ -1,5 +1,3 @@
-use Rattle.std.proofs.Common.{◌≡◌, ◌%◌, ap, ◌∙◌}
-use Rattle.bits_core.specs.Value.{limit}
 use Rattle.cread.specs.Names.{word_by}
 use Rattle.cread.proofs.Widths.{same_word}
 use Rattle.cread.proofs.names.word_of.Goals as goal
