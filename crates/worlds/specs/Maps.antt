@@ -1,0 +1,14 @@
+-- Maps of bytes as functions. This project's own.
+use Rattle.std.specs.Prelude.{ℕ, Option}
+use Rattle.std.specs.Ordering.{nat_cmp, ordering_then}
+use Rattle.std.specs.BTreeMap.{get}
+use Rattle.worlds.specs.declared.byte_map.ByteMap.{ByteMap}
+use Rattle.worlds.specs.declared.offset_map.OffsetMap.{OffsetMap}
+
+-- the byte at an offset of a space, where there is one
+abbrev pub at : ByteMap → ℕ → ℕ → Option ℕ
+at m s o = get (λ p q. ordering_then (nat_cmp p.0 q.0) (nat_cmp p.1 q.1)) m.bytes (s, o)
+
+-- the byte at an offset, where there is one
+abbrev pub at_offset : OffsetMap → ℕ → Option ℕ
+at_offset m o = get nat_cmp m.bytes o
