@@ -2,6 +2,7 @@
 use Rattle.std.specs.Prelude.{ℕ, Option}
 use Rattle.std.specs.Ordering.{nat_cmp, ordering_then}
 use Rattle.std.specs.BTreeMap.{get}
+use Rattle.pcode_model.specs.Memory.{or_else}
 use Rattle.worlds.specs.declared.byte_map.ByteMap.{ByteMap}
 use Rattle.worlds.specs.declared.offset_map.OffsetMap.{OffsetMap}
 
@@ -12,3 +13,7 @@ at m s o = get (λ p q. ordering_then (nat_cmp p.0 q.0) (nat_cmp p.1 q.1)) m.byt
 -- the byte at an offset, where there is one
 abbrev pub at_offset : OffsetMap → ℕ → Option ℕ
 at_offset m o = get nat_cmp m.bytes o
+
+-- the byte at an offset of a space, 0 where the map has none
+abbrev pub bytes_of : ByteMap → ℕ → ℕ → ℕ
+bytes_of m s o = or_else (at m s o) 0
