@@ -4,7 +4,7 @@ use Rattle.bits_core.specs.declared.word.Word.{Word}
 use Rattle.machine.specs.Trace as T
 use Rattle.pcode_model.specs.declared.listing.Listing.{Listing}
 use Rattle.pcode_model.specs.Spaces.{fixed_byte, put, put_in}
-use Rattle.pcode_model.specs.Memory.{ByteWrite, HiddenWrite, Bytes, or_else}
+use Rattle.pcode_model.specs.Memory.{ByteWrite, HiddenWrite, Bytes, or_else, poke}
 use Rattle.pcode_model.specs.World as W
 use Rattle.worlds.specs.declared.entry.Byte.{Byte}
 use Rattle.worlds.specs.declared.entry.Answer.{Answer}
@@ -26,6 +26,11 @@ with_bytes (b ∷ bs) f = with_bytes bs (put_in b.space b.offset (Some b.value) 
 abbrev pub with_offsets : List Byte → (ℕ → Option ℕ) → ℕ → Option ℕ
 with_offsets [] f = f
 with_offsets (b ∷ bs) f = with_offsets bs (put f b.offset (Some b.value))
+
+-- bytes with each byte of a list written, in order
+abbrev pub poked : List Byte → Bytes → Bytes
+poked [] m = m
+poked (b ∷ bs) m = poked bs (poke b.space b.offset b.value m)
 
 -- ---- answers
 

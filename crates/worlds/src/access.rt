@@ -28,7 +28,7 @@ impl ByteMap {
         shape: Shape,
         space: u8,
         offset: u64,
-        count: u32,
+        count: usize,
     ) -> Result<Vec<u8>, Memory>
         requires { offset ≤ shape.last }
         ensures { IfOk result (λ v. v.items ≡ bytes_at (size shape) (bytes_of self.now space) offset count) }
@@ -62,7 +62,7 @@ impl ByteMap {
     }
 
     /// Whether the map has one of so many bytes of a space of that shape from an offset on.
-    pub fn meets(&self, shape: Shape, space: u8, offset: u64, count: u32) -> bool
+    pub fn meets(&self, shape: Shape, space: u8, offset: u64, count: usize) -> bool
         requires { offset ≤ shape.last }
         ensures { result ≡ any_at (size shape) (λ o. is_some (at self.now space o)) offset count }
     {

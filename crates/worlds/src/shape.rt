@@ -15,6 +15,7 @@ pub struct Shape {
 }
 
 // The last offset of a space whose offsets have so many bytes.
+#[tactic(auto, using(crate::proofs::Sizes::last_wide, crate::proofs::Sizes::last_narrow))]
 fn last_offset(size: u8) -> u64
     requires { 256 ^ size ≤ 2 ^ 64 }
     ensures { result + 1 ≡ 256 ^ size }

@@ -1,6 +1,6 @@
 //! Words and their bytes in the order of a space.
 
-ghost use Rattle.std.specs.Prelude.{◌≡◌, ◌≤◌, ◌<◌, ◌^◌, length, IfOk};
+ghost use Rattle.std.specs.Prelude.{◌≡◌, ◌≤◌, ◌<◌, ◌^◌, true, length, IfOk};
 ghost use Rattle.bits_core.specs.Bytes.{bytes, word_bytes, word_of, number};
 
 use bits_core::Memory;
