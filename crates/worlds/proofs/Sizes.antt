@@ -11,5 +11,5 @@ last_wide size wide small =
 
 pub last_narrow : (size : ℕ) → size < 8 → 2 ^ (8 * size) - 1 + 1 ≡ 256 ^ size
 last_narrow size narrow =
-    let some : 2 ^ 0 ≤ 2 ^ (8 * size) = pow-le-pow_right (lit< tt) (omega arith) in
+    let some : 2 ^ 0 ≤ 2 ^ (8 * size) = pow-le-pow_right (lit< tt) {i = 0} {j = 8 * size} (omega arith) in
     omega (arith, some, size_is size)

@@ -2,7 +2,7 @@
 
 ghost use Rattle.std.specs.Prelude.{◌≡◌, ℕ, None, Some, OnOk, OnErr};
 ghost use Rattle.pcode_model.specs.Spaces.{put_in};
-ghost use Rattle.worlds.specs.Maps.{at};
+ghost use Rattle.worlds.specs.Maps.{at, bytes_of};
 
 use bits_core::Memory;
 use std::alloc::Global;
@@ -31,7 +31,8 @@ impl ByteMap {
     }
 
     pub fn put(&mut self, space: u8, offset: u64, value: u8) -> Result<(), Memory>
-        ensures { OnOk result (at self.new ≡ put_in space offset (Some value) (at self.old)) }
+        ensures map { OnOk result (at self.new ≡ put_in space offset (Some value) (at self.old)) }
+        ensures bytes { OnOk result (bytes_of self.new ≡ put_in space offset value (bytes_of self.old)) }
     {
         self.bytes.insert((space, offset), value)?;
         Ok(())

@@ -55,7 +55,12 @@ fn refuses(listing: &Listing, setting: &Setting, bytes: &[Byte]) -> bool
     requires { IsSetting listing.now setting.now }
     ensures { result ≡ list_any (λ b. is_fixed listing.now b.space b.offset) bytes.now }
 {
-    bytes.iter().any(|b| setting.fixed.get(b.space, b.offset).is_some())
+    for b in bytes {
+        if setting.fixed.get(b.space, b.offset).is_some() {
+            return true;
+        }
+    }
+    false
 }
 
 // Takes the bytes of an answer in, in order.

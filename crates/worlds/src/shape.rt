@@ -23,7 +23,8 @@ fn last_offset(size: u8) -> u64
     if size >= 8 {
         return u64::MAX;
     }
-    (1u64 << (8 * u32::from(size))) - 1
+    let bits = 8 * u32::from(size);
+    (1u64 << bits) - 1
 }
 
 impl Shape {

@@ -14,8 +14,10 @@ fn number(bytes: &[u8]) -> u128
     ensures below { result < 256 ^ length bytes.now }
 {
     let mut n = 0u128;
-    for b in bytes.iter().rev() {
-        n = n * 256 + u128::from(*b);
+    let mut i = bytes.len();
+    while i > 0 {
+        i -= 1;
+        n = n * 256 + u128::from(bytes[i]);
     }
     n
 }
