@@ -4,6 +4,7 @@
 pub mod access;
 pub mod byte_map;
 pub mod entry;
+pub mod first;
 pub mod log;
 pub mod offset_map;
 pub mod plain;

@@ -1,7 +1,10 @@
 //! What runs of a listing look up again and again.
 
-ghost use Rattle.std.specs.Prelude.{◌≡◌, ◌≤◌, ◌<◌, ◌^◌, length, IfOk};
+ghost use Rattle.std.specs.Prelude.{◌≡◌, ◌≤◌, ◌+◌, ◌<◌, ◌^◌, length, IfOk, OnOk};
+ghost use Rattle.std.specs.List.{AllByRecursion};
+ghost use Rattle.pcode_model.specs.Spaces.{fixed_in};
 ghost use Rattle.pcode_model.specs.WellFormed.{IsWellFormed};
+ghost use Rattle.worlds.specs.Maps.{at, over};
 ghost use Rattle.worlds.specs.Setting.{IsSetting};
 
 use crate::byte_map::ByteMap;
@@ -22,20 +25,28 @@ pub struct Setting {
     pub uniques: u8,
 }
 
-fn put_fixed(map: &mut ByteMap, fixed: &Fixed) -> Result<(), Memory> {
-    let mut offset = u128::from(fixed.offset);
-    for b in fixed.bytes.as_slice() {
-        map.put(fixed.space, offset as u64, *b)?;
-        offset += 1;
+// Puts the bytes of a read-only range in.
+fn put_fixed(map: &mut ByteMap, fixed: &Fixed) -> Result<(), Memory>
+    requires { fixed.now.offset + length fixed.now.bytes ≤ 2 ^ 64 }
+    ensures { OnOk result (at map.new ≡ over fixed.now.space fixed.now.offset (length fixed.now.bytes) fixed.now.bytes (at map.old)) }
+{
+    let bytes = fixed.bytes.as_slice();
+    for i in 0..bytes.len() {
+        map.put(fixed.space, fixed.offset + i as u64, bytes[i])?;
     }
     Ok(())
 }
 
-/// The read-only bytes of a listing.
-fn fixed_bytes(alloc: Global, fixed: &[Fixed]) -> Result<ByteMap, Memory> {
+// The read-only bytes; of two ranges that share a byte the first one counts.
+fn fixed_bytes(alloc: Global, fixed: &[Fixed]) -> Result<ByteMap, Memory>
+    requires { AllByRecursion (λ f. f.offset + length f.bytes ≤ 2 ^ 64) fixed.now }
+    ensures { IfOk result (λ map. at map ≡ fixed_in fixed.now) }
+{
     let mut map = ByteMap::new(alloc);
-    for f in fixed.iter().rev() {
-        put_fixed(&mut map, f)?;
+    let mut i = fixed.len();
+    while i > 0 {
+        i -= 1;
+        put_fixed(&mut map, &fixed[i])?;
     }
     Ok(map)
 }
