@@ -49,9 +49,9 @@ answer_of a = record { word = a.word; registers = registers_of a; memory = map w
 
 -- ---- entries
 
--- the read-only bytes are the listing's, the others those of the list, and 0 elsewhere
+-- the bytes of the list, the listing's read-only bytes besides, and 0 elsewhere
 abbrev pub first_bytes : Listing → List Byte → Bytes
-first_bytes l bs s o = or_else (fixed_byte l s o) (or_else (with_bytes bs (λ t p. None) s o) 0)
+first_bytes l bs s o = or_else (with_bytes bs (fixed_byte l) s o) 0
 
 abbrev pub entry_of : Listing → Entry → W.Entry
 entry_of l e = record { bytes = first_bytes l e.state; hidden = with_offsets e.hidden (λ o. None); answers = map answer_of e.answers }

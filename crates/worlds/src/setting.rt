@@ -38,7 +38,7 @@ fn put_fixed(map: &mut ByteMap, fixed: &Fixed) -> Result<(), Memory>
 }
 
 // The read-only bytes; of two ranges that share a byte the first one counts.
-fn fixed_bytes(alloc: Global, fixed: &[Fixed]) -> Result<ByteMap, Memory>
+pub(crate) fn fixed_bytes(alloc: Global, fixed: &[Fixed]) -> Result<ByteMap, Memory>
     requires { AllByRecursion (λ f. f.offset + length f.bytes ≤ 2 ^ 64) fixed.now }
     ensures { IfOk result (λ map. at map ≡ fixed_in fixed.now) }
 {
