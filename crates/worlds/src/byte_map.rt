@@ -7,6 +7,7 @@ ghost use Rattle.worlds.specs.Maps.{at, bytes_of};
 use bits_core::Memory;
 use std::alloc::Global;
 use std::collections::BTreeMap;
+use std::ops::Bound;
 
 /// Bytes at some offsets of some spaces. Its memory grows with the number of these.
 #[derive(Drop)]
@@ -42,5 +43,14 @@ impl ByteMap {
         ensures { at self.new ≡ put_in space offset None (at self.old) }
     {
         self.bytes.remove(&(space, offset));
+    }
+
+    /// The least offset past this one at which the space has a byte.
+    pub fn after(&self, space: u8, offset: u64) -> Option<u64> {
+        let past = (Bound::Excluded((space, offset)), Bound::Unbounded);
+        match self.bytes.range(past).next() {
+            Some((key, _)) if key.0 == space => Some(key.1),
+            _ => None,
+        }
     }
 }

@@ -1,0 +1,1 @@
+-- What stays the same during a run. This project's own.
