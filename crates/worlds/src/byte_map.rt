@@ -2,7 +2,7 @@
 
 ghost use Rattle.std.specs.Prelude.{◌≡◌, ℕ, None, Some, OnOk, OnErr};
 ghost use Rattle.pcode_model.specs.Spaces.{put_in};
-ghost use Rattle.worlds.specs.Maps.{at, bytes_of};
+ghost use Rattle.worlds.specs.Maps.{IsNextAfter, at, bytes_of};
 
 use bits_core::Memory;
 use std::alloc::Global;
@@ -46,7 +46,9 @@ impl ByteMap {
     }
 
     /// The least offset past this one at which the space has a byte.
-    pub fn after(&self, space: u8, offset: u64) -> Option<u64> {
+    pub fn after(&self, space: u8, offset: u64) -> Option<u64>
+        ensures { IsNextAfter self.now space offset result }
+    {
         let past = (Bound::Excluded((space, offset)), Bound::Unbounded);
         match self.bytes.range(past).next() {
             Some((key, _)) if key.0 == space => Some(key.1),
