@@ -151,8 +151,8 @@ fn limit(size: u32) -> u128
     1u128 << (8 * size)
 }
 
-/// The index of a relative branch, whose count is signed at its own size. None where it is negative.
-pub fn relative_index(index: u32, count: Varnode) -> Option<u128>
+// The index of a relative branch, whose count is signed at its own size. None where it is negative.
+fn relative_index(index: u32, count: Varnode) -> Option<u128>
     ensures { MatchOption result (IsNegative (pos index +ℤ signed_of count.size count.offset)) (λ m. pos index +ℤ signed_of count.size count.offset ≡ pos m) }
 {
     let offset = u128::from(count.offset);

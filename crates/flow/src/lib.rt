@@ -12,7 +12,6 @@ mod reach;
 mod starts;
 
 pub use answer::{FlowFault, MAX_BLOCKS, follow};
-pub use edges::relative_index;
 
 #[cfg(test)]
 mod tests;

@@ -1,5 +1,5 @@
 -- The effects on a world whose memory has hidden and spoiled bytes.
-use Rattle.std.proofs.Common.{◌≡◌, ℕ, ◌+◌, ◌<◌, Bool, true, false, List, [], ◌∷◌, ◌++◌, length, drop, get_or, map, Option, Some, None, Result, Ok, Err, refl, sym, ap, ◌∙◌}
+use Rattle.std.proofs.Common.{◌≡◌, ℕ, ◌+◌, ◌<◌, Bool, true, false, List, [], ◌∷◌, length, drop, get_or, map, Option, Some, None, Result, Ok, Err, refl, ap, ◌∙◌}
 use Rattle.machine.specs.Trace as T
 use Rattle.pcode_model.specs.Spaces.{size_of, any_at, each_at, is_fixed}
 use Rattle.pcode_model.specs.Memory.{Layout, Whole, is_framed, poke_whole, whole, unless}
@@ -11,7 +11,7 @@ use Rattle.worlds.specs.declared.log.Log.{Log}
 use Rattle.worlds.specs.Meaning.{written, hidden, answer_of, end_of}
 use Rattle.worlds.specs.Log.{world_of}
 use Rattle.worlds.proofs.Effects.{rest_at}
-use Rattle.whole_memory.specs.Effects.{concealed, end_by, first_end, first_refused, poked, refused}
+use Rattle.whole_memory.specs.Effects.{concealed, end_by, first_end, first_refused, poked}
 
 -- ---- stores
 

@@ -1,5 +1,5 @@
 -- The writes of an answer. This project's own.
-use Rattle.std.specs.Prelude.{ℕ, Bool, true, false, List, [], ◌∷◌, Option, Some, None}
+use Rattle.std.specs.Prelude.{Bool, true, false, List, [], ◌∷◌, Option, Some, None}
 use Rattle.pcode_model.specs.declared.listing.Listing.{Listing}
 use Rattle.pcode_model.specs.Memory.{Layout, Whole, conceal, is_framed, poke_whole}
 use Rattle.pcode_model.specs.Spaces.{is_fixed}

@@ -35,7 +35,11 @@ pub fn store(
         log.end = Some(End::Outside);
         return Ok(());
     }
-    if course.setting.fixed.meets(shape, space, address, bytes.len()) {
+    if course
+        .setting
+        .fixed
+        .meets(shape, space, address, bytes.len())
+    {
         log.end = Some(End::ReadOnlyWrite);
         return Ok(());
     }

@@ -10,3 +10,6 @@ pub use course::Course;
 pub use effects::{store, take_answer};
 pub use frame::{Frame, FrameRange, OwnAccess};
 pub use whole::Whole;
+
+#[cfg(test)]
+mod tests;

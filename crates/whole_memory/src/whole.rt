@@ -90,7 +90,9 @@ impl Whole {
         if self.any_outside(course, shape, space, address, count as usize) {
             return Ok(None);
         }
-        let bytes = self.bytes.read(course.alloc, shape, space, address, count as usize)?;
+        let bytes = self
+            .bytes
+            .read(course.alloc, shape, space, address, count as usize)?;
         Ok(Some(Bytes::from_vec(bytes)))
     }
 
@@ -138,13 +140,7 @@ impl Whole {
     }
 
     /// Writes a byte, which is hidden no longer.
-    pub fn poke(
-        &mut self,
-        course: &Course,
-        space: u8,
-        address: u64,
-        byte: u8,
-    ) -> Result<(), Memory>
+    pub fn poke(&mut self, course: &Course, space: u8, address: u64, byte: u8) -> Result<(), Memory>
         requires { IsCourse course.now }
         ensures { OnOk result (whole_of self.new ≡ poke_whole course.now.listing.now space address byte (whole_of self.old)) }
     {

@@ -1,5 +1,5 @@
 -- The declared spaces of a listing: their sizes, and the numbers of the first ones of each kind.
-use Rattle.std.proofs.Common.{◌≡◌, ℕ, zero, suc, ◌+◌, ◌-◌, ◌<◌, ◌≤◌, ◌^◌, Bool, true, false, cond, List, [], ◌∷◌, length, Option, Some, None, refl, sym, ap, ◌∙◌, arith, lit<}
+use Rattle.std.proofs.Common.{◌≡◌, ℕ, zero, suc, ◌+◌, ◌<◌, ◌≤◌, ◌^◌, Bool, true, false, cond, List, [], ◌∷◌, length, refl, sym, ap, ◌∙◌, arith, lit<}
 use Rattle.std.specs.Prelude.{nat_lt, slice_get}
 use Rattle.std.specs.List.{AllByRecursion}
 use Rattle.std.proofs.Math.Nat.{pow-le-pow_right}
@@ -8,10 +8,8 @@ use Rattle.pcode_model.specs.declared.listing.Fixed.{Fixed}
 use Rattle.pcode_model.specs.declared.listing.Space.{Space}
 use Rattle.pcode_model.specs.declared.listing.SpaceKind.{SpaceKind}
 use Rattle.pcode_model.specs.declared.listing.SpaceKind.TheVariants.{Constant, Ram, Register, Unique}
-use Rattle.pcode_model.specs.Ranges.{is_kind, leaves}
 use Rattle.pcode_model.specs.Spaces.{kind_in, size_in, same_kind, number_of}
 use Rattle.pcode_model.specs.WellFormed.{AreSpaces, IsDeclared, IsFixed, how_many}
-use Rattle.pcode_model.proofs.Sizes.{size_is}
 
 -- the number of the first space of a kind that is there
 pub number_below : (k : SpaceKind) (ss : List Space) → 1 ≤ how_many k ss → number_of k ss < length ss

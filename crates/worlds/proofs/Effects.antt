@@ -1,16 +1,15 @@
 -- The effects on a world whose memory is bytes alone.
-use Rattle.std.proofs.Common.{◌≡◌, ℕ, ◌+◌, ◌<◌, ◌||◌, Bool, true, false, List, [], ◌∷◌, ◌++◌, length, drop, get_or, map, Option, Some, None, Result, Ok, Err, refl, sym, ap, ◌∙◌}
+use Rattle.std.proofs.Common.{◌≡◌, ℕ, ◌+◌, ◌<◌, ◌||◌, Bool, true, false, List, [], ◌∷◌, ◌++◌, length, drop, get_or, map, Option, Result, Ok, Err, refl, sym, ap, ◌∙◌}
 use Rattle.std.proofs.lemmas.List.{drop_more, map-append}
 use Rattle.std.specs.List.{list_any}
 use Rattle.machine.specs.Trace.{Store, End, ReadOnlyWrite}
 use Rattle.pcode_model.specs.declared.listing.Listing.{Listing}
-use Rattle.pcode_model.specs.Spaces.{size_of, any_at, each_at, is_fixed, is_some, fixed_byte}
+use Rattle.pcode_model.specs.Spaces.{size_of, any_at, each_at, is_fixed, is_some}
 use Rattle.pcode_model.specs.Memory.{Bytes, HiddenWrite, plain, poke, unless}
 use Rattle.pcode_model.specs.World.{World, Stops, Took, ended, recorded, with_memory, store, stored_as, write_all, hide_all, and_then, took, take_from, take_answer}
 use Rattle.worlds.specs.declared.entry.Byte.{Byte}
 use Rattle.worlds.specs.declared.entry.Answer.{Answer}
 use Rattle.worlds.specs.declared.trace.Event.{Event}
-use Rattle.worlds.specs.declared.byte_map.ByteMap.{ByteMap}
 use Rattle.worlds.specs.declared.shape.Shape.{Shape}
 use Rattle.worlds.specs.declared.setting.Setting.{Setting}
 use Rattle.worlds.specs.declared.log.Log.{Log}

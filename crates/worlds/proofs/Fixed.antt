@@ -1,8 +1,7 @@
 -- The read-only bytes of a listing as a map.
-use Rattle.std.proofs.Common.{◌≡◌, ◌≢◌, ℕ, ◌+◌, ◌-◌, ◌<◌, ◌≤◌, ◌==◌, ◌&&◌, Bool, true, false, cond, List, [], ◌∷◌, length, drop, get_or, Option, Some, None, refl, sym, ap, ◌∙◌, arith, inl, inr}
-use Rattle.std.specs.Prelude.{nat_le, nat_lt, slice_get}
+use Rattle.std.proofs.Common.{◌≡◌, ℕ, ◌+◌, ◌-◌, ◌<◌, ◌≤◌, List, length, drop, get_or, Option, Some, sym, ap, ◌∙◌, arith}
+use Rattle.std.specs.Prelude.{slice_get}
 use Rattle.std.proofs.Math.Path.{fun_ext}
-use Rattle.std.proofs.lemmas.Bool.{cases_eq}
 use Rattle.std.proofs.lemmas.Bool.Decides.{nat_tests}
 use Rattle.std.proofs.lemmas.Option.{slice_get-get_or}
 use Rattle.pcode_model.specs.declared.listing.Fixed.{Fixed}
@@ -19,8 +18,8 @@ over_point space offset k bytes b f is s o =
 pub over_more : (space offset k : ℕ) (bytes : List ℕ) (b : ℕ) (f g h : ℕ → ℕ → Option ℕ) → k < length bytes → b ≡ get_or bytes k 0 → g ≡ over space offset k bytes f → h ≡ put_in space (offset + k) (Some b) g → h ≡ over space offset (k + 1) bytes f
 over_more space offset k bytes b f g h more is before now =
     now ∙ ap (put_in space (offset + k) (Some b)) before ∙ fun_ext (λ s. fun_ext (λ o. over_point space offset k bytes b f (slice_get_from_get_or bytes k b more is) s o)) where
-  slice_get_from_get_or : (xs : List ℕ) (i x : ℕ) → i < length xs → x ≡ get_or xs i 0 → slice_get xs i ≡ Some x
-  slice_get_from_get_or xs i x lt e = slice_get-get_or xs i 0 lt ∙ ap Some (sym e)
+      slice_get_from_get_or : (xs : List ℕ) (i x : ℕ) → i < length xs → x ≡ get_or xs i 0 → slice_get xs i ≡ Some x
+      slice_get_from_get_or xs i x lt e = slice_get-get_or xs i 0 lt ∙ ap Some (sym e)
 
 pub over_none : (space offset : ℕ) (bytes : List ℕ) (f : ℕ → ℕ → Option ℕ) → f ≡ over space offset 0 bytes f
 over_none space offset bytes f = fun_ext (λ s. fun_ext (λ o. grind (arith, nat_tests)))

@@ -1,5 +1,5 @@
 -- A world as a memory and a log. This project's own.
-use Rattle.std.specs.Prelude.{◌≡◌, ℕ, List, map, drop, Option, Some, None, Result, Ok, Err}
+use Rattle.std.specs.Prelude.{List, map, drop, Option, Some, None, Result, Ok, Err}
 use Rattle.machine.specs.Trace as T
 use Rattle.pcode_model.specs.World.{World, Taken, Stops, Took}
 use Rattle.worlds.specs.Meaning.{answer_of, event_of, end_of, over_of}

@@ -1,5 +1,5 @@
 -- What entries and traces stand for. This project's own.
-use Rattle.std.specs.Prelude.{ℕ, ◌==◌, ◌&&◌, if◌then◌else◌, List, [], ◌∷◌, map, Option, Some, None}
+use Rattle.std.specs.Prelude.{ℕ, List, [], ◌∷◌, map, Option, Some, None}
 use Rattle.bits_core.specs.declared.word.Word.{Word}
 use Rattle.machine.specs.Trace as T
 use Rattle.pcode_model.specs.declared.listing.Listing.{Listing}

@@ -1,5 +1,5 @@
 -- What runs of a listing look up. This project's own.
-use Rattle.std.specs.Prelude.{◌≡◌, ℕ, ◌+◌, ◌≤◌, ◌^◌}
+use Rattle.std.specs.Prelude.{◌≡◌, ℕ, ◌+◌}
 use Rattle.pcode_model.specs.declared.listing.Listing.{Listing}
 use Rattle.pcode_model.specs.Spaces.{size_of, is_big, first_ram, register_space, unique_space, fixed_byte}
 use Rattle.worlds.specs.Maps.{at}

@@ -5,7 +5,6 @@ ghost use Rattle.pcode_model.specs.WellFormed.{IsWellFormed};
 ghost use Rattle.worlds.specs.Maps.{at, at_offset, bytes_of};
 ghost use Rattle.worlds.specs.Meaning.{first_bytes, with_bytes, with_offsets};
 
-
 use crate::byte_map::ByteMap;
 use crate::entry::Byte;
 use crate::offset_map::OffsetMap;

@@ -9,8 +9,8 @@ ghost use Rattle.worlds.specs.Setting.{IsSetting};
 
 use crate::byte_map::ByteMap;
 use bits_core::Memory;
-use pcode_model::{Fixed, Listing, SpaceKind};
 use pcode_model::ranges::number_of;
+use pcode_model::{Fixed, Listing, SpaceKind};
 use std::alloc::Global;
 
 #[derive(Drop)]

@@ -10,11 +10,21 @@ pub type WordList = Items<Word>;
 #[derive(Drop)]
 pub enum Event {
     /// A call of the function at `target`.
-    Call { target: u128, args: WordList },
+    Call {
+        target: u128,
+        args: WordList,
+    },
     /// The operation CALLOTHER with this index.
-    Other { index: u64, args: WordList },
+    Other {
+        index: u64,
+        args: WordList,
+    },
     /// Bytes in the order of memory, written to a space from an offset on.
-    Store { space: u8, offset: u64, bytes: Bytes },
+    Store {
+        space: u8,
+        offset: u64,
+        bytes: Bytes,
+    },
 }
 
 pub type Events = Items<Event>;

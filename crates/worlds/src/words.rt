@@ -41,7 +41,11 @@ pub fn word_of(big: bool, bytes: &[u8]) -> u128
     ensures value { result ≡ word_of big bytes.now }
     ensures below { result < 256 ^ length bytes.now }
 {
-    if big { number_from_top(bytes) } else { number(bytes) }
+    if big {
+        number_from_top(bytes)
+    } else {
+        number(bytes)
+    }
 }
 
 fn low_bytes(alloc: Global, count: u32, word: u128) -> Result<Vec<u8>, Memory>

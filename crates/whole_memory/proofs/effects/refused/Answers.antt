@@ -1,9 +1,7 @@
-use Rattle.std.proofs.Common.{◌≡◌, ◌∙◌, Bool, true, false, sym, ap}
-use Rattle.pcode_model.specs.Memory.{is_framed}
+use Rattle.std.proofs.Common.{◌≡◌, ◌∙◌, true, false, sym, ap}
 use Rattle.pcode_model.specs.Spaces.{is_fixed, is_some}
 use Rattle.worlds.proofs.Effects.{fixed_is}
 use Rattle.worlds.proofs.Steps.{same_some}
-use Rattle.whole_memory.specs.Course.{layout_of}
 use Rattle.whole_memory.specs.Effects.{end_by}
 use Rattle.whole_memory.proofs.effects.refused.Goals as goal
 

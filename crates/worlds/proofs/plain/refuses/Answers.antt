@@ -1,10 +1,9 @@
-use Rattle.std.proofs.Common.{◌≡◌, ◌∙◌, sym, ap, get_or, Bool}
+use Rattle.std.proofs.Common.{◌≡◌, ◌∙◌, sym, ap, get_or}
 use Rattle.pcode_model.specs.Spaces.{is_fixed, is_some}
 use Rattle.worlds.specs.declared.entry.Byte.{Byte}
 use Rattle.worlds.proofs.Effects.{any_here, any_later, fixed_is}
 use Rattle.worlds.proofs.Steps.{same_some}
 use Rattle.worlds.proofs.plain.refuses.Goals as goal
-
 
 pub returns-then-is_some : goal.returns-then-is_some
 returns-then-is_some c =

@@ -1,6 +1,6 @@
-use Rattle.std.proofs.Common.{◌≡◌, ◌<◌, ◌∙◌, ℕ, List, ap, arith, length, get_or}
+use Rattle.std.proofs.Common.{◌<◌, ℕ, List, ap, arith, length, get_or}
 use Rattle.worlds.specs.Maps.{at}
-use Rattle.worlds.proofs.Fixed.{over_more, over_none}
+use Rattle.worlds.proofs.Fixed.{over_more}
 use Rattle.worlds.proofs.setting.put_fixed.Goals as goal
 
 pub loop-i-preserved : goal.loop-i-preserved

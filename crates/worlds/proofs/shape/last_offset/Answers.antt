@@ -1,4 +1,4 @@
-use Rattle.std.proofs.Common.{arith, ◌≡◌, ◌*◌, ◌^◌, ◌≤◌, ◌<◌, lit<}
+use Rattle.std.proofs.Common.{arith, ◌*◌, ◌^◌, ◌≤◌, lit<}
 use Rattle.std.proofs.Math.Nat.{pow-le-pow_right}
 use Rattle.worlds.proofs.Sizes.{last_narrow}
 use Rattle.worlds.proofs.shape.last_offset.Goals as goal

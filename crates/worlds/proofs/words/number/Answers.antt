@@ -1,4 +1,4 @@
-use Rattle.std.proofs.Common.{◌-◌, ◌<◌, ◌≤◌, ◌≡◌, ◌+◌, ◌*◌, ◌^◌, ℕ, length, get_or, drop, arith, ap, ◌∙◌, sym, subst}
+use Rattle.std.proofs.Common.{◌-◌, ◌<◌, ◌≡◌, ◌+◌, ◌*◌, ◌^◌, ℕ, length, get_or, drop, arith, ap, ◌∙◌, sym, subst}
 use Rattle.bits_core.specs.Bytes.{number}
 use Rattle.worlds.proofs.Steps.{one_more_fits, one_more_below, number_above}
 use Rattle.worlds.proofs.words.number.Goals as goal

@@ -1,5 +1,5 @@
-use Rattle.std.proofs.Common.{◌-◌, ◌<◌, ◌≡◌, ◌+◌, length, arith}
-use Rattle.worlds.proofs.Steps.{one_more_fits, one_more_below, number_above}
+use Rattle.std.proofs.Common.{◌<◌, arith}
+use Rattle.worlds.proofs.Steps.{one_more_fits}
 use Rattle.worlds.proofs.words.number_from_top.Goals as goal
 
 pub overflow_mul-n : goal.overflow_mul-n

@@ -1,4 +1,4 @@
-use Rattle.std.proofs.Common.{◌≡◌, ◌∙◌, ◌+◌, ◌≤◌, ◌^◌, ℕ, List, Option, ap, length, subst, sym}
+use Rattle.std.proofs.Common.{◌∙◌, ◌+◌, ◌≤◌, ◌^◌, ℕ, List, Option, ap, length, subst, sym}
 use Rattle.std.specs.List.{AllByRecursion}
 use Rattle.pcode_model.specs.declared.listing.Fixed.{Fixed}
 use Rattle.pcode_model.specs.Memory.{or_else}

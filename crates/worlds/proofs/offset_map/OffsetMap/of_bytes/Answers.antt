@@ -1,4 +1,4 @@
-use Rattle.std.proofs.Common.{◌≡◌, ◌∙◌, ◌+◌, List, ap, drop, sym}
+use Rattle.std.proofs.Common.{◌∙◌, ◌+◌, List, ap, drop, sym}
 use Rattle.std.proofs.lemmas.List.{drop_more}
 use Rattle.worlds.specs.declared.entry.Byte.{Byte}
 use Rattle.worlds.specs.Maps.{at_offset}
