@@ -1,0 +1,5 @@
+pub mod Reading
+pub mod Writing
+pub mod Calling
+pub mod Raising
+pub mod Registers

@@ -1,0 +1,4 @@
+pub mod State
+pub mod Used
+pub mod Words
+pub mod Calls

@@ -1,0 +1,9 @@
+//! The run of p-code, carried out as it is defined.
+#![tactic(auto)]
+
+pub mod calls;
+pub mod operands;
+pub mod state;
+#[cfg(test)]
+mod tests;
+pub mod writes;

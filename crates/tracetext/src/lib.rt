@@ -1,0 +1,9 @@
+//! The text of a trace.
+#![tactic(auto)]
+
+mod text;
+
+pub use text::put_trace;
+
+#[cfg(test)]
+mod tests;
