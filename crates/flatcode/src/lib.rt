@@ -1,13 +1,11 @@
-// A library with one function.
+//! The flat code of a C function, as steps that borrow from its tree.
 #![tactic(auto)]
 
-ghost use Rattle.std.specs.Prelude.{◌≡◌};
-ghost use Rattle.flatcode.specs.Echo.{echo_of};
+pub mod code;
+pub mod draft;
+pub mod labels;
+pub mod spans;
+pub mod step;
 
-// The `ensures` clause is the contract: what `echo` returns is `echo_of` of its argument, a definition
-// in `specs/Echo.antt`, which a caller's clause can cite too.
-pub fn echo(x: usize) -> usize
-    ensures { result ≡ echo_of x }
-{
-    x
-}
+pub use code::flat;
+pub use step::{Case, Cases, FlatCode, Step};
