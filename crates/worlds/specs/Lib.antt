@@ -1,0 +1,4 @@
+pub mod Maps
+pub mod Meaning
+pub mod Setting
+pub mod Log
