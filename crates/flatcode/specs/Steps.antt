@@ -1,6 +1,5 @@
 -- What steps of flat code that borrow from a tree stand for. This project's own.
-use Rattle.std.specs.Prelude.{ℕ, Bool, List, [], ◌∷◌, map, slice_get, Option, Some, None}
-use Rattle.cmeaning.specs.declared.tree.Expr.{Expr}
+use Rattle.std.specs.Prelude.{ℕ, Bool, List, map, slice_get, Option, Some, None}
 use Rattle.cmeaning.specs.declared.tree.Arm.{Arm}
 use Rattle.cmeaning.specs.Flat.{Flat, Do, Test, Jump, Choose, Give, Branch, pieces_of}
 use Rattle.flatcode.specs.declared.step.Case.{Case}
