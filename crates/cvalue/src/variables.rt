@@ -31,7 +31,7 @@ impl<'a> Variables<'a> {
     #[tactic(auto, using(crate::proofs::Words::none_held, crate::proofs::Words::none_wide))]
     /// Of a function that has assigned none yet.
     pub fn new(alloc: Global, f: &'a CFunction) -> Result<Variables<'a>, AllocError>
-        ensures unassigned { IfOk result (λ x. (v : ℕ) → env_of x.words.items v ≡ None) }
+        ensures unassigned { IfOk result (λ x. env_of x.words.items ≡ λ v. None) }
         ensures function { IfOk result (λ x. x.f.now ≡ f.now) }
     {
         let count = f.params.as_slice().len() + f.locals.as_slice().len();
@@ -67,12 +67,11 @@ impl<'a> Variables<'a> {
 
     #[tactic(auto, using(crate::proofs::Words::env_set, crate::proofs::Words::wide_set, crate::proofs::Words::inside))]
     /// A variable that there is takes a word of its width.
-    pub fn assign(&mut self, v: u32, word: Word)
+    pub fn assign(&mut self, v: usize, word: Word)
         requires { word.width.bytes ≡ widths_in self.old.f.now v }
-        ensures value { (k : ℕ) → env_of self.new.words.items k ≡ put (env_of self.old.words.items) v (Some word.value) k }
+        ensures value { env_of self.new.words.items ≡ put (env_of self.old.words.items) v (Some word.value) }
         ensures function { self.new.f.now ≡ self.old.f.now }
     {
-        let v = v as usize;
         self.words[v] = Some(word);
     }
 
