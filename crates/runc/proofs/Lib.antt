@@ -1,3 +1,6 @@
 pub mod Bytes
 pub mod Values
 pub mod Effects
+pub mod Asking
+pub mod Accesses
+pub mod Meaningless

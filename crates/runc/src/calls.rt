@@ -1,11 +1,12 @@
 //! What calls do.
 
 ghost use Rattle.std.specs.Prelude.{◌≡◌, ◌<◌, List, IfOk, OnOk};
-ghost use Rattle.cmeaning.specs.Do.{asks, do_simple, values_of, widths_in, with_target};
+ghost use Rattle.cmeaning.specs.Do.{asks, do_simple, in_world, values_of, widths_in, with_target};
 ghost use Rattle.cmeaning.specs.Flat.{returns_by};
 ghost use Rattle.cmeaning.specs.declared.tree.Stmt.TheVariants as S;
 ghost use Rattle.cvalue.specs.Held.{env_of};
-ghost use Rattle.worlds.specs.Meaning.{answer_of};
+ghost use Rattle.pcode_model.specs.World.{recorded};
+ghost use Rattle.worlds.specs.Meaning.{answer_of, event_of};
 ghost use Rattle.worlds.specs.declared.entry.Answer.{Answer as AnAnswer};
 ghost use Rattle.runc.specs.May.{AreRight, IsRight, IsTarget};
 ghost use Rattle.runc.specs.States.{Becomes, IsCourse, all_of, local_of, numbers_in};
@@ -81,6 +82,29 @@ fn ask(course: &Course, local: &mut Local, target: Option<u32>) -> Result<(), Me
     }
 }
 
+/// An event is recorded.
+fn record(local: &mut Local, event: Event) -> Result<(), Memory>
+    ensures { OnOk result ((answers : List AnAnswer) → Becomes answers local.old local.new (let x = local_of answers local.old in in_world (recorded (event_of event) x.world) x)) }
+{
+    local.log.events.push(event)?;
+    Ok(())
+}
+
+/// An event is recorded, and the next answer is taken.
+fn ask_after(
+    course: &Course,
+    local: &mut Local,
+    target: Option<u32>,
+    event: Event,
+) -> Result<(), Memory>
+    requires course { IsCourse course.now }
+    requires target { IsTarget (widths_in local.old.variables.f.now) target }
+    ensures { OnOk result (Becomes course.now.answers.now local.old local.new (let x = (local_of course.now.answers.now local.old) in asks course.now.listing.now (widths_in local.old.variables.f.now) target (in_world (recorded (event_of event) x.world) x))) }
+{
+    record(local, event)?;
+    ask(course, local, target)
+}
+
 pub(crate) fn call(
     course: &Course,
     local: &mut Local,
@@ -93,19 +117,19 @@ pub(crate) fn call(
     requires args { AreRight (widths_in local.old.variables.f.now) args.now }
     ensures { OnOk result (Becomes course.now.answers.now local.old local.new (do_simple course.now.listing.now (widths_in local.old.variables.f.now) (returns_by local.old.variables.f.now.callees) (S.Call target callee args.now) (local_of course.now.answers.now local.old))) }
 {
-    match values(course, local, args)? {
-        None => local.finish(End::Undefined),
-        Some(args) => {
-            local.log.events.push(Event::Call {
-                target: u128::from(callee),
-                args,
-            })?;
-            if returns(local.variables.f.callees.as_slice(), callee) {
-                return ask(course, local, target);
-            }
-            local.finish(End::NoReturn);
-        }
+    let Some(args) = values(course, local, args)? else {
+        local.finish(End::Undefined);
+        return Ok(());
+    };
+    let event = Event::Call {
+        target: u128::from(callee),
+        args,
+    };
+    if returns(local.variables.f.callees.as_slice(), callee) {
+        return ask_after(course, local, target, event);
     }
+    record(local, event)?;
+    local.finish(End::NoReturn);
     Ok(())
 }
 
@@ -122,21 +146,23 @@ pub(crate) fn call_ind(
     requires args { AreRight (widths_in local.old.variables.f.now) args.now }
     ensures { OnOk result (Becomes course.now.answers.now local.old local.new (do_simple course.now.listing.now (widths_in local.old.variables.f.now) (returns_by local.old.variables.f.now.callees) (S.CallInd target callee.now args.now) (local_of course.now.answers.now local.old))) }
 {
-    let callee = local.variables.value(callee);
-    let args = values(course, local, args)?;
-    match (callee, args) {
-        (Some(callee), Some(args)) => {
-            local.log.events.push(Event::Call {
-                target: callee.value,
-                args,
-            })?;
-            ask(course, local, target)
-        }
-        _ => {
-            local.finish(End::Undefined);
-            Ok(())
-        }
-    }
+    let Some(callee) = local.variables.value(callee) else {
+        local.finish(End::Undefined);
+        return Ok(());
+    };
+    let Some(args) = values(course, local, args)? else {
+        local.finish(End::Undefined);
+        return Ok(());
+    };
+    ask_after(
+        course,
+        local,
+        target,
+        Event::Call {
+            target: callee.value,
+            args,
+        },
+    )
 }
 
 pub(crate) fn other(
@@ -151,14 +177,9 @@ pub(crate) fn other(
     requires args { AreRight (widths_in local.old.variables.f.now) args.now }
     ensures { OnOk result (Becomes course.now.answers.now local.old local.new (do_simple course.now.listing.now (widths_in local.old.variables.f.now) (returns_by local.old.variables.f.now.callees) (S.Other target index args.now) (local_of course.now.answers.now local.old))) }
 {
-    match values(course, local, args)? {
-        None => {
-            local.finish(End::Undefined);
-            Ok(())
-        }
-        Some(args) => {
-            local.log.events.push(Event::Other { index, args })?;
-            ask(course, local, target)
-        }
-    }
+    let Some(args) = values(course, local, args)? else {
+        local.finish(End::Undefined);
+        return Ok(());
+    };
+    ask_after(course, local, target, Event::Other { index, args })
 }

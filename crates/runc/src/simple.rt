@@ -1,9 +1,10 @@
 //! What simple statements do.
 
 ghost use Rattle.std.specs.Prelude.{◌≡◌, ◌+◌, ◌≤◌, ◌<◌, List, length, OnOk};
+ghost use Rattle.machine.specs.Trace as T;
 ghost use Rattle.pcode_model.specs.declared.listing.SpaceKind.TheVariants as K;
 ghost use Rattle.pcode_model.specs.Spaces.{kind_of, register_space, size_of};
-ghost use Rattle.cmeaning.specs.Do.{accessed as access, divide_of as division, do_simple as done, same_name as is_same_name, space_named, widths_in};
+ghost use Rattle.cmeaning.specs.Do.{accessed as access, divide_of as division, do_simple as done, ends, same_name as is_same_name, space_named, widths_in};
 ghost use Rattle.cmeaning.specs.Flat.{returns_by};
 ghost use Rattle.cmeaning.specs.declared.tree.Stmt.TheVariants as S;
 ghost use Rattle.worlds.specs.Setting.{HasShape};
@@ -84,16 +85,22 @@ fn load(
     requires address { IsRight (widths_in local.old.variables.f.now) address.now }
     ensures { OnOk result (Becomes course.now.answers.now local.old local.new (done course.now.listing.now (widths_in local.old.variables.f.now) (returns_by local.old.variables.f.now.callees) (S.Load target space.now address.now) (local_of course.now.answers.now local.old))) }
 {
-    match local.variables.value(address) {
-        None => local.finish(End::Undefined),
-        Some(address) => {
-            let space = accessed(course, space);
-            let shape = ram_shape(course, space);
-            let width = local.variables.width(target);
-            let word = read(course, &local.memory, space, shape, shape.reduce(address.value), width)?;
-            local.variables.assign(target as usize, word);
-        }
-    }
+    let Some(address) = local.variables.value(address) else {
+        local.finish(End::Undefined);
+        return Ok(());
+    };
+    let space = accessed(course, space);
+    let shape = ram_shape(course, space);
+    let width = local.variables.width(target);
+    let word = read(
+        course,
+        &local.memory,
+        space,
+        shape,
+        shape.reduce(address.value),
+        width,
+    )?;
+    local.variables.assign(target as usize, word);
     Ok(())
 }
 
@@ -110,27 +117,32 @@ fn store_word(
     requires value { IsRight (widths_in local.old.variables.f.now) value.now }
     ensures { OnOk result (Becomes course.now.answers.now local.old local.new (done course.now.listing.now (widths_in local.old.variables.f.now) (returns_by local.old.variables.f.now.callees) (S.Store space.now address.now value.now) (local_of course.now.answers.now local.old))) }
 {
-    match (local.variables.value(address), local.variables.value(value)) {
-        (Some(address), Some(word)) => {
-            let space = accessed(course, space);
-            let shape = ram_shape(course, space);
-            let bytes = word_bytes(course.alloc, shape.big, u32::from(word.width.bytes), word.value)?;
-            store(
-                course.listing,
-                &course.setting,
-                &mut local.log,
-                &mut local.memory,
-                shape,
-                space,
-                shape.reduce(address.value),
-                bytes,
-            )
-        }
-        _ => {
-            local.finish(End::Undefined);
-            Ok(())
-        }
-    }
+    let Some(address) = local.variables.value(address) else {
+        local.finish(End::Undefined);
+        return Ok(());
+    };
+    let Some(word) = local.variables.value(value) else {
+        local.finish(End::Undefined);
+        return Ok(());
+    };
+    let space = accessed(course, space);
+    let shape = ram_shape(course, space);
+    let bytes = word_bytes(
+        course.alloc,
+        shape.big,
+        u32::from(word.width.bytes),
+        word.value,
+    )?;
+    store(
+        course.listing,
+        &course.setting,
+        &mut local.log,
+        &mut local.memory,
+        shape,
+        space,
+        shape.reduce(address.value),
+        bytes,
+    )
 }
 
 fn assign(course: &Course, local: &mut Local, target: u32, value: &Expr)
@@ -157,12 +169,17 @@ fn divide_words(course: &Course, local: &mut Local, target: u32, op: StatementDi
     requires right { IsFor (widths_in local.old.variables.f.now) target right.now }
     ensures { Becomes course.now.answers.now local.old local.new (done course.now.listing.now (widths_in local.old.variables.f.now) (returns_by local.old.variables.f.now.callees) (S.Divide target op left.now right.now) (local_of course.now.answers.now local.old)) }
 {
-    match (local.variables.value(left), local.variables.value(right)) {
-        (Some(a), Some(b)) => match divide(divide_of(op), a, b) {
-            Ok(word) => local.variables.assign(target as usize, word),
-            Err(_) => local.finish(End::DivZero),
-        },
-        _ => local.finish(End::Undefined),
+    let Some(a) = local.variables.value(left) else {
+        local.finish(End::Undefined);
+        return;
+    };
+    let Some(b) = local.variables.value(right) else {
+        local.finish(End::Undefined);
+        return;
+    };
+    match divide(divide_of(op), a, b) {
+        Ok(word) => local.variables.assign(target as usize, word),
+        Err(_) => local.finish(End::DivZero),
     }
 }
 
@@ -175,6 +192,14 @@ fn extra(course: &Course, local: &mut Local, target: u32, offset: u64) -> Result
     let width = local.variables.width(target);
     let word = read_left(course, &local.left, offset, width)?;
     local.variables.assign(target as usize, word);
+    Ok(())
+}
+
+/// What is no simple statement has no meaning as one.
+fn undefined(local: &mut Local) -> Result<(), Memory>
+    ensures { OnOk result ((answers : List AnAnswer) → Becomes answers local.old local.new (ends T.Undefined (local_of answers local.old))) }
+{
+    local.finish(End::Undefined);
     Ok(())
 }
 
@@ -225,9 +250,15 @@ pub(crate) fn do_simple(course: &Course, local: &mut Local, s: &Stmt) -> Result<
             divide_words(course, local, *target, *op, left, right);
             Ok(())
         }
-        _ => {
-            local.finish(End::Undefined);
-            Ok(())
-        }
+        Stmt::If { .. } => undefined(local),
+        Stmt::IfElse { .. } => undefined(local),
+        Stmt::While { .. } => undefined(local),
+        Stmt::DoWhile { .. } => undefined(local),
+        Stmt::Loop { .. } => undefined(local),
+        Stmt::Break => undefined(local),
+        Stmt::Switch { .. } => undefined(local),
+        Stmt::Goto(_) => undefined(local),
+        Stmt::Label(_) => undefined(local),
+        Stmt::Return(_) => undefined(local),
     }
 }

@@ -3,7 +3,7 @@
 ghost use Rattle.std.specs.Prelude.{◌≡◌, List, map, slice_get, Option, IfOk, IfSome};
 ghost use Rattle.cmeaning.specs.Do.{widths_in};
 ghost use Rattle.cmeaning.specs.Flat.{returns_by, found_in};
-ghost use Rattle.cmeaning.specs.Step.{carry_out as carried, given, goes_by, tested};
+ghost use Rattle.cmeaning.specs.Step.{carry_out as carried, given, gives, goes_by, tested};
 ghost use Rattle.cmeaning.specs.Value.{value_of};
 ghost use Rattle.cvalue.specs.Held.{env_of};
 ghost use Rattle.flatcode.specs.Steps.{case_of, code_of};
@@ -55,19 +55,31 @@ fn choose(local: &mut Local, value: &Expr, cases: &[Case], other: usize, positio
     }
 }
 
+/// The function ends with a value.
+fn give_value(local: &mut Local, e: &Expr, position: usize) -> usize
+    requires { IsRight (widths_in local.old.variables.f.now) e.now }
+    ensures { (answers : List AnAnswer) → Goes answers local.old local.new result (gives (value_of (widths_in local.old.variables.f.now) (env_of local.old.variables.words.items) e.now) (state_of answers local.old position)) }
+{
+    let Some(word) = local.variables.value(e) else {
+        local.finish(End::Undefined);
+        return position;
+    };
+    local.finish(End::Returned(Some(word)));
+    position
+}
+
 /// The function ends.
 fn give(local: &mut Local, value: &Option<Expr>, position: usize) -> usize
     requires { may_give (widths_in local.old.variables.f.now) value.now }
     ensures { (answers : List AnAnswer) → Goes answers local.old local.new result (given (widths_in local.old.variables.f.now) value.now (state_of answers local.old position)) }
 {
     match value {
-        None => local.finish(End::Returned(None)),
-        Some(e) => match local.variables.value(e) {
-            None => local.finish(End::Undefined),
-            Some(word) => local.finish(End::Returned(Some(word))),
-        },
+        None => {
+            local.finish(End::Returned(None));
+            position
+        }
+        Some(e) => give_value(local, e, position),
     }
-    position
 }
 
 /// Carries out the step at a position. The next position.
