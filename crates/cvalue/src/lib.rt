@@ -6,4 +6,3 @@ pub mod value;
 pub mod variables;
 
 pub use variables::Variables;
-

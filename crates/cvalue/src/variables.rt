@@ -1,8 +1,8 @@
 //! What the variables of a function hold.
 
+use crate::value::expr_word;
 use bits_core::{Width, Word};
 use cmeaning::{CFunction, Expr};
-use crate::value::expr_word;
 use std::alloc::{AllocError, Global};
 
 /// The variables of a function, each with the word that it holds, none where it was never assigned.

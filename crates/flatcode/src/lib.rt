@@ -9,3 +9,6 @@ pub mod step;
 
 pub use code::flat;
 pub use step::{Case, Cases, FlatCode, Step};
+
+#[cfg(test)]
+mod tests;

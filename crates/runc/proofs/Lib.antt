@@ -4,3 +4,5 @@ pub mod Effects
 pub mod Asking
 pub mod Accesses
 pub mod Meaningless
+pub mod Positions
+pub mod Turns

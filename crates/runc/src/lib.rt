@@ -11,4 +11,3 @@ pub mod step;
 pub mod words;
 
 pub use run::run_c;
-

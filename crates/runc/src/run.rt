@@ -35,10 +35,11 @@ fn run_from(course: &Course, code: &FlatCode, local: Local, n: u32) -> Result<Tr
 {
     let mut local = local;
     let mut position = 0;
-    let mut left = n;
-    while left > 0 && local.log.end.is_none() {
+    for _ in 0..n {
+        if local.log.end.is_some() {
+            break;
+        }
         position = carry_out(course, code, &mut local, position)?;
-        left -= 1;
     }
     let Local { log, .. } = local;
     let Log { events, end, .. } = log;

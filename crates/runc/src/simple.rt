@@ -164,7 +164,14 @@ fn divide_of(op: StatementDivision) -> Divide
     }
 }
 
-fn divide_words(course: &Course, local: &mut Local, target: u32, op: StatementDivision, left: &Expr, right: &Expr)
+fn divide_words(
+    course: &Course,
+    local: &mut Local,
+    target: u32,
+    op: StatementDivision,
+    left: &Expr,
+    right: &Expr,
+)
     requires left { IsFor (widths_in local.old.variables.f.now) target left.now }
     requires right { IsFor (widths_in local.old.variables.f.now) target right.now }
     ensures { Becomes course.now.answers.now local.old local.new (done course.now.listing.now (widths_in local.old.variables.f.now) (returns_by local.old.variables.f.now.callees) (S.Divide target op left.now right.now) (local_of course.now.answers.now local.old)) }

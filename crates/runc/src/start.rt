@@ -95,12 +95,7 @@ fn own_bytes(
 }
 
 #[tactic(auto, using(crate::proofs::Bytes::read_length))]
-fn stack_param(
-    course: &Course,
-    origin: &Origin,
-    offset: i32,
-    width: Width,
-) -> Result<Word, Memory>
+fn stack_param(course: &Course, origin: &Origin, offset: i32, width: Width) -> Result<Word, Memory>
     requires course { IsCourse course.now }
     requires origin { IsOrigin course.now.listing.now origin.now }
     ensures value { IfOk result (λ w. w.value ≡ word_at course.now.listing.now (entry_at origin.now) width.bytes (P.Stack offset)) }

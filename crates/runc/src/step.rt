@@ -1,12 +1,12 @@
 //! A step.
 
-ghost use Rattle.std.specs.Prelude.{◌≡◌, List, map, slice_get, Option, IfOk, IfSome};
+ghost use Rattle.std.specs.Prelude.{◌+◌, ◌<◌, ◌^◌, Some, ◌≡◌, List, map, slice_get, Option, IfOk, IfSome};
 ghost use Rattle.cmeaning.specs.Do.{widths_in};
 ghost use Rattle.cmeaning.specs.Flat.{returns_by, found_in};
 ghost use Rattle.cmeaning.specs.Step.{carry_out as carried, given, gives, goes_by, tested};
 ghost use Rattle.cmeaning.specs.Value.{value_of};
 ghost use Rattle.cvalue.specs.Held.{env_of};
-ghost use Rattle.flatcode.specs.Steps.{case_of, code_of};
+ghost use Rattle.flatcode.specs.Steps.{case_of, code_of, flat_step, place_in};
 ghost use Rattle.worlds.specs.declared.entry.Answer.{Answer as AnAnswer};
 ghost use Rattle.runc.specs.Fits.{StepFits};
 ghost use Rattle.runc.specs.May.{IsRight, MayStep, may_give};
@@ -31,13 +31,7 @@ fn test(local: &mut Local, condition: &Expr, yes: usize, no: usize, position: us
             local.finish(End::Undefined);
             position
         }
-        Some(word) => {
-            if word.value == 0 {
-                no
-            } else {
-                yes
-            }
-        }
+        Some(word) => { if word.value == 0 { no } else { yes } }
     }
 }
 
@@ -82,6 +76,37 @@ fn give(local: &mut Local, value: &Option<Expr>, position: usize) -> usize
     }
 }
 
+/// Carries out a step at a position. The next position.
+fn do_step(
+    course: &Course,
+    code: &FlatCode,
+    local: &mut Local,
+    position: usize,
+    step: &Step,
+) -> Result<usize, Memory>
+    requires course { IsCourse course.now }
+    requires below { position + 1 < 2 ^ 64 }
+    requires right { MayStep (widths_in local.old.variables.f.now) (flat_step (place_in code.now.labels.items code.now.end) step.now) }
+    requires fits { StepFits course.now.listing.now (widths_in local.old.variables.f.now) (flat_step (place_in code.now.labels.items code.now.end) step.now) }
+    ensures { IfOk result (λ next. Goes course.now.answers.now local.old local.new next (carried course.now.listing.now (widths_in local.old.variables.f.now) (returns_by local.old.variables.f.now.callees) (Some (flat_step (place_in code.now.labels.items code.now.end) step.now)) (state_of course.now.answers.now local.old position))) }
+{
+    match step {
+        Step::Do(s) => {
+            do_simple(course, local, s)?;
+            Ok(position + 1)
+        }
+        Step::Test { condition, yes, no } => Ok(test(local, condition, *yes, *no, position)),
+        Step::Jump(to) => Ok(*to),
+        Step::Goto(label) => Ok(code.position(*label)),
+        Step::Choose {
+            value,
+            cases,
+            other,
+        } => Ok(choose(local, value, cases.as_slice(), *other, position)),
+        Step::Give(value) => Ok(give(local, value, position)),
+    }
+}
+
 /// Carries out the step at a position. The next position.
 pub(crate) fn carry_out(
     course: &Course,
@@ -99,20 +124,6 @@ pub(crate) fn carry_out(
             local.finish(End::Undefined);
             Ok(position)
         }
-        Some(Step::Do(s)) => {
-            do_simple(course, local, s)?;
-            Ok(position + 1)
-        }
-        Some(Step::Test { condition, yes, no }) => {
-            Ok(test(local, condition, *yes, *no, position))
-        }
-        Some(Step::Jump(to)) => Ok(*to),
-        Some(Step::Goto(label)) => Ok(code.position(*label)),
-        Some(Step::Choose {
-            value,
-            cases,
-            other,
-        }) => Ok(choose(local, value, cases.as_slice(), *other, position)),
-        Some(Step::Give(value)) => Ok(give(local, value, position)),
+        Some(step) => do_step(course, code, local, position, step),
     }
 }

@@ -1,24 +1,14 @@
-use Rattle.std.proofs.Common.{◌≡◌, ◌%◌, sym, ap, ◌∙◌, ℕ, refl, List, subst}
-use Rattle.std.proofs.lemmas.Result.{on_ok_weaker}
-use Rattle.machine.specs.Trace.{DivZero, Undefined}
+use Rattle.std.proofs.Common.{sym, ap, ◌∙◌, ℕ, refl}
 use Rattle.bits_core.specs.declared.ops.Divide.{Divide}
 use Rattle.bits_core.specs.Value.{divide_value}
-use Rattle.pcode_model.specs.Memory.{plain}
-use Rattle.pcode_model.specs.Spaces.{size_of}
-use Rattle.pcode_model.specs.Step.{bytes_in}
-use Rattle.pcode_model.specs.World.{store}
-use Rattle.cmeaning.specs.Do as D
-use Rattle.cmeaning.specs.Do.{accessed, assigned, divided, divide_of, ends, in_world, left_word, loaded, stored, widths_in, with_word}
+use Rattle.cmeaning.specs.Do.{divided, divide_of, widths_in, with_word}
 use Rattle.cmeaning.specs.Flat.{returns_by}
 use Rattle.cmeaning.specs.Value.{value_of, width_of}
 use Rattle.cmeaning.proofs.Do as done
-use Rattle.cvalue.specs.Held.{env_of, number_in, IsWide}
-use Rattle.bits_core.specs.declared.word.Word.{Word}
-use Rattle.worlds.specs.Maps.{bytes_of}
-use Rattle.runc.specs.States.{left_of, local_of}
+use Rattle.cvalue.specs.Held.{env_of}
+use Rattle.runc.specs.States.{local_of}
 use Rattle.runc.proofs.Accesses as access
 use Rattle.runc.proofs.Effects.{becomes_as, word_lacks, word_has}
-use Rattle.runc.proofs.Meaningless as no
 use Rattle.runc.proofs.simple.divide_words.Goals as goal
 
 pub returns-in_default : goal.returns-in_default
@@ -42,4 +32,4 @@ returns-in-Ok c = becomes_as c.args.course.now.answers.now c.args.local.now (rec
 pub returns-in-Err : goal.returns-in-Err
 returns-in-Err c = becomes_as c.args.course.now.answers.now c.args.local.now c.finish-in-Err.new.self _ _ (word_has c.args.course.now.answers.now c.args.local.now c.finish-in-Err.new.self c.value.result c.in-Some.a (value_of (widths_in c.args.local.now.variables.f.now) (env_of c.args.local.now.variables.words.items) c.args.left.now) (λ (m : ℕ). with_word (value_of (widths_in c.args.local.now.variables.f.now) (env_of c.args.local.now.variables.words.items) c.args.right.now) (local_of c.args.course.now.answers.now c.args.local.now) (λ n. divided c.args.target (divide_value (divide_of c.args.op) (width_of (widths_in c.args.local.now.variables.f.now) c.args.left.now) m n) (local_of c.args.course.now.answers.now c.args.local.now))) c.in-Some.is c.value.ensures.value
     (word_has c.args.course.now.answers.now c.args.local.now c.finish-in-Err.new.self c.value-2.result c.in-Some-value.b (value_of (widths_in c.args.local.now.variables.f.now) (env_of c.args.local.now.variables.words.items) c.args.right.now) (λ (n : ℕ). divided c.args.target (divide_value (divide_of c.args.op) (width_of (widths_in c.args.local.now.variables.f.now) c.args.left.now) c.in-Some.a.value n) (local_of c.args.course.now.answers.now c.args.local.now)) c.in-Some-value.is c.value-2.ensures.value
-    (becomes_as c.args.course.now.answers.now c.args.local.now c.finish-in-Err.new.self _ _ (c.finish-in-Err.ensures c.args.course.now.answers.now) (sym (ap (λ o. divided c.args.target o (local_of c.args.course.now.answers.now c.args.local.now)) (access.no_quotient (divide_of c.args.op) (width_of (widths_in c.args.local.now.variables.f.now) c.args.left.now) c.in-Some.a.value c.in-Some-value.b.value (c.in-Err.ensures.zero.0 tt))))))) (sym (done.do_divide c.args.course.now.listing.now (widths_in c.args.local.now.variables.f.now) (returns_by c.args.local.now.variables.f.now.callees) c.args.target c.args.op c.args.left.now c.args.right.now (local_of c.args.course.now.answers.now c.args.local.now)))
+    (becomes_as c.args.course.now.answers.now c.args.local.now c.finish-in-Err.new.self _ _ (c.finish-in-Err.ensures c.args.course.now.answers.now) (sym (ap (λ o. divided c.args.target o (local_of c.args.course.now.answers.now c.args.local.now)) (access.no_quotient (divide_of c.args.op) (width_of (widths_in c.args.local.now.variables.f.now) c.args.left.now) c.in-Some.a.value c.in-Some-value.b.value (c.in-Err.ensures.zero.0 refl))))))) (sym (done.do_divide c.args.course.now.listing.now (widths_in c.args.local.now.variables.f.now) (returns_by c.args.local.now.variables.f.now.callees) c.args.target c.args.op c.args.left.now c.args.right.now (local_of c.args.course.now.answers.now c.args.local.now)))
