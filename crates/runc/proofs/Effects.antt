@@ -1,9 +1,9 @@
 -- What effects on the state of a run mean.
-use Rattle.std.proofs.Common.{◌≡◌, ℕ, List, Option, Some, None, refl, sym, ap, ◌∙◌, subst}
+use Rattle.std.proofs.Common.{◌≡◌, ℕ, List, Option, Some, None, sym, ap, ◌∙◌, subst}
 use Rattle.machine.specs.Trace.{Undefined, Returned}
 use Rattle.bits_core.specs.declared.word.Word.{Word}
 use Rattle.cmeaning.specs.Do as D
-use Rattle.cmeaning.specs.Step.{CState, at, goes_by, gives}
+use Rattle.cmeaning.specs.Step.{at, goes_by, gives}
 use Rattle.cvalue.specs.Held.{number_in}
 use Rattle.worlds.specs.declared.entry.Answer.{Answer}
 use Rattle.runc.specs.declared.local.Local.{Local}

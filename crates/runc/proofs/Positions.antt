@@ -1,8 +1,7 @@
 -- Where steps go.
-use Rattle.std.proofs.Common.{◌≡◌, ℕ, suc, ◌+◌, Bool, List, Option, Some, None, refl, sym, ap, ◌∙◌, subst, add-one, slice_get}
+use Rattle.std.proofs.Common.{◌≡◌, ℕ, suc, ◌+◌, Bool, List, Option, Some, refl, sym, ap, ◌∙◌, subst, add-one, slice_get}
 use Rattle.std.specs.Prelude.{option_map}
 use Rattle.std.proofs.lemmas.Option.{slice_get-map}
-use Rattle.machine.specs.Trace.{Undefined, Returned}
 use Rattle.pcode_model.specs.declared.listing.Listing.{Listing}
 use Rattle.cmeaning.specs.declared.tree.Expr.{Expr}
 use Rattle.cmeaning.specs.Do as D
@@ -13,7 +12,7 @@ use Rattle.flatcode.specs.declared.step.Step.{Step}
 use Rattle.flatcode.specs.Steps.{code_of, flat_step, place_in}
 use Rattle.worlds.specs.declared.entry.Answer.{Answer}
 use Rattle.runc.specs.declared.local.Local.{Local}
-use Rattle.runc.specs.States.{Becomes, Goes, local_of, state_of}
+use Rattle.runc.specs.States.{Becomes, Goes, local_of}
 
 pub goes_as : (answers : List Answer) (old new : Local) (p : ℕ) (x y : CState) → Goes answers old new p x → x ≡ y → Goes answers old new p y
 goes_as answers old new p x y g e = record { means = g.means ∙ e; function = g.function }

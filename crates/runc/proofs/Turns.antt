@@ -1,16 +1,18 @@
 -- The steps of a run, one after another.
-use Rattle.std.proofs.Common.{◌≡◌, ℕ, zero, suc, ◌+◌, ◌-◌, ◌<◌, ◌≤◌, List, [], ◌∷◌, length, Option, Some, None, refl, sym, ap, ◌∙◌, subst, arith, slice_get}
-use Rattle.std.specs.Prelude.{IfSome}
+use Rattle.std.proofs.Common.{◌≡◌, ℕ, zero, suc, ◌+◌, ◌-◌, ◌<◌, ◌≤◌, List, [], ◌∷◌, Option, Some, None, refl, sym, ap, ◌∙◌, arith, slice_get}
+use Rattle.std.specs.Prelude.{IfSome, IsSome}
 use Rattle.std.specs.List.{AllByRecursion}
 use Rattle.machine.specs.Trace.{End}
 use Rattle.machine.specs.Machine.{after}
 use Rattle.pcode_model.specs.declared.listing.Listing.{Listing}
-use Rattle.pcode_model.specs.World.{unless_over}
+use Rattle.pcode_model.specs.World.{shown, unless_over}
 use Rattle.cmeaning.specs.declared.tree.CFunction.{CFunction}
 use Rattle.cmeaning.specs.Do.{widths_in}
 use Rattle.cmeaning.specs.Flat.{Flat, flat_of, returns_by}
 use Rattle.cmeaning.specs.Step.{CState, c_step, carry_out}
 use Rattle.worlds.specs.declared.entry.Answer.{Answer}
+use Rattle.worlds.specs.declared.trace.End as worlds
+use Rattle.worlds.specs.Meaning.{end_of, over_of}
 use Rattle.runc.specs.declared.local.Local.{Local}
 use Rattle.runc.specs.States.{Goes, state_of}
 
@@ -39,3 +41,12 @@ run_turn l f g answers old new code p q n i all more same code_is over goes befo
     goes.means ∙ ap (λ z. carry_out l (widths_in z) (returns_by z.callees) (slice_get code p) s) same
     ∙ ap (λ z. carry_out l (widths_in f) (returns_by f.callees) (slice_get z p) s) code_is ∙ sym (step_now l f s over) in
     ap (after (c_step l f) (n - (i + 1))) stepped ∙ ap (λ k. after (c_step l f) k s) (sym left) ∙ before
+
+pub run_ends : (l : Listing) (f : CFunction) (s first : CState) (n i : ℕ) → n ≤ i → after (c_step l f) (n - i) s ≡ after (c_step l f) n first → shown s.local.world ≡ shown (after (c_step l f) n first).local.world
+run_ends l f s first n i done before =
+    let none : n - i ≡ 0 = omega arith in
+    ap (λ (z : CState). shown z.local.world) (sym (ap (λ k. after (c_step l f) k s) none) ∙ before)
+
+pub run_over : (l : Listing) (f : CFunction) (s first : CState) (n i : ℕ) (o : Option worlds.End) → s.local.world.over ≡ over_of o → IsSome o → after (c_step l f) (n - i) s ≡ after (c_step l f) n first → shown s.local.world ≡ shown (after (c_step l f) n first).local.world
+run_over l f s first n i None over some before = cc
+run_over l f s first n i (Some e) over some before = ap (λ (z : CState). shown z.local.world) (sym (stays l f s (end_of e) (n - i) over) ∙ before)
