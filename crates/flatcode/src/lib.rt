@@ -9,6 +9,3 @@ pub mod step;
 
 pub use code::flat;
 pub use step::{Case, Cases, FlatCode, Step};
-
-#[cfg(test)]
-mod tests;
