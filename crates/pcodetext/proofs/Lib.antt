@@ -1,3 +1,4 @@
+pub mod Taken
 pub mod Tops
 pub mod Joining
 pub mod Reducing

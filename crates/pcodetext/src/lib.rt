@@ -1,6 +1,7 @@
 //! The text of a listing: read, with the first fault of its least faulty line, and printed.
 #![tactic(auto)]
 
+pub mod callees;
 pub mod checks;
 pub mod convert;
 pub mod fault;

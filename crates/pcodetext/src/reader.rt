@@ -78,7 +78,7 @@ fn finish(said: Said, number: u32) -> Result<Listing, TextFault>
         stack,
         protos: protos.into_items(),
         func,
-        callees,
+        callees: callees.into_items(),
         fixed: fixed.into_items(),
         code,
     })

@@ -1,8 +1,9 @@
 //! What the lines of a listing have said so far.
 
+use crate::callees::CalleeTable;
 use crate::fixed::FixedTable;
 use crate::tables::{ProtoTable, SpaceTable};
-use pcode_model::{Function, Functions, Instruction, Instructions, Varnode};
+use pcode_model::{Function, Instruction, Instructions, Varnode};
 
 /// What the lines so far have said. A field is empty, None or false where no such line has come yet.
 #[derive(Drop)]
@@ -14,7 +15,7 @@ pub struct Said {
     pub stack: Option<Varnode>,
     pub protos: ProtoTable,
     pub func: Option<Function>,
-    pub callees: Functions,
+    pub callees: CalleeTable,
     pub fixed: FixedTable,
     /// The instructions before the last one.
     pub done: Instructions,

@@ -6,6 +6,7 @@ ghost use Rattle.pcodetext.specs.Faults.{address_size, is_behind, is_complete, i
 ghost use Rattle.pcodetext.specs.Meaning.{function_of, is_skipped, start, step, step_by};
 ghost use Rattle.pcodetext.specs.Reader.{Does};
 
+use crate::callees::CalleeTable;
 use crate::checks::{
     any_empty, any_far, any_unknown, is_bad_proto, is_empty, is_foreign_proto, is_unknown,
     is_unknown_proto,
@@ -35,7 +36,7 @@ impl Said {
             stack: None,
             protos: ProtoTable::new(alloc),
             func: None,
-            callees: Items::new(alloc),
+            callees: CalleeTable::new(alloc),
             fixed: FixedTable::new(alloc),
             done: Items::new(alloc),
             last: None,
@@ -55,7 +56,7 @@ impl Said {
             Form::Op(line) => self.op(alloc, line),
             Form::At(line) => self.at(alloc, line),
             Form::Bytes(line) => self.bytes(line),
-            Form::Callee(line) => self.callee(line),
+            Form::Callee(line) => self.callee(alloc, line),
             Form::Func(line) => self.func(line),
             Form::Proto(line) => self.proto(alloc, line),
             Form::Stack(range) => self.stack(range),
@@ -195,7 +196,15 @@ impl Said {
             Some(func) => is_taken_by(&self.spaces, line, func),
             None => false,
         };
-        is_func || is_any(&self.spaces, line, self.callees.as_slice())
+        is_func || self.is_callee(line)
+    }
+
+    // Whether a callee has the name or the address.
+    fn is_callee(&self, line: &FunctionLine) -> bool
+        ensures { result ≡ list_any (is_taken_by self.now.spaces line.now) self.now.callees }
+    {
+        self.callees.has_name(line.name.as_slice())
+            || (line.space.is_first_ram(&self.spaces) && self.callees.has_address(line.address))
     }
 
     fn func(&mut self, line: FunctionLine) -> Result<(), LineFault>
@@ -217,7 +226,7 @@ impl Said {
         Ok(())
     }
 
-    fn callee(&mut self, line: FunctionLine) -> Result<(), LineFault>
+    fn callee(&mut self, alloc: Global, line: FunctionLine) -> Result<(), LineFault>
         ensures { Does (step_by self.old (Form.Callee line)) self.new result }
     {
         if self.func.is_none() || !self.fixed.is_empty() || self.last.is_some() {
@@ -232,7 +241,7 @@ impl Said {
         if self.callees.len() >= 1024 || is_misplaced(&self.spaces, &line) {
             return Err(LineFault::Wrong(Why::Range));
         }
-        self.callees.push(function(line))?;
+        self.callees.push(alloc, function(line))?;
         Ok(())
     }
 
@@ -381,18 +390,6 @@ fn is_taken_by(spaces: &SpaceTable, line: &FunctionLine, function: &Function) ->
 {
     function.name.as_slice() == line.name.as_slice()
         || (line.space.is_first_ram(spaces) && function.address == line.address)
-}
-
-// Whether one of the functions has the name or the address.
-fn is_any(spaces: &SpaceTable, line: &FunctionLine, functions: &[Function]) -> bool
-    ensures { result ≡ list_any (is_taken_by spaces.now line.now) functions.now }
-{
-    for function in functions {
-        if is_taken_by(spaces, line, function) {
-            return true;
-        }
-    }
-    false
 }
 
 fn is_misplaced(spaces: &SpaceTable, line: &FunctionLine) -> bool

@@ -142,6 +142,35 @@ at 0x1008 4
 end
 ";
 
+const TWO_CALLEES_OF_A_NAME: &[u8] = b"pcode 1
+space ram ram 8 le
+space register register 4 le
+space unique unique 4 le
+proto c args result none pop 0x0 keep
+func f ram:0x1000 c
+callee g ram:0x2000 c
+callee h ram:0x3000 c
+callee g ram:0x4000 c
+at 0x1000 1
+  RETURN register:0x288:8
+end
+";
+
+const TWO_CALLEES_AT_AN_ADDRESS: &[u8] = b"pcode 1
+space ram ram 8 le
+space register register 4 le
+space unique unique 4 le
+proto c args result none pop 0x0 keep
+func f ram:0x1000 c
+callee g ram:0x2000 c
+callee h ram:0x3000 c
+callee k ram:0x4000 c
+callee l ram:0x2000 c
+at 0x1000 1
+  RETURN register:0x288:8
+end
+";
+
 #[test]
 fn names_the_least_faulty_line(rt: HostRuntime) {
     let rows = [
@@ -154,6 +183,8 @@ fn names_the_least_faulty_line(rt: HostRuntime) {
         (LINE_AFTER_END, TextFault::Order(12)),
         (WIDE_WORDS, TextFault::Range(2)),
         (NORETURN_IN_VERSION_1, TextFault::Syntax(7)),
+        (TWO_CALLEES_OF_A_NAME, TextFault::Duplicate(9)),
+        (TWO_CALLEES_AT_AN_ADDRESS, TextFault::Duplicate(10)),
     ];
     for (text, want) in rows {
         assert_eq!(rt; fault(&rt, text), Some(want));
