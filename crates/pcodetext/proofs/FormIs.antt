@@ -1,6 +1,6 @@
 -- What a form that is read has: names of their form, a declared space's kind, the number of a known prototype, and of an
 -- op the numbers of known spaces.
-use Rattle.std.proofs.Common.{◌≡◌, ◌<◌, ◌≤◌, ◌+◌, ℕ, Bool, true, false, List, [], ◌∷◌, length, map, arith, refl}
+use Rattle.std.proofs.Common.{◌≡◌, ◌<◌, ◌+◌, ℕ, Bool, true, false, List, [], ◌∷◌, length, map, arith, refl}
 use Rattle.std.specs.Prelude.{◌==◌, ◌&&◌, codes, Option, Some, None, IfSome, if◌then◌else◌}
 use Rattle.std.specs.List.{AllByRecursion}
 use Rattle.std.specs.Str.{bytes_eq}

@@ -1,23 +1,19 @@
 -- What has been said keeps to the rules of a listing.
-use Rattle.std.proofs.Common.{◌≡◌, ◌∙◌, ◌<◌, ◌≤◌, ◌+◌, ◌%◌, ◌^◌, ◌⊎◌, inl, inr, ℕ, zero, suc, Bool, true, false, List, [], ◌∷◌, ◌++◌, length, ap, sym, refl, arith, subst, map, lit<}
+use Rattle.std.proofs.Common.{◌≡◌, ◌<◌, ◌≤◌, ◌+◌, ◌%◌, ◌^◌, ◌⊎◌, ℕ, suc, Bool, true, false, List, [], ◌∷◌, ◌++◌, length, ap, sym, refl, arith, subst, map, lit<}
 use Rattle.std.proofs.Math.Nat.{mod-le, mod-lt, one-le-pow}
-use Rattle.std.specs.Prelude.{◌==◌, ◌&&◌, ◌||◌, not, nat_le, nat_lt, codes, Option, Some, None, IfSome, IsSome, if◌then◌else◌}
+use Rattle.std.specs.Prelude.{◌==◌, ◌&&◌, ◌||◌, not, nat_le, nat_lt, Option, Some, None, IfSome, IsSome, if◌then◌else◌}
 use Rattle.std.specs.List.{AllByRecursion, list_any}
 use Rattle.std.specs.Option.{is_none, is_some, option_map, option_to_list}
 use Rattle.std.proofs.lemmas.Bool.Decides.{nat_tests}
-use Rattle.pcode_model.specs.declared.listing.Fixed.{Fixed}
 use Rattle.pcode_model.specs.declared.listing.Function.{Function}
-use Rattle.pcode_model.specs.declared.listing.Instruction.{Instruction}
-use Rattle.pcode_model.specs.declared.listing.Op.{Op}
 use Rattle.pcode_model.specs.declared.listing.Proto.{Proto}
 use Rattle.pcode_model.specs.declared.listing.Space.{Space}
-use Rattle.pcode_model.specs.declared.listing.SpaceKind.{SpaceKind}
 use Rattle.pcode_model.specs.declared.listing.SpaceKind.TheVariants.{Constant, Ram, Register, Unique}
 use Rattle.pcode_model.specs.declared.listing.Varnode.{Varnode}
 use Rattle.pcode_model.specs.Flow.{AreApart}
-use Rattle.pcode_model.specs.Ranges.{is_kind, leaves}
+use Rattle.pcode_model.specs.Ranges.{leaves}
 use Rattle.pcode_model.specs.Spaces.{number_of, same_kind}
-use Rattle.pcode_model.specs.WellFormed.{AreSpaces, HasOps, IsArgument, IsComplete, IsDeclared, IsFixed, IsFunction, IsOp, IsOperand, IsProto, IsRegister, IsStorage, how_many}
+use Rattle.pcode_model.specs.WellFormed.{AreSpaces, HasOps, IsArgument, IsComplete, IsDeclared, IsFixed, IsFunction, IsOperand, IsProto, IsRegister, IsStorage, how_many}
 use Rattle.pcodetext.specs.declared.said.Said.{Said}
 use Rattle.pcodetext.specs.declared.form.FunctionLine.{FunctionLine}
 use Rattle.pcodetext.specs.declared.form.Named.{Named}
@@ -26,10 +22,10 @@ use Rattle.pcodetext.specs.declared.form.ProtoLine.{ProtoLine}
 use Rattle.pcodetext.specs.declared.form.SpaceLine.{SpaceLine}
 use Rattle.pcodetext.specs.declared.form.Written.{Written}
 use Rattle.pcodetext.specs.Faults.{has_bad_size, is_bad_argument, is_bad_kept, is_bad_proto, is_bad_result, is_complete, is_empty, is_far, is_first_ram, is_foreign, is_misplaced, is_no_argument, is_of_kind, is_other, is_outside, is_stack, is_unknown, is_unknown_proto, leaves_known, leaves_space, meets_stack, of_no_argument, of_other, of_some, of_unknown}
-use Rattle.pcodetext.specs.Formed.{HasKnownOps, IsKnown, IsKnownOp, IsNamedFunction, IsNamedProto, IsNamedSpace, total_ops}
+use Rattle.pcodetext.specs.Formed.{HasKnownOps, IsKnown, IsNamedFunction, IsNamedProto, IsNamedSpace, total_ops}
 use Rattle.pcodetext.specs.Meaning.{function_of, number, proto_number, reduced, storage_of, varnode}
 use Rattle.pcodetext.proofs.FormIs.{IsAmong, IsWritten, NamesProto}
-use Rattle.pcodetext.proofs.Passing.{all_map, all_snoc, eq_true, le_false, left_false, lt_false, lt_true, never, not_false, right_false, zero_false}
+use Rattle.pcodetext.proofs.Passing.{all_snoc, eq_true, left_false, lt_false, never, not_false, right_false, zero_false}
 
 -- what is declared: its names have their form, and there isn't too much of it
 pub record AreDeclared (spaces : List Space) (protos : List Proto) (func : Option Function) (callees : List Function) : Type 0 where

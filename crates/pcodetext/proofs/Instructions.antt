@@ -1,6 +1,6 @@
 -- Instructions as they are added.
-use Rattle.std.proofs.Common.{◌≡◌, ◌∙◌, ◌<◌, ◌≤◌, ◌+◌, ◌^◌, ℕ, suc, Bool, true, false, List, [], ◌∷◌, ◌++◌, length, ap, sym, refl, arith, subst}
-use Rattle.std.specs.Prelude.{◌||◌, nat_le, nat_lt, Option, Some, None}
+use Rattle.std.proofs.Common.{◌≡◌, ◌<◌, ◌≤◌, ◌+◌, ◌^◌, ℕ, false, List, [], ◌∷◌, ◌++◌, length, sym, refl, arith, subst}
+use Rattle.std.specs.Prelude.{Option, Some, None}
 use Rattle.std.specs.List.{AllByRecursion}
 use Rattle.std.specs.Option.{is_some, option_to_list}
 use Rattle.pcode_model.specs.declared.listing.Instruction.{Instruction}
@@ -9,7 +9,7 @@ use Rattle.pcode_model.specs.Flow.{AreApart}
 use Rattle.pcode_model.specs.Rules.{HasFewOps}
 use Rattle.pcodetext.specs.Faults.{is_behind, of_some}
 use Rattle.pcodetext.specs.Formed.{total_ops}
-use Rattle.pcodetext.proofs.Passing.{all_snoc, le_false, left_false, lt_false, never, right_false}
+use Rattle.pcodetext.proofs.Passing.{all_snoc, lt_false, right_false}
 
 apart_snoc : (xs : List Instruction) (x y : Instruction) → AreApart (xs ++ x ∷ []) → x.address + x.length ≤ y.address → 0 < y.length → AreApart ((xs ++ x ∷ []) ++ y ∷ [])
 apart_snoc [] x y h le pos = (h, (le, pos))

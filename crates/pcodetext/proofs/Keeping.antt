@@ -1,6 +1,6 @@
 -- A line without a fault keeps to the rules.
-use Rattle.std.proofs.Common.{◌≡◌, ◌∙◌, ◌<◌, ◌≤◌, ◌+◌, ◌⊎◌, inl, inr, ℕ, suc, Bool, true, false, List, [], ◌∷◌, ◌++◌, length, ap, sym, refl, arith, subst, map}
-use Rattle.std.specs.Prelude.{◌==◌, ◌&&◌, ◌||◌, not, nat_le, nat_lt, Option, Some, None, IfSome, if◌then◌else◌}
+use Rattle.std.proofs.Common.{◌≡◌, ◌∙◌, ◌<◌, ◌≤◌, ◌+◌, ◌⊎◌, inl, inr, ℕ, Bool, true, false, List, [], ◌∷◌, ◌++◌, length, ap, sym, refl, arith, subst, map}
+use Rattle.std.specs.Prelude.{◌==◌, ◌&&◌, ◌||◌, not, Option, Some, None, IfSome}
 use Rattle.std.specs.List.{AllByRecursion, list_any}
 use Rattle.std.specs.Option.{is_none, is_some, option_map, option_to_list}
 use Rattle.listing_lines.specs.Tokens.{is_name}
@@ -9,10 +9,8 @@ use Rattle.pcode_model.specs.declared.listing.Instruction.{Instruction}
 use Rattle.pcode_model.specs.declared.listing.Op.{Op}
 use Rattle.pcode_model.specs.declared.listing.Proto.{Proto}
 use Rattle.pcode_model.specs.declared.listing.Space.{Space}
-use Rattle.pcode_model.specs.declared.listing.Varnode.{Varnode}
 use Rattle.pcode_model.specs.declared.opcode.Opcode.{Opcode}
-use Rattle.pcode_model.specs.Flow.{AreApart}
-use Rattle.pcode_model.specs.WellFormed.{AreSpaces, HasOps, IsComplete, IsFixed, IsFunction, IsOp, IsProto, IsRegister}
+use Rattle.pcode_model.specs.WellFormed.{HasOps, IsFixed, IsFunction, IsOp, IsProto, IsRegister}
 use Rattle.pcodetext.specs.declared.said.Said.{Said}
 use Rattle.pcodetext.specs.declared.form.AtLine.{AtLine}
 use Rattle.pcodetext.specs.declared.form.BytesLine.{BytesLine}
@@ -23,14 +21,13 @@ use Rattle.pcodetext.specs.declared.form.OpLine.{OpLine}
 use Rattle.pcodetext.specs.declared.form.ProtoLine.{ProtoLine}
 use Rattle.pcodetext.specs.declared.form.SpaceLine.{SpaceLine}
 use Rattle.pcodetext.specs.declared.form.Written.{Written}
-use Rattle.pcodetext.specs.declared.fault.Why.{Why}
 use Rattle.pcodetext.specs.Formed.{HasKnownOps, IsKnownOp, IsNamedFunction, IsNamedProto, IsNamedSpace, total_ops}
-use Rattle.pcodetext.specs.Faults.{faults, first_fault, is_complete, is_empty, of_some}
-use Rattle.pcodetext.specs.Meaning.{after, function_of, number, varnode, with_op}
+use Rattle.pcodetext.specs.Faults.{faults, first_fault, is_empty, of_some}
+use Rattle.pcodetext.specs.Meaning.{after, varnode, with_op}
 use Rattle.pcodetext.proofs.FormIs.{IsForm, IsFunctionLine, IsWritten}
-use Rattle.pcodetext.proofs.Formed.{AreDeclared, IsEarly, IsFormed, complete_is, declared_is, fixed_by, function_is, inputs_are, inputs_known, output_is, output_known, proto_is, register_is, spaces_more}
+use Rattle.pcodetext.proofs.Formed.{AreDeclared, IsFormed, complete_is, declared_is, fixed_by, function_is, inputs_are, inputs_known, output_is, output_known, proto_is, register_is, spaces_more}
 use Rattle.pcodetext.proofs.Instructions.{apart_more, apart_same, ops_op, total_more, total_op}
-use Rattle.pcodetext.proofs.Passing.{AllFalse, all_false, all_map, all_snoc, eq_true, if_none, le_false, left_false, lt_false, never, nil_is, none_is, not_false, right_false, zero_false}
+use Rattle.pcodetext.proofs.Passing.{AllFalse, all_false, all_map, all_snoc, eq_true, if_none, le_false, left_false, never, nil_is, not_false, right_false, zero_false}
 
 no_length : (n : ℕ) → not (n == 0) ≡ false → n ≡ 0
 no_length n h = eq_true n 0 (not_false _ h)

@@ -1,5 +1,5 @@
 -- A constant reduced to its size.
-use Rattle.std.proofs.Common.{◌≡◌, ◌∙◌, ◌<◌, ◌≤◌, ◌*◌, ◌%◌, ◌^◌, ℕ, ap, sym, arith, lit<}
+use Rattle.std.proofs.Common.{◌≡◌, ◌<◌, ◌≤◌, ◌*◌, ◌%◌, ◌^◌, ℕ, sym, arith, lit<}
 use Rattle.std.proofs.Math.Nat.{mod-eq_of_lt, pow-le-pow_right}
 use Rattle.pcode_model.proofs.Sizes.{size_is}
 

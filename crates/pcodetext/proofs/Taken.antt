@@ -13,7 +13,7 @@ use Rattle.pcode_model.specs.declared.listing.Space.{Space}
 use Rattle.pcodetext.specs.declared.form.FunctionLine.{FunctionLine}
 use Rattle.pcodetext.specs.Faults.{is_first_ram, is_taken_by}
 use Rattle.pcodetext.specs.Tables.{function_address, function_name, has_address, has_name, place_from, place_in}
-use Rattle.pcodetext.proofs.Passing.{left_false, none_is, not_false, right_false}
+use Rattle.pcodetext.proofs.Passing.{left_false, none_is, right_false}
 
 -- a name has a number among the callees' exactly where a callee has it
 named_from : (name : Line) (k : ℕ) (fs : List Function) → is_some (place_from k name (map function_name fs)) ≡ list_any (has_name name) fs

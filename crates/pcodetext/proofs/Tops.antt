@@ -3,11 +3,10 @@ use Rattle.std.proofs.Common.{◌≡◌, ◌∙◌, ◌<◌, ◌≤◌, ◌+◌,
 use Rattle.std.proofs.lemmas.List.{get_or-set_same, get_or-set_other, length-replicate, get_or-replicate}
 use Rattle.std.specs.Prelude.{replicate}
 use Rattle.std.specs.Prelude.{◌==◌, ◌&&◌, ◌||◌, nat_lt, nat_le, max, if◌then◌else◌}
-use Rattle.std.specs.List.{list_any}
 use Rattle.std.proofs.lemmas.Bool.Decides.{nat_tests}
 use Rattle.pcode_model.specs.declared.listing.Fixed.{Fixed}
 use Rattle.pcode_model.specs.Ranges.{meets}
-use Rattle.pcodetext.specs.Tables.{HasTops, begins_late, end_of, next_of, overlaps, shares, stands_after}
+use Rattle.pcodetext.specs.Tables.{HasTops, end_of, next_of, overlaps, stands_after}
 
 late : (o x n : ℕ) → (nat_le o x || nat_lt o n) ≡ nat_lt o (max (suc x) n)
 late o x n = grind (arith, nat_tests)

@@ -1,5 +1,5 @@
 -- What holds of every listing that is read.
-use Rattle.std.proofs.Common.{◌≡◌, ◌∙◌, ◌<◌, ◌≤◌, ◌+◌, ◌⊎◌, ℕ, suc, Bool, true, false, List, [], ◌∷◌, ◌++◌, length, ap, sym, refl, arith, subst}
+use Rattle.std.proofs.Common.{◌≡◌, ◌∙◌, ◌<◌, ◌+◌, ◌⊎◌, ℕ, Bool, true, false, List, [], ◌∷◌, ◌++◌, length, ap, sym, refl, arith, subst}
 use Rattle.std.specs.Prelude.{Option, Some, None, IfSome, IfOk, Result, Ok, Err, if◌then◌else◌}
 use Rattle.std.specs.Option.{is_none, is_some, option_to_list}
 use Rattle.listing_lines.specs.Text.{Line, lines_of}
@@ -15,13 +15,13 @@ use Rattle.pcodetext.specs.declared.form.Form.{Form}
 use Rattle.pcodetext.specs.Faults.{faults, first_fault}
 use Rattle.pcodetext.specs.Formed.{IsNamedFunction, IsRead}
 use Rattle.pcodetext.specs.Forms.{form_of}
-use Rattle.pcodetext.specs.Meaning.{Progress, Read, Step, advanced, after, concluded, finished, is_skipped, listing_of, moved, reading, start, step, step_by, stepped, whole}
+use Rattle.pcodetext.specs.Meaning.{Progress, Step, advanced, after, concluded, finished, is_skipped, listing_of, moved, reading, start, step, step_by, stepped, whole}
 use Rattle.pcodetext.specs.Meaning.Progress.{Going, Stopped}
 use Rattle.pcodetext.specs.Meaning.Read.{Good, Bad}
 use Rattle.pcodetext.specs.Meaning.Step.{Fails, Goes}
 use Rattle.pcodetext.proofs.Failing.{stays}
 use Rattle.pcodetext.proofs.FormIs.{form_is}
-use Rattle.pcodetext.proofs.Formed.{IsEarly, IsFormed}
+use Rattle.pcodetext.proofs.Formed.{IsFormed}
 use Rattle.pcodetext.proofs.Instructions.{few_ops}
 use Rattle.pcodetext.proofs.Keeping.{has_protos, kept}
 use Rattle.pcodetext.proofs.Passing.{never, nil_is}

@@ -1,5 +1,5 @@
 -- What the reader's calls answer.
-use Rattle.std.specs.Prelude.{◌≡◌, ℕ, List, [], Option, Some, None, Result, Ok, Err, ⊤}
+use Rattle.std.specs.Prelude.{◌≡◌, ℕ, Result, Ok, Err, ⊤}
 use Rattle.pcodetext.specs.declared.said.Said.{Said}
 use Rattle.pcodetext.specs.declared.fault.TextFault.{TextFault}
 use Rattle.pcodetext.specs.declared.fault.TextFault.TheVariants as text_fault

@@ -1,5 +1,5 @@
 -- What is declared, by its number and by its name.
-use Rattle.std.specs.Prelude.{◌==◌, ◌≡◌, ◌<◌, max, slice_index, ◌+◌, ◌&&◌, ◌||◌, suc, ℕ, Bool, false, List, [], ◌∷◌, map, length, codes, Option, Some, None, if◌then◌else◌, nat_le}
+use Rattle.std.specs.Prelude.{◌==◌, ◌≡◌, ◌<◌, max, slice_index, ◌+◌, ◌&&◌, suc, ℕ, Bool, false, List, [], ◌∷◌, length, codes, if◌then◌else◌, nat_le}
 use Rattle.std.specs.List.{list_any}
 use Rattle.std.specs.Str.{bytes_eq}
 use Rattle.listing_lines.specs.Text.{Line}

@@ -1,5 +1,4 @@
-use Rattle.std.proofs.Common.{◌≡◌, ◌∙◌, ◌<◌, ◌^◌, ◌%◌, ℕ, ap, arith, sym}
-use Rattle.pcodetext.specs.Meaning.{reduced}
+use Rattle.std.proofs.Common.{◌%◌, ℕ, ap, arith}
 use Rattle.pcodetext.proofs.Reducing.{shift_is, stays}
 use Rattle.pcodetext.proofs.convert.reduced.Goals as goal
 

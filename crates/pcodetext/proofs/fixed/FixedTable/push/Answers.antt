@@ -1,7 +1,7 @@
-use Rattle.std.proofs.Common.{◌≡◌, ◌∙◌, ◌<◌, ◌≤◌, ◌+◌, ℕ, ap, subst, sym, arith, get_or, length, ◌++◌, ◌∷◌, []}
+use Rattle.std.proofs.Common.{◌≡◌, ◌∙◌, ◌<◌, ◌≤◌, ◌+◌, ap, arith, get_or, length}
 use Rattle.std.specs.Prelude.{List, false}
 use Rattle.pcode_model.specs.declared.listing.Fixed.{Fixed}
-use Rattle.pcodetext.specs.Tables.{HasTops, stands_after}
+use Rattle.pcodetext.specs.Tables.{stands_after}
 use Rattle.pcodetext.proofs.Tops.{pushed_past, pushed_within}
 use Rattle.pcodetext.proofs.fixed.FixedTable.push.Goals as goal
 

@@ -1,6 +1,5 @@
-use Rattle.std.proofs.Common.{◌≡◌, ◌∙◌, ℕ, true, false, ap, sym}
+use Rattle.std.proofs.Common.{◌≡◌, ◌∙◌, true, false, ap, sym}
 use Rattle.std.specs.List.{list_any}
-use Rattle.listing_lines.specs.Text.{Line}
 use Rattle.pcode_model.specs.declared.listing.Function.{Function}
 use Rattle.pcodetext.specs.Faults.{is_first_ram, is_taken_by, leaves_known}
 use Rattle.pcodetext.specs.Tables.{has_address, has_name}
