@@ -1,6 +1,6 @@
 //! The callees and their prototypes.
 
-ghost use Rattle.std.specs.Prelude.{◌≡◌, ◌<◌, length, IfSome, OnSome};
+ghost use Rattle.std.specs.Prelude.{◌≡◌, ◌<◌, length, None};
 ghost use Rattle.std.specs.Option.{option_copied};
 ghost use Rattle.pcode_model.specs.Step.{callee_at, proto_at, proto_of, returns};
 ghost use Rattle.pcode_model.specs.WellFormed.{IsWellFormed};

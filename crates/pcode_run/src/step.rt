@@ -1,5 +1,13 @@
 //! One step.
 
+ghost use Rattle.std.specs.Prelude.{◌≡◌, ◌<◌, ◌^◌, length, true, Some, OnOk};
+ghost use Rattle.pcode_model.specs.Places.{instruction_at, standing, standing_of};
+ghost use Rattle.whole_memory.specs.Course.{IsCourse};
+ghost use Rattle.whole_memory.specs.Frame.{frame_of};
+ghost use Rattle.runp.specs.State.{state_of};
+ghost use Rattle.pcode_run.specs.Run.{OwnsFirstRam, by_pointer};
+ghost use Rattle.pcode_run.specs.Steps.{Obeys, OwnsRam, done, stepped};
+
 use crate::accesses::{load, store};
 use crate::branches::{branch, branch_ind, cbranch, do_return};
 use crate::calls::{call, call_ind, call_other};
@@ -19,7 +27,13 @@ fn carry_out(
     state: &mut State,
     instruction: &Instruction,
     op: &Op,
-) -> Result<(), Memory> {
+) -> Result<(), Memory>
+    requires course { IsCourse course.now }
+    requires few { length instruction.now.ops < 2 ^ 32 }
+    requires obeys { Obeys course.now.listing.now op.now }
+    requires owns { by_pointer op.now.code ≡ true → OwnsRam course.now op.now (state_of course.now state.old) }
+    ensures { OnOk result (state_of course.now state.new ≡ done course.now instruction.now op.now (state_of course.now state.old)) }
+{
     match &op.code {
         Opcode::Unary(code) => do_unary(course, state, instruction, op, *code),
         Opcode::Binary(code) => do_binary(course, state, instruction, op, *code),
@@ -36,18 +50,21 @@ fn carry_out(
         Opcode::CallInd => call_ind(course, state, instruction, op),
         Opcode::CallOther => call_other(course, state, instruction, op),
         Opcode::Return => do_return(course, state, op),
-        Opcode::Float(_)
-        | Opcode::FloatConversion(_)
-        | Opcode::Analysis(_)
-        | Opcode::LeftOut(_) => {
-            finish(state, End::BadTarget);
-            Ok(())
-        }
+        Opcode::Float(_) | Opcode::FloatConversion(_) | Opcode::Analysis(_) | Opcode::LeftOut(_) =>
+            {
+                finish(state, End::BadTarget);
+                Ok(())
+            }
     }
 }
 
 // What stands at an index of an instruction.
-fn stand(course: &Course, state: &mut State, instruction: &Instruction) -> Result<(), Memory> {
+fn stand(course: &Course, state: &mut State, instruction: &Instruction) -> Result<(), Memory>
+    requires course { IsCourse course.now }
+    requires here { instruction_at course.now.listing.now state.old.at.address ≡ Some instruction.now }
+    requires owns { OwnsFirstRam course.now.listing.now (frame_of course.now.frame.now) }
+    ensures { OnOk result (state_of course.now state.new ≡ stepped course.now (standing_of (Some instruction.now) state.old.at.index) (state_of course.now state.old)) }
+{
     if instruction.ops.is_empty() && state.at.index == 0 {
         state.at = next_instruction(instruction);
         return Ok(());
@@ -62,7 +79,11 @@ fn stand(course: &Course, state: &mut State, instruction: &Instruction) -> Resul
 }
 
 /// Carries out what stands at the state's place.
-pub fn step(course: &Course, state: &mut State) -> Result<(), Memory> {
+pub fn step(course: &Course, state: &mut State) -> Result<(), Memory>
+    requires course { IsCourse course.now }
+    requires owns { OwnsFirstRam course.now.listing.now (frame_of course.now.frame.now) }
+    ensures { OnOk result (state_of course.now state.new ≡ stepped course.now (standing course.now.listing.now (state_of course.now state.old).at) (state_of course.now state.old)) }
+{
     match instruction(course.listing, state.at.address) {
         Some(instruction) => stand(course, state, instruction),
         None => {

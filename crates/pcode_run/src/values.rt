@@ -1,5 +1,16 @@
 //! Operations on words.
 
+ghost use Rattle.std.specs.Prelude.{◌≡◌, ◌<◌, ◌^◌, length, IfSome, OnOk};
+ghost use Rattle.bits_core.specs.Value.{divide_value};
+ghost use Rattle.pcode_model.specs.declared.opcode.Opcode.TheVariants as O;
+ghost use Rattle.pcode_model.specs.Memory.{whole};
+ghost use Rattle.pcode_model.specs.Places.{next_place};
+ghost use Rattle.pcode_model.specs.Step.{Writes, apply, divided};
+ghost use Rattle.whole_memory.specs.Course.{IsCourse, layout_of};
+ghost use Rattle.runp.specs.State.{state_of};
+ghost use Rattle.runp.specs.Used.{IsUsed};
+ghost use Rattle.pcode_run.specs.Steps.{Obeys, done};
+
 use crate::ends::finish;
 use crate::inputs::{input, read_two, width_out};
 use crate::places::next_spot;
@@ -18,7 +29,12 @@ fn put_value(
     instruction: &Instruction,
     op: &Op,
     word: u128,
-) -> Result<(), Memory> {
+) -> Result<(), Memory>
+    requires course { IsCourse course.now }
+    requires few { length instruction.now.ops < 2 ^ 32 }
+    requires out { IfSome op.now.out (IsUsed course.now.listing.now) }
+    ensures { OnOk result (state_of course.now state.new ≡ apply (whole (layout_of course.now)) course.now.listing.now (next_place instruction.now state.old.at.index) (Writes op.now.out word) (state_of course.now state.old)) }
+{
     state.at = next_spot(instruction, state.at.index);
     write_out(course, state, op.out, word)
 }
@@ -30,7 +46,13 @@ pub fn do_unary(
     instruction: &Instruction,
     op: &Op,
     code: Unary,
-) -> Result<(), Memory> {
+) -> Result<(), Memory>
+    requires course { IsCourse course.now }
+    requires few { length instruction.now.ops < 2 ^ 32 }
+    requires kind { op.now.code ≡ O.Unary code }
+    requires obeys { Obeys course.now.listing.now op.now }
+    ensures { OnOk result (state_of course.now state.new ≡ done course.now instruction.now op.now (state_of course.now state.old)) }
+{
     match read_varnode(course, state, input(op, 0))? {
         Some(a) => {
             let word = unary(code, a, width_out(op.out));
@@ -50,7 +72,13 @@ pub fn do_binary(
     instruction: &Instruction,
     op: &Op,
     code: Binary,
-) -> Result<(), Memory> {
+) -> Result<(), Memory>
+    requires course { IsCourse course.now }
+    requires few { length instruction.now.ops < 2 ^ 32 }
+    requires kind { op.now.code ≡ O.Binary code }
+    requires obeys { Obeys course.now.listing.now op.now }
+    ensures { OnOk result (state_of course.now state.new ≡ done course.now instruction.now op.now (state_of course.now state.old)) }
+{
     match read_two(course, state, input(op, 0), input(op, 1))? {
         Some((a, b)) => {
             let word = binary(code, a, b, width_out(op.out));
@@ -72,7 +100,13 @@ fn put_divided(
     code: Divide,
     a: Word,
     b: Word,
-) -> Result<(), Memory> {
+) -> Result<(), Memory>
+    requires course { IsCourse course.now }
+    requires few { length instruction.now.ops < 2 ^ 32 }
+    requires out { IfSome op.now.out (IsUsed course.now.listing.now) }
+    requires same { a.width.bytes ≡ b.width.bytes }
+    ensures { OnOk result (state_of course.now state.new ≡ apply (whole (layout_of course.now)) course.now.listing.now (next_place instruction.now state.old.at.index) (divided op.now.out (divide_value code a.width.bytes a.value b.value)) (state_of course.now state.old)) }
+{
     match divide(code, a, b) {
         Ok(word) => put_value(course, state, instruction, op, word.value),
         Err(_) => {
@@ -89,7 +123,13 @@ pub fn do_divide(
     instruction: &Instruction,
     op: &Op,
     code: Divide,
-) -> Result<(), Memory> {
+) -> Result<(), Memory>
+    requires course { IsCourse course.now }
+    requires few { length instruction.now.ops < 2 ^ 32 }
+    requires kind { op.now.code ≡ O.Divide code }
+    requires obeys { Obeys course.now.listing.now op.now }
+    ensures { OnOk result (state_of course.now state.new ≡ done course.now instruction.now op.now (state_of course.now state.old)) }
+{
     match read_two(course, state, input(op, 0), input(op, 1))? {
         Some((a, b)) => put_divided(course, state, instruction, op, code, a, b),
         None => {
