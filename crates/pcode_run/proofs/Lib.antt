@@ -1,2 +1,5 @@
 pub mod Obeying
 pub mod Doing
+pub mod Protos
+pub mod Accessing
+pub mod Leading
