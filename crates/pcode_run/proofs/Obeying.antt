@@ -1,9 +1,10 @@
 -- What an op that breaks no rule has: ranges that are read and written, and sizes that fit.
-use Rattle.std.proofs.Common.{◌≡◌, ◌⊎◌, ◌<◌, ◌≤◌, ◌+◌, ◌^◌, ◌==◌, ℕ, zero, suc, Bool, true, false, cond, List, [], ◌∷◌, length, Option, Some, None, refl, inl, inr, sym, subst, ap, ◌∙◌, arith, lit<}
+use Rattle.std.proofs.Common.{◌≡◌, ◌⊎◌, ◌<◌, ◌≤◌, ◌+◌, ◌-◌, ◌^◌, take, drop, ◌==◌, ℕ, zero, suc, Bool, true, false, cond, List, [], ◌∷◌, length, Option, Some, None, refl, inl, inr, sym, subst, ap, ◌∙◌, arith, lit<}
 use Rattle.std.specs.Prelude.{◌&&◌, not, nat_le, nat_lt, slice_get, IfSome, IsSome}
 use Rattle.std.specs.List.{AllByRecursion}
 use Rattle.std.proofs.lemmas.Bool.Decides.{nat_tests}
 use Rattle.std.proofs.Math.Nat.{pow-le-pow_right}
+use Rattle.std.proofs.Math.Seq.{take-length}
 use Rattle.bits_core.specs.declared.ops.Unary.{Unary}
 use Rattle.bits_core.specs.declared.ops.Binary.{Binary}
 use Rattle.bits_core.specs.declared.ops.Divide.{Divide}
@@ -291,3 +292,9 @@ ram_number (s ∷ ss) (suc n) is = let below = ram_number ss n is in omega (arit
 
 pub ram_small : (l : Listing) (n : ℕ) → AreSpaces l.spaces → same_kind Ram (kind_of l n) ≡ true → size_of l n ≤ 2 ^ 64
 ram_small l n good is = size_most l.spaces n good (ram_not_constant (kind_of l n) is)
+
+-- ---- a slice past the first input
+
+pub rest_is : (vs : List Varnode) → take (length vs - 1) (drop 1 vs) ≡ past_first vs
+rest_is [] = refl
+rest_is (v ∷ vs) = let e : suc (length vs) - 1 ≡ length vs = omega arith in ap (λ k. take k vs) e ∙ take-length vs
