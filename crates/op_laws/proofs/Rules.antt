@@ -51,7 +51,7 @@ in_instruction l a n [] rest h op is = absurd is
 in_instruction l a n (x ∷ ops) rest h op (inl e) = let P : Op → Type 0 = λ y. first_broken l y ≡ None in subst P (sym e) (placed a n (first_broken l x) _ h).0
 in_instruction l a n (x ∷ ops) rest h op (inr is) = in_instruction l a (suc n) ops rest (placed a n (first_broken l x) _ h).1 op is
 
-in_code : (l : Listing) (code : List Instruction) → first_bad_in l code ≡ None → (i : Instruction) → IsIn i code → (op : Op) → IsIn op i.ops → first_broken l op ≡ None
+pub in_code : (l : Listing) (code : List Instruction) → first_bad_in l code ≡ None → (i : Instruction) → IsIn i code → (op : Op) → IsIn op i.ops → first_broken l op ≡ None
 in_code l [] h i is op isop = absurd is
 in_code l (j ∷ rest) h i (inl e) op isop = let P : Instruction → Type 0 = λ x. IsIn op x.ops in in_instruction l j.address 0 j.ops _ h op (subst P e isop)
 in_code l (j ∷ rest) h i (inr is) op isop = in_code l rest (of_instruction l j.address 0 j.ops _ h) i is op isop

@@ -3,3 +3,4 @@ pub mod Doing
 pub mod Protos
 pub mod Accessing
 pub mod Leading
+pub mod Standing
