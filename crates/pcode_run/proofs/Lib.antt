@@ -4,3 +4,4 @@ pub mod Protos
 pub mod Accessing
 pub mod Leading
 pub mod Standing
+pub mod Turning

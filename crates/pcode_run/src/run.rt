@@ -126,7 +126,7 @@ fn course<'a>(
 fn run_from(course: &Course, state: State, n: u32) -> Result<Trace, Memory>
     requires course { IsCourse course.now }
     requires owns { OwnsFirstRam course.now.listing.now (frame_of course.now.frame.now) }
-    ensures { IfOk result (λ t. trace_of t ≡ seen (machine (whole (layout_of course.now)) course.now.listing.now (frame_of course.now.frame.now)) (state_of course.now state.entry) n) }
+    ensures { IfOk result (λ t. trace_of t ≡ seen (machine (whole (layout_of course.now)) course.now.listing.now (frame_of course.now.frame.now)) (state_of course.now state) n) }
 {
     let mut state = state;
     for _ in 0..n {
