@@ -58,7 +58,8 @@ fn first_memory(alloc: Global, listing: &Listing, entry: &Entry) -> Result<Whole
 // The state that the run of a listing begins with.
 fn start(alloc: Global, listing: &Listing, entry: &Entry) -> Result<State, Memory>
     requires { IsWellFormed listing.now }
-    ensures { IfOk result (λ state. (c : Course) → c.answers.now ≡ entry.now.answers → state_of c state ≡ start listing.now (entry_of listing.now entry.now) (first_whole (entry_of listing.now entry.now))) }
+    ensures local { IfOk result (λ state. bytes_of state.local ≡ (entry_of listing.now entry.now).bytes) }
+    ensures state { IfOk result (λ state. (c : Course) → c.answers.now ≡ entry.now.answers → state_of c state ≡ start listing.now (entry_of listing.now entry.now) (first_whole (entry_of listing.now entry.now))) }
 {
     let local = ByteMap::first(alloc, listing, entry.state.as_slice())?;
     let memory = first_memory(alloc, listing, entry)?;

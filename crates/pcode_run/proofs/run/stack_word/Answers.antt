@@ -10,4 +10,5 @@ pub overflow_cast-result : goal.overflow_cast-result
 overflow_cast-result c =
     let w = c.in_ok-word-in-Some.word in
     let narrow = (stack_is c.args.course.now.listing.now c.in-Some.sp c.requires.can c.in-Some.is).narrow in
-    narrow_small w.value w.width.bytes (omega (arith, narrow, c.in_ok-word-in-Some.ensures.width)) w.below
+    let below : w.value < 2 ^ 64 = narrow_small w.value w.width.bytes (omega (arith, narrow, c.in_ok-word-in-Some.ensures.width)) w.below in
+    omega (arith, below)
