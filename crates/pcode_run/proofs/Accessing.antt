@@ -1,5 +1,5 @@
 -- What a LOAD and a STORE make of a state.
-use Rattle.std.proofs.Common.{◌≡◌, ◌*◌, ◌%◌, ℕ, Bool, List, [], ◌∷◌, Option, Some, None, Result, Ok, Err, sym, ap, ◌∙◌}
+use Rattle.std.proofs.Common.{◌≡◌, ◌*◌, ◌%◌, ℕ, Bool, List, [], ◌∷◌, Option, Some, Result, Ok, sym, ap, ◌∙◌}
 use Rattle.std.proofs.lemmas.Nat.{mul-mod_first}
 use Rattle.bits_core.specs.Bytes.{word_bytes}
 use Rattle.bits_core.specs.declared.word.Word.{Word}

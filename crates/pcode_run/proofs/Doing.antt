@@ -1,12 +1,12 @@
 -- What an op makes of a state, by the words that were read.
-use Rattle.std.proofs.Common.{◌≡◌, ◌<◌, ◌≤◌, ℕ, zero, suc, List, [], ◌∷◌, length, Option, Some, None, Result, Ok, Err, refl, sym, subst, ap, ◌∙◌, arith}
+use Rattle.std.proofs.Common.{◌≡◌, ℕ, List, [], ◌∷◌, length, Option, Some, Result, Ok, Err, sym, subst, ap, ◌∙◌, arith}
 use Rattle.bits_core.specs.declared.word.Word.{Word}
 use Rattle.bits_core.specs.declared.ops.Unary.{Unary}
 use Rattle.bits_core.specs.declared.ops.Binary.{Binary}
 use Rattle.bits_core.specs.declared.ops.Divide.{Divide}
 use Rattle.std.specs.Prelude.{IfSome}
 use Rattle.bits_core.specs.Value.{IsUnarySized, IsBinarySized, unary_value, binary_value, divide_value}
-use Rattle.machine.specs.Trace.{End, Outside}
+use Rattle.machine.specs.Trace.{End}
 use Rattle.pcode_model.specs.declared.listing.Listing.{Listing}
 use Rattle.pcode_model.specs.declared.listing.Instruction.{Instruction}
 use Rattle.pcode_model.specs.declared.listing.Op.{Op}
@@ -16,7 +16,7 @@ use Rattle.pcode_model.specs.declared.opcode.Opcode.TheVariants as O
 use Rattle.pcode_model.specs.Memory.{Acts, Frame}
 use Rattle.pcode_model.specs.Places.{Does, next_place}
 use Rattle.pcode_model.specs.Spaces.{kind_of}
-use Rattle.pcode_model.specs.Step.{State, Operand, Reads, Writes, all_but_first, all_read, apply, divided, effect_at, in_world, operands, read_all, read_varnode, size_out, step_at, varnode_at, with_first}
+use Rattle.pcode_model.specs.Step.{State, Reads, Writes, all_but_first, all_read, apply, divided, effect_at, in_world, operands, read_all, read_varnode, size_out, step_at, varnode_at, with_first}
 use Rattle.pcode_model.specs.World.{ended}
 use Rattle.runp.specs.Words.{got_word}
 use Rattle.pcode_run.specs.Steps.{got_two}

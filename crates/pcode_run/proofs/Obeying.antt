@@ -1,6 +1,6 @@
 -- What an op that breaks no rule has: ranges that are read and written, and sizes that fit.
 use Rattle.std.proofs.Common.{◌≡◌, ◌⊎◌, ◌<◌, ◌≤◌, ◌+◌, ◌-◌, ◌^◌, take, drop, ◌==◌, ℕ, zero, suc, Bool, true, false, cond, List, [], ◌∷◌, length, Option, Some, None, refl, inl, inr, sym, subst, ap, ◌∙◌, arith, lit<}
-use Rattle.std.specs.Prelude.{◌&&◌, not, nat_le, nat_lt, slice_get, IfSome, IsSome}
+use Rattle.std.specs.Prelude.{◌&&◌, not, nat_le, nat_lt, slice_get, IfSome}
 use Rattle.std.specs.List.{AllByRecursion}
 use Rattle.std.proofs.lemmas.Bool.Decides.{nat_tests}
 use Rattle.std.proofs.Math.Nat.{pow-le-pow_right}
@@ -12,8 +12,7 @@ use Rattle.bits_core.specs.Value.{IsUnarySized, IsBinarySized}
 use Rattle.pcode_model.specs.declared.listing.Listing.{Listing}
 use Rattle.pcode_model.specs.declared.listing.Op.{Op}
 use Rattle.pcode_model.specs.declared.listing.Space.{Space}
-use Rattle.pcode_model.specs.declared.listing.SpaceKind.{SpaceKind}
-use Rattle.pcode_model.specs.declared.listing.SpaceKind.TheVariants.{Constant, Ram, Register, Unique}
+use Rattle.pcode_model.specs.declared.listing.SpaceKind.TheVariants.{Constant, Ram}
 use Rattle.pcode_model.specs.declared.listing.Varnode.{Varnode}
 use Rattle.pcode_model.specs.declared.opcode.Opcode.{Opcode}
 use Rattle.pcode_model.specs.declared.opcode.Opcode.TheVariants as O
@@ -22,7 +21,7 @@ use Rattle.pcode_model.specs.declared.rules.OpWhy.TheVariants.{Arity, BadSpace, 
 use Rattle.pcode_model.specs.declared.rules.Output.TheVariants as output
 use Rattle.pcode_model.specs.declared.rules.Operands.{Operands}
 use Rattle.pcode_model.specs.Flow.{IsIn}
-use Rattle.pcode_model.specs.Rules.{any_leaves, any_wide, breaks, has_operands, has_output, input_ranges, inputs_stand, is_out_of_space, is_too_wide, is_wide, leaves_space, names_address, names_ram, operands_of, output_leaves, output_wide, past_first, rules, sizes_fit, spaces_stand}
+use Rattle.pcode_model.specs.Rules.{any_leaves, any_wide, breaks, has_operands, has_output, input_ranges, inputs_stand, is_wide, leaves_space, names_address, operands_of, output_leaves, output_wide, past_first, rules, sizes_fit}
 use Rattle.pcode_model.specs.Spaces.{kind_in, kind_of, or, same_kind, size_in, size_of}
 use Rattle.pcode_model.specs.Step.{size_out, varnode_at}
 use Rattle.pcode_model.specs.WellFormed.{AreSpaces, IsDeclared, IsOperand}

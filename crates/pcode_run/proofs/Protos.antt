@@ -1,5 +1,5 @@
 -- What the prototypes of a listing that can run have.
-use Rattle.std.proofs.Common.{◌≡◌, ℕ, zero, suc, ◌+◌, ◌<◌, ◌≤◌, ◌^◌, ◌==◌, Bool, true, false, cond, List, [], ◌∷◌, length, Option, Some, None, IsSome, refl, sym, subst, ap, ◌∙◌, arith}
+use Rattle.std.proofs.Common.{◌≡◌, ℕ, zero, suc, ◌<◌, ◌≤◌, ◌^◌, ◌==◌, Bool, true, false, cond, List, [], ◌∷◌, length, Option, Some, None, refl, sym, subst, arith}
 use Rattle.std.specs.Prelude.{IfSome, slice_get}
 use Rattle.std.specs.List.{AllByRecursion}
 use Rattle.pcode_model.specs.declared.listing.Function.{Function}
@@ -16,7 +16,7 @@ use Rattle.pcode_model.specs.WellFormed as formed
 use Rattle.pcode_model.specs.WellFormed.{AreSpaces, IsFunction, IsProto, IsRegister, IsStorage}
 use Rattle.whole_memory.specs.Course.{CanRun}
 use Rattle.runp.specs.Calls.{Ends}
-use Rattle.runp.specs.Used.{IsArgument, IsInside, IsLocal, IsStack, IsUsed}
+use Rattle.runp.specs.Used.{IsArgument, IsLocal, IsStack, IsUsed}
 use Rattle.runp.proofs.Registers.{register_inside, stack_is}
 
 -- ---- ranges of registers

@@ -1,12 +1,12 @@
 -- What stands at a place of a listing that can run.
-use Rattle.std.proofs.Common.{◌≡◌, ◌⊎◌, ◌<◌, ◌^◌, ◌==◌, ℕ, zero, suc, Bool, true, false, cond, List, [], ◌∷◌, length, Option, Some, None, refl, inl, inr, sym, subst, ap, ◌∙◌}
+use Rattle.std.proofs.Common.{◌≡◌, ◌<◌, ◌^◌, ◌==◌, ℕ, zero, suc, Bool, true, false, cond, List, [], ◌∷◌, length, Option, Some, inl, inr, sym, subst, ap, ◌∙◌}
 use Rattle.std.specs.Prelude.{slice_get}
 use Rattle.std.specs.List.{AllByRecursion}
 use Rattle.pcode_model.specs.declared.listing.Instruction.{Instruction}
 use Rattle.pcode_model.specs.declared.listing.Listing.{Listing}
 use Rattle.pcode_model.specs.declared.listing.Op.{Op}
 use Rattle.pcode_model.specs.Flow.{IsIn}
-use Rattle.pcode_model.specs.Places.{Does, Standing, instruction_at, instruction_in, op_in, place, standing, standing_in, standing_of}
+use Rattle.pcode_model.specs.Places.{Does, instruction_at, instruction_in, op_in, place, standing, standing_in, standing_of}
 use Rattle.pcode_model.specs.Rules.{HasFewOps}
 use Rattle.pcode_model.specs.WellFormed.{HasOps, IsOp}
 use Rattle.op_laws.proofs.Rules.{in_code}

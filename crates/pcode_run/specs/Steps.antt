@@ -1,11 +1,10 @@
 -- What a step makes of a state, and what it rests on. This project's own.
-use Rattle.std.specs.Prelude.{◌≡◌, ℕ, Bool, true, false, List, [], ◌∷◌, Option, Some, None, IsSome, Result, Ok, Err}
+use Rattle.std.specs.Prelude.{◌≡◌, ℕ, List, [], ◌∷◌, Option, Some, None, IsSome, Result, Ok, Err}
 use Rattle.bits_core.specs.declared.word.Word.{Word}
 use Rattle.machine.specs.Trace.{End, Outside}
 use Rattle.pcode_model.specs.declared.listing.Listing.{Listing}
 use Rattle.pcode_model.specs.declared.listing.Instruction.{Instruction}
 use Rattle.pcode_model.specs.declared.listing.Op.{Op}
-use Rattle.pcode_model.specs.Memory as M
 use Rattle.pcode_model.specs.Memory.{Whole, whole}
 use Rattle.pcode_model.specs.Places.{Standing, Does}
 use Rattle.pcode_model.specs.Rules.{first_broken}

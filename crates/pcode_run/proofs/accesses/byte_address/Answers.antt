@@ -1,4 +1,4 @@
-use Rattle.std.proofs.Common.{◌≡◌, ◌*◌, ◌%◌, ◌∙◌, ℕ, ap}
+use Rattle.std.proofs.Common.{◌*◌, ◌%◌, ◌∙◌, ap}
 use Rattle.worlds.specs.Setting.{size}
 use Rattle.pcode_run.proofs.Accessing.{address_is}
 use Rattle.pcode_run.proofs.accesses.byte_address.Goals as goal

@@ -1,4 +1,4 @@
-use Rattle.std.proofs.Common.{◌≡◌, ◌≤◌, ◌^◌, ◌∙◌, ℕ, Some, None, ap, subst, sym}
+use Rattle.std.proofs.Common.{◌≤◌, ◌^◌, ◌∙◌, Some, None, subst, sym}
 use Rattle.std.proofs.lemmas.Result.{on_ok_weaker}
 use Rattle.machine.specs.Trace.{Outside}
 use Rattle.pcode_model.specs.declared.listing.Varnode.{Varnode}

@@ -1,4 +1,4 @@
-use Rattle.std.proofs.Common.{◌≡◌, ◌∙◌, Some, None, subst, sym}
+use Rattle.std.proofs.Common.{◌∙◌, Some, None, subst, sym}
 use Rattle.machine.specs.Trace.{Outside}
 use Rattle.pcode_model.specs.declared.listing.Varnode.{Varnode}
 use Rattle.pcode_model.specs.declared.opcode.Opcode.TheVariants as O

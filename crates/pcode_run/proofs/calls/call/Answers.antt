@@ -1,10 +1,8 @@
-use Rattle.std.proofs.Common.{◌≡◌, ◌<◌, ◌^◌, ◌∙◌, List, length, ap, subst, sym}
+use Rattle.std.proofs.Common.{◌<◌, ◌^◌, List, length, subst, sym}
 use Rattle.std.specs.List.{AllByRecursion}
-use Rattle.std.specs.Prelude.{IfSome}
 use Rattle.pcode_model.specs.declared.listing.Proto.{Proto}
 use Rattle.pcode_model.specs.declared.listing.Storage.{Storage}
-use Rattle.runp.specs.Calls.{Ends}
-use Rattle.runp.specs.Used.{IsArgument, IsLocal}
+use Rattle.runp.specs.Used.{IsArgument}
 use Rattle.pcode_run.proofs.Protos.{Runs, called_runs}
 use Rattle.pcode_run.proofs.calls.call.Goals as goal
 

@@ -1,10 +1,8 @@
-use Rattle.std.proofs.Common.{◌≡◌, ◌<◌, ◌^◌, ◌∙◌, List, refl, length, ap, subst, sym}
+use Rattle.std.proofs.Common.{◌<◌, ◌^◌, List, refl, length, subst, sym}
 use Rattle.std.specs.List.{AllByRecursion}
-use Rattle.std.specs.Prelude.{IfSome}
 use Rattle.pcode_model.specs.declared.listing.Proto.{Proto}
 use Rattle.pcode_model.specs.declared.listing.Storage.{Storage}
-use Rattle.runp.specs.Calls.{Ends}
-use Rattle.runp.specs.Used.{IsArgument, IsLocal, IsUsed}
+use Rattle.runp.specs.Used.{IsArgument, IsUsed}
 use Rattle.pcode_model.specs.declared.listing.Varnode.{Varnode}
 use Rattle.pcode_model.specs.declared.opcode.Opcode.TheVariants as O
 use Rattle.pcode_run.proofs.Obeying.{only_input}

@@ -1,4 +1,4 @@
-use Rattle.std.proofs.Common.{◌≡◌, ◌∙◌, ◌-◌, List, length, take, drop, ap, subst, sym}
+use Rattle.std.proofs.Common.{◌∙◌, ◌-◌, List, length, take, drop, ap, subst, sym}
 use Rattle.std.specs.List.{AllByRecursion}
 use Rattle.pcode_model.specs.declared.listing.Varnode.{Varnode}
 use Rattle.pcode_model.specs.declared.opcode.Opcode.TheVariants as O

@@ -1,4 +1,4 @@
-use Rattle.std.proofs.Common.{◌≡◌, ◌∙◌, ℕ, List, Option, None, ap, false}
+use Rattle.std.proofs.Common.{◌∙◌, ℕ, List, Option, None, ap, false}
 use Rattle.pcode_model.specs.Spaces.{is_some}
 use Rattle.worlds.specs.declared.entry.Byte.{Byte}
 use Rattle.worlds.specs.Maps.{at_offset, bytes_of}

@@ -1,4 +1,4 @@
-use Rattle.std.proofs.Common.{◌≡◌, ◌∙◌, IsSome, None, ap, arith, refl, rules}
+use Rattle.std.proofs.Common.{◌≡◌, IsSome, None, ap, arith, refl, rules}
 use Rattle.pcode_model.specs.Memory.{whole}
 use Rattle.worlds.specs.Meaning.{over_of}
 use Rattle.whole_memory.specs.Course.{layout_of}
@@ -18,6 +18,6 @@ pub returns : goal.returns
 returns c =
     let q = c.args in
     elim c.loop-test.branch [
-      else-loop-test w ↦ done_all (whole (layout_of q.course.now)) q.course.now.listing.now (frame_of q.course.now.frame.now) (state_of q.course.now c.loop.state) (state_of q.course.now q.state) q.n c.loop.counter (omega arith) c.loop.invariant
+      | else-loop-test w ↦ done_all (whole (layout_of q.course.now)) q.course.now.listing.now (frame_of q.course.now.frame.now) (state_of q.course.now c.loop.state) (state_of q.course.now q.state) q.n c.loop.counter (omega arith) c.loop.invariant
       | then-loop-test+then-is_some w ↦ done_early (whole (layout_of q.course.now)) q.course.now.listing.now (frame_of q.course.now.frame.now) (state_of q.course.now c.loop.state) (state_of q.course.now q.state) q.n c.loop.counter c.loop.state.log.end refl (let some : IsSome c.loop.state.log.end = search rules in some) c.loop.invariant
     ]

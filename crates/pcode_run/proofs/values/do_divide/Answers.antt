@@ -1,4 +1,4 @@
-use Rattle.std.proofs.Common.{◌≡◌, ◌∙◌, ℕ, Some, None, ap, subst, sym}
+use Rattle.std.proofs.Common.{◌∙◌, Some, None, ap, subst, sym}
 use Rattle.std.proofs.lemmas.Result.{on_ok_weaker}
 use Rattle.machine.specs.Trace.{Outside}
 use Rattle.runp.specs.State.{state_of}
@@ -6,7 +6,6 @@ use Rattle.runp.specs.Used.{IsUsed}
 use Rattle.pcode_model.specs.declared.listing.Varnode.{Varnode}
 use Rattle.pcode_model.specs.declared.opcode.Opcode.TheVariants as O
 use Rattle.pcode_model.specs.Memory.{whole}
-use Rattle.pcode_model.specs.Step.{size_out, varnode_at}
 use Rattle.whole_memory.specs.Course.{layout_of}
 use Rattle.whole_memory.specs.Frame.{frame_of}
 use Rattle.pcode_run.proofs.Obeying.{divide_fits, divide_inputs, divide_output}
