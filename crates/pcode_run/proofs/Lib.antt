@@ -5,3 +5,4 @@ pub mod Accessing
 pub mod Leading
 pub mod Standing
 pub mod Turning
+pub mod Owning

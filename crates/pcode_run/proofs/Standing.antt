@@ -45,7 +45,7 @@ op_obeys l a n i op can here is = record {
   checked = in_code l l.code can.checked i (found_in l.code a i here) op (some_in i.ops n op is);
 }
 
-does_in : (i : Instruction) (ops : List Op) (n : ℕ) (op : Op) → slice_get ops n ≡ Some op → standing_in i ops n ≡ Does i op
+pub does_in : (i : Instruction) (ops : List Op) (n : ℕ) (op : Op) → slice_get ops n ≡ Some op → standing_in i ops n ≡ Does i op
 does_in i [] n op is = absurd (cc)
 does_in i (x ∷ ops) n op is = ap (op_in i) is
 

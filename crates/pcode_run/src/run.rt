@@ -12,7 +12,7 @@ ghost use Rattle.whole_memory.specs.declared.course.Course.{Course};
 ghost use Rattle.whole_memory.specs.Course.{CanRun, IsCourse, layout_of, whole_of};
 ghost use Rattle.whole_memory.specs.Frame.{frame_of};
 ghost use Rattle.runp.specs.State.{state_of};
-ghost use Rattle.pcode_run.specs.Run.{OwnsFirstRam};
+ghost use Rattle.pcode_run.specs.Run.{LiesInRam, OwnsFirstRam};
 
 use crate::step::step;
 use bits_core::Memory;
@@ -150,7 +150,7 @@ pub fn run_p(
     n: u32,
 ) -> Result<Trace, Memory>
     requires can { CanRun listing.now }
-    requires owns { OwnsFirstRam listing.now (frame_of frame.now) }
+    requires owns { LiesInRam listing.now frame.now }
     ensures { IfOk result (λ t. trace_of t ≡ seen_p listing.now (frame_of frame.now) (entry_of listing.now entry.now) n) }
 {
     let state = start(alloc, listing, entry)?;
