@@ -1,0 +1,13 @@
+//! The run of a C function on an entry, step by step.
+#![tactic(auto)]
+
+pub mod calls;
+pub mod course;
+pub mod local;
+pub mod run;
+pub mod simple;
+pub mod start;
+pub mod step;
+pub mod words;
+
+pub use run::run_c;
