@@ -37,9 +37,6 @@ width_by ws e w (Some s) is h = sym (agrees ws e s is) ∙ eqb-true s.width w h
 pub width_for : (ws : ℕ → ℕ) (e : Expr) (w : ℕ) → has_width w (shape_of ws e) ≡ true → width_of ws e ≡ w
 width_for ws e w h = width_by ws e w (shape_of ws e) refl h
 
-pub ram_small : (l : Listing) (n : ℕ) → IsWellFormed l → kind_of l n ≡ Ram → size_of l n ≤ 2 ^ 64
-ram_small l n formed is = size_most l.spaces n formed.spaces (ap (same_kind Constant) is)
-
 pub assigned_becomes : (answers : List Answer) (old : Local) (vars : Variables) (v n : ℕ) → env_of vars.words.items ≡ put (env_of old.variables.words.items) v (Some n) → vars.f.now ≡ old.variables.f.now
     → Becomes answers old (record { variables = vars; left = old.left; memory = old.memory; log = old.log }) (assigned v n (local_of answers old))
 assigned_becomes answers old vars v n env function =

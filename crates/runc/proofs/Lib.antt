@@ -1,4 +1,7 @@
 pub mod Bytes
+pub mod Spaces
+pub mod Rules
+pub mod Every
 pub mod Values
 pub mod Effects
 pub mod Asking
@@ -6,3 +9,4 @@ pub mod Accesses
 pub mod Meaningless
 pub mod Positions
 pub mod Turns
+pub mod Starts

@@ -1,10 +1,14 @@
 -- What a step may rest on where its function is valid: its expressions obey the rules, and the variables that it assigns
 -- are there, and as wide as what they take. This project's own.
-use Rattle.std.specs.Prelude.{◌≡◌, ℕ, ◌<◌, true, List, Option, Some, None}
+use Rattle.std.specs.Prelude.{◌≡◌, ℕ, ◌+◌, ◌<◌, ◌≤◌, true, List, Option, Some, None}
+use Rattle.pcode_model.specs.declared.listing.Listing.{Listing}
+use Rattle.pcode_model.specs.declared.listing.SpaceKind.TheVariants.{Ram}
+use Rattle.pcode_model.specs.Spaces.{kind_of, size_of, register_space}
 use Rattle.cmeaning.specs.declared.tree.Arm.{Arm}
 use Rattle.cmeaning.specs.declared.tree.Expr.{Expr}
 use Rattle.cmeaning.specs.declared.tree.Stmt.{Stmt, out-Stmt}
 use Rattle.cmeaning.specs.declared.tree.Stmt.TheOpen.{Stmt-F}
+use Rattle.cmeaning.specs.Do.{accessed}
 use Rattle.cmeaning.specs.Flat.{Flat, Do, Test, Jump, Choose, Give}
 use Rattle.cmeaning.specs.Shape.{shape_of, is_right, has_width}
 use Rattle.cmeaning.specs.Valid.{are_right}
@@ -47,3 +51,22 @@ MayStep ws (Test e p q) = IsRight ws e
 MayStep ws (Jump p) = Unit {0}
 MayStep ws (Choose e cases other) = IsRight ws e
 MayStep ws (Give e) = may_give ws e
+
+-- ---- what a step may rest on where its function fits the listing
+
+-- a load and a store are in a ram space, and the bytes that an EXTRAOUT takes lie in the register space
+abbrev pub fits_layer : Listing → (ℕ → ℕ) → Stmt-F Stmt Arm → Type 0
+fits_layer l ws (Stmt-F.Load v space address) = kind_of l (accessed l space) ≡ Ram
+fits_layer l ws (Stmt-F.Store space address e) = kind_of l (accessed l space) ≡ Ram
+fits_layer l ws (Stmt-F.Extra v offset) = offset + ws v ≤ size_of l (register_space l)
+fits_layer l ws s = Unit {0}
+
+abbrev pub StmtFits : Listing → (ℕ → ℕ) → Stmt → Type 0
+StmtFits l ws s = fits_layer l ws (out-Stmt s)
+
+abbrev pub StepFits : Listing → (ℕ → ℕ) → Flat → Type 0
+StepFits l ws (Do s) = StmtFits l ws s
+StepFits l ws (Test e p q) = Unit {0}
+StepFits l ws (Jump p) = Unit {0}
+StepFits l ws (Choose e cases other) = Unit {0}
+StepFits l ws (Give e) = Unit {0}

@@ -1,9 +1,9 @@
 -- The states of a run as the definitions have them. This project's own.
-use Rattle.std.specs.Prelude.{◌≡◌, ℕ, ◌≤◌, List, [], ◌∷◌, map, length, Option, Some, None}
+use Rattle.std.specs.Prelude.{◌≡◌, ℕ, ◌%◌, ◌≤◌, List, [], ◌∷◌, map, length, Option, Some, None}
 use Rattle.bits_core.specs.declared.word.Word.{Word}
 use Rattle.pcode_model.specs.declared.listing.Listing.{Listing}
 use Rattle.pcode_model.specs.Memory.{or_else}
-use Rattle.pcode_model.specs.Spaces.{first_ram, register_space, unique_space}
+use Rattle.pcode_model.specs.Spaces.{first_ram, register_space, size_of, unique_space}
 use Rattle.pcode_model.specs.Step.{stack0}
 use Rattle.pcode_model.specs.WellFormed.{IsWellFormed}
 use Rattle.pcode_model.specs.World as W
@@ -73,4 +73,4 @@ abbrev pub entry_at : Origin → W.Entry
 entry_at x = record { bytes = bytes_of x.memory; hidden = at_offset x.hidden; answers = [] }
 
 pub record IsOrigin (l : Listing) (x : Origin) : Type 0 where
-  pub stack : x.stack ≡ stack0 l (entry_at x)
+  pub stack : x.stack ≡ stack0 l (entry_at x) % size_of l (first_ram l)

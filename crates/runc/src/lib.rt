@@ -3,11 +3,14 @@
 
 pub mod calls;
 pub mod course;
+pub mod fit;
 pub mod local;
+pub mod names;
 pub mod run;
 pub mod simple;
 pub mod start;
 pub mod step;
 pub mod words;
 
+pub use fit::fits;
 pub use run::run_c;

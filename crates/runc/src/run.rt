@@ -1,6 +1,6 @@
 //! The run.
 
-ghost use Rattle.std.specs.Prelude.{◌≡◌, ◌≤◌, length, IfOk, IfSome};
+ghost use Rattle.std.specs.Prelude.{◌≡◌, ◌≤◌, length, IfOk};
 ghost use Rattle.std.specs.List.{AllByRecursion};
 ghost use Rattle.machine.specs.Machine.{seen};
 ghost use Rattle.pcode_model.specs.WellFormed.{IsWellFormed};
@@ -10,8 +10,8 @@ ghost use Rattle.cmeaning.specs.Step.{c_machine, seen_c};
 ghost use Rattle.cmeaning.specs.Valid.{IsValid};
 ghost use Rattle.flatcode.specs.Steps.{code_of};
 ghost use Rattle.worlds.specs.Meaning.{entry_of, trace_of};
-ghost use Rattle.runc.specs.Fits.{FitsIn, StepFits};
-ghost use Rattle.runc.specs.May.{MayStep};
+ghost use Rattle.runc.specs.Fits.{Fits};
+ghost use Rattle.runc.specs.May.{MayStep, StepFits};
 ghost use Rattle.runc.specs.States.{IsCourse, state_of};
 
 use crate::course::Course;
@@ -56,9 +56,8 @@ pub fn run_c(
 ) -> Result<Trace, Memory>
     requires formed { IsWellFormed listing.now }
     requires few { length listing.now.spaces ≤ 256 }
-    requires stack { IfSome listing.now.stack (λ v. v.size ≤ 16) }
     requires valid { IsValid f.now }
-    requires fits { FitsIn listing.now f.now }
+    requires fits { Fits listing.now f.now }
     ensures { IfOk result (λ t. trace_of t ≡ seen_c listing.now f.now (entry_of listing.now entry.now) n) }
 {
     let code = flat(alloc, f)?;

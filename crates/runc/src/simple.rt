@@ -4,52 +4,25 @@ ghost use Rattle.std.specs.Prelude.{◌≡◌, ◌+◌, ◌≤◌, ◌<◌, List
 ghost use Rattle.machine.specs.Trace as T;
 ghost use Rattle.pcode_model.specs.declared.listing.SpaceKind.TheVariants as K;
 ghost use Rattle.pcode_model.specs.Spaces.{kind_of, register_space, size_of};
-ghost use Rattle.cmeaning.specs.Do.{accessed as access, divide_of as division, do_simple as done, ends, same_name as is_same_name, space_named, widths_in};
+ghost use Rattle.cmeaning.specs.Do.{accessed as access, divide_of as division, do_simple as done, ends, widths_in};
 ghost use Rattle.cmeaning.specs.Flat.{returns_by};
 ghost use Rattle.cmeaning.specs.declared.tree.Stmt.TheVariants as S;
 ghost use Rattle.worlds.specs.Setting.{HasShape};
 ghost use Rattle.worlds.specs.declared.entry.Answer.{Answer as AnAnswer};
-ghost use Rattle.runc.specs.Fits.{StmtFits};
-ghost use Rattle.runc.specs.May.{IsFor, IsRight, MayDo};
+ghost use Rattle.runc.specs.May.{IsFor, IsRight, MayDo, StmtFits};
 ghost use Rattle.runc.specs.States.{Becomes, IsCourse, local_of};
 
 use crate::calls::{call, call_ind, other};
 use crate::course::Course;
 use crate::local::Local;
+use crate::names::number_named;
 use crate::words::{read, read_left};
 use bits_core::{Divide, Memory, divide};
 use cmeaning::{Expr, StatementDivision, Stmt};
-use pcode_model::{Name, Space};
+use pcode_model::Name;
 use worlds::plain::store;
 use worlds::words::word_bytes;
 use worlds::{End, Shape};
-
-#[tactic(auto, using(cmeaning::proofs::Lengths::names_of_lengths))]
-fn same_name(a: &[u8], b: &[u8]) -> bool
-    ensures { result ≡ is_same_name a.now b.now }
-{
-    if a.len() != b.len() {
-        return false;
-    }
-    for i in 0..a.len() {
-        if a[i] != b[i] {
-            return false;
-        }
-    }
-    true
-}
-
-/// The number of the first space of a name, or how many spaces there are.
-fn number_named(name: &[u8], spaces: &[Space]) -> usize
-    ensures { result ≡ space_named name.now spaces.now }
-{
-    for i in 0..spaces.len() {
-        if same_name(name, spaces[i].name.as_slice()) {
-            return i;
-        }
-    }
-    spaces.len()
-}
 
 /// The number of the space that a load or store names.
 fn accessed(course: &Course, space: &Option<Name>) -> u8

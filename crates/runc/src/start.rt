@@ -1,16 +1,17 @@
 //! What a run begins with.
 
-ghost use Rattle.std.specs.Prelude.{◌≡◌, ◌+◌, ◌<◌, ◌≤◌, ◌%◌, ℕ, List, IfOk, IfSome, OnOk, length, slice_get, nat_lt, if◌then◌else◌, None};
-ghost use Rattle.std.specs.List.{AllByRecursion};
+ghost use Rattle.std.specs.Prelude.{◌≡◌, ◌+◌, ◌<◌, ◌≤◌, ◌%◌, ℕ, List, IfOk, IfSome, OnOk, length, slice_get, true, None};
+ghost use Rattle.bits_core.specs.Bytes.{number, word_of as word_in};
 ghost use Rattle.pcode_model.specs.declared.storage.ParamStorage.TheVariants as P;
 ghost use Rattle.pcode_model.specs.Spaces.{bytes_at, first_ram, size_of, register_space, unique_space};
-ghost use Rattle.pcode_model.specs.Step.{first_apart, stack_word as stack_word_in};
+ghost use Rattle.pcode_model.specs.Step.{first_apart, local_word, stack_word};
+ghost use Rattle.pcode_model.specs.WellFormed.{IsRegister};
 ghost use Rattle.cmeaning.specs.Step.{first_word, start_c, word_at, wrapped as wrapped_at};
 ghost use Rattle.cvalue.specs.Held.{env_of};
 ghost use Rattle.worlds.specs.Maps.{bytes_of};
 ghost use Rattle.worlds.specs.Meaning.{entry_of};
 ghost use Rattle.worlds.specs.Setting.{HasShape, size};
-ghost use Rattle.runc.specs.Fits.{ParamFits};
+ghost use Rattle.runc.specs.Fits.{param_fits, params_fit};
 ghost use Rattle.runc.specs.States.{IsCourse, IsOrigin, entry_at, state_of};
 
 use crate::course::Course;
@@ -19,8 +20,7 @@ use crate::words::{read, word};
 use bits_core::{Memory, Width, Word};
 use cmeaning::{CFunction, Param};
 use cvalue::Variables;
-use pcode_model::ParamStorage;
-use worlds::words::word_of;
+use pcode_model::{ParamStorage, Varnode};
 use worlds::{ByteMap, Entry, Events, Log, OffsetMap, Shape};
 
 /// What the words of parameters are read from.
@@ -28,22 +28,54 @@ use worlds::{ByteMap, Entry, Events, Log, OffsetMap, Shape};
 pub(crate) struct Origin {
     pub(crate) memory: ByteMap,
     pub(crate) hidden: OffsetMap,
-    /// The stack pointer's word.
-    pub(crate) stack: u128,
+    /// The stack pointer's word, modulo the size of the first ram space.
+    pub(crate) stack: u64,
 }
 
-fn stack_word(course: &Course, memory: &ByteMap) -> Result<u128, Memory>
+/// The number that bytes make, the least significant first, modulo the size of a space.
+fn reduced(shape: Shape, bytes: &[u8]) -> u64
+    ensures { result ≡ number bytes.now % size shape }
+{
+    let mut n = 0u64;
+    let mut i = bytes.len();
+    while i > 0 {
+        i -= 1;
+        n = shape.reduce(u128::from(n) * 256 + u128::from(bytes[i]));
+    }
+    n
+}
+
+/// The number that bytes in memory order make, likewise.
+fn reduced_word(shape: Shape, big: bool, bytes: Vec<u8>) -> u64
+    ensures { result ≡ word_in big bytes.items % size shape }
+{
+    let mut bytes = bytes;
+    if big {
+        bytes.reverse();
+        return reduced(shape, bytes.as_slice());
+    }
+    reduced(shape, bytes.as_slice())
+}
+
+/// The word of a register, modulo the size of the first ram space.
+fn pointer(course: &Course, memory: &ByteMap, v: Varnode) -> Result<u64, Memory>
     requires course { IsCourse course.now }
-    requires few { IfSome course.now.listing.now.stack (λ v. v.size ≤ 16) }
-    ensures { IfOk result (λ n. n ≡ stack_word_in course.now.listing.now course.now.listing.now.stack (bytes_of memory.now)) }
+    requires register { IsRegister course.now.listing.now.spaces v }
+    ensures { IfOk result (λ n. n ≡ local_word course.now.listing.now v (bytes_of memory.now) % size_of course.now.listing.now (first_ram course.now.listing.now)) }
+{
+    let shape = Shape::new(course.listing, v.space);
+    let bytes = memory.read(course.alloc, shape, v.space, v.offset, v.size as usize)?;
+    Ok(reduced_word(course.ram, shape.big, bytes))
+}
+
+/// The stack pointer's word, likewise; 0 where there is no stack pointer.
+fn stack_pointer(course: &Course, memory: &ByteMap) -> Result<u64, Memory>
+    requires course { IsCourse course.now }
+    ensures { IfOk result (λ n. n ≡ stack_word course.now.listing.now course.now.listing.now.stack (bytes_of memory.now) % size_of course.now.listing.now (first_ram course.now.listing.now)) }
 {
     match course.listing.stack {
         None => Ok(0),
-        Some(sp) => {
-            let shape = Shape::new(course.listing, sp.space);
-            let bytes = memory.read(course.alloc, shape, sp.space, sp.offset, sp.size as usize)?;
-            Ok(word_of(shape.big, bytes.as_slice()))
-        }
+        Some(v) => pointer(course, memory, v),
     }
 }
 
@@ -54,7 +86,7 @@ fn own_byte(course: &Course, origin: &Origin, shape: Shape, offset: u64) -> u8
     requires shape { HasShape course.now.listing.now (first_ram course.now.listing.now) shape }
     ensures { result ≡ (first_apart course.now.listing.now (entry_at origin.now)).own offset }
 {
-    let at = shape.reduce(u128::from(shape.reduce(origin.stack)) + u128::from(offset));
+    let at = shape.reduce(u128::from(origin.stack) + u128::from(offset));
     match origin.hidden.get(at) {
         Some(byte) => byte,
         None => origin.memory.byte(course.setting.first_ram, at),
@@ -111,7 +143,7 @@ fn stack_param(course: &Course, origin: &Origin, offset: i32, width: Width) -> R
 fn param_word(course: &Course, origin: &Origin, param: &Param) -> Result<Word, Memory>
     requires course { IsCourse course.now }
     requires origin { IsOrigin course.now.listing.now origin.now }
-    requires fits { ParamFits course.now.listing.now param.now }
+    requires fits { param_fits course.now.listing.now param.now ≡ true }
     ensures value { IfOk result (λ w. w.value ≡ word_at course.now.listing.now (entry_at origin.now) param.now.width.bytes param.now.storage) }
     ensures width { IfOk result (λ w. w.width ≡ param.now.width) }
 {
@@ -144,7 +176,7 @@ fn assign_params(
 ) -> Result<(), Memory>
     requires course { IsCourse course.now }
     requires origin { IsOrigin course.now.listing.now origin.now }
-    requires fits { AllByRecursion (ParamFits course.now.listing.now) params.now }
+    requires fits { params_fit course.now.listing.now params.now ≡ true }
     requires own { params.now ≡ variables.old.f.now.params }
     requires none { env_of variables.old.words.items ≡ λ v. None }
     ensures words { OnOk result (env_of variables.new.words.items ≡ λ v. first_word course.now.listing.now (entry_at origin.now) (slice_get params.now v)) }
@@ -164,13 +196,12 @@ pub(crate) fn start<'a>(
     entry: &Entry,
 ) -> Result<Local<'a>, Memory>
     requires course { IsCourse course.now }
-    requires few { IfSome course.now.listing.now.stack (λ v. v.size ≤ 16) }
-    requires fits { AllByRecursion (ParamFits course.now.listing.now) f.now.params }
+    requires fits { params_fit course.now.listing.now f.now.params ≡ true }
     ensures means { IfOk result (λ x. state_of entry.now.answers x 0 ≡ start_c course.now.listing.now f.now (entry_of course.now.listing.now entry.now)) }
     ensures function { IfOk result (λ x. x.variables.f.now ≡ f.now) }
 {
     let memory = ByteMap::first(course.alloc, course.listing, entry.state.as_slice())?;
-    let stack = stack_word(course, &memory)?;
+    let stack = stack_pointer(course, &memory)?;
     let origin = Origin {
         memory,
         hidden: OffsetMap::of_bytes(course.alloc, entry.hidden.as_slice())?,

@@ -8,8 +8,7 @@ ghost use Rattle.cmeaning.specs.Value.{value_of};
 ghost use Rattle.cvalue.specs.Held.{env_of};
 ghost use Rattle.flatcode.specs.Steps.{case_of, code_of, flat_step, place_in};
 ghost use Rattle.worlds.specs.declared.entry.Answer.{Answer as AnAnswer};
-ghost use Rattle.runc.specs.Fits.{StepFits};
-ghost use Rattle.runc.specs.May.{IsRight, MayStep, may_give};
+ghost use Rattle.runc.specs.May.{IsRight, MayStep, StepFits, may_give};
 ghost use Rattle.runc.specs.States.{Goes, IsCourse, state_of};
 
 use crate::course::Course;
