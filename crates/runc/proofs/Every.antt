@@ -126,7 +126,7 @@ stmt_layer l f labels formed g o h q (Stmt-F.CallInd v e es) after_call in_loop 
     let ws = widths_in f in
     let three = both (is_target ws v) (is_right (shape_of ws e) && are_right ws es) ok in
     let two = both (is_right (shape_of ws e)) (are_right ws es) three.1 in
-    done l f (S.CallInd v e es) (Stmt-F.CallInd v e es) (S.rolls-CallInd v e es) (target_there ws v three.0, (two.0, two.1)) tt
+    done l f (S.CallInd v e es) (Stmt-F.CallInd v e es) (S.rolls-CallInd v e es) (target_there ws v three.0, two.0, two.1) tt
 stmt_layer l f labels formed g o h q (Stmt-F.Other v index es) after_call in_loop room ok fit place out p =
     let ws = widths_in f in
     let three = both (is_target ws v) (is_long index && are_right ws es) ok in

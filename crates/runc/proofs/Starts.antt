@@ -16,7 +16,11 @@ use Rattle.pcode_model.specs.World as W
 use Rattle.cmeaning.specs.declared.tree.CFunction.{CFunction}
 use Rattle.cmeaning.specs.declared.tree.Param.{Param}
 use Rattle.cmeaning.specs.Do.{local_width, variable_width, widths_in}
-use Rattle.cmeaning.specs.Step.{first_word, word_at}
+use Rattle.cmeaning.specs.Step.{CState, at, first_word, start_c, word_at}
+use Rattle.worlds.specs.declared.entry.Entry.{Entry}
+use Rattle.worlds.specs.declared.trace.Event.{Event}
+use Rattle.worlds.specs.Log.{world_of}
+use Rattle.worlds.specs.Meaning.{answer_of, entry_of, first_bytes, with_offsets}
 use Rattle.worlds.proofs.Steps.{number_above}
 use Rattle.runc.specs.Fits.{all_true}
 use Rattle.runc.proofs.Spaces.{both}
@@ -74,6 +78,41 @@ same_first : (l : Listing) (bytes : Bytes) (hidden : ℕ → Option ℕ) (xs ys 
 same_first l bytes hidden xs ys None = refl
 same_first l bytes hidden xs ys (Some p) = ap Some (same_word l bytes hidden xs ys p.width.bytes p.storage)
 
-pub first_words : (l : Listing) (bytes : Bytes) (hidden : ℕ → Option ℕ) (xs ys : List W.Answer) (ps : List Param)
-    → (λ v. first_word l (record { bytes = bytes; hidden = hidden; answers = xs }) (slice_get ps v)) ≡ (λ v. first_word l (record { bytes = bytes; hidden = hidden; answers = ys }) (slice_get ps v))
-first_words l bytes hidden xs ys ps = fun_ext (λ v. same_first l bytes hidden xs ys (slice_get ps v))
+-- the words of parameters by their numbers
+abbrev pub words_at : Listing → Bytes → (ℕ → Option ℕ) → List W.Answer → List Param → ℕ → Option ℕ
+words_at l bytes hidden xs ps v = first_word l (record { bytes = bytes; hidden = hidden; answers = xs }) (slice_get ps v)
+
+same_words : (l : Listing) (bytes : Bytes) (hidden : ℕ → Option ℕ) (xs ys : List W.Answer) (ps : List Param) → words_at l bytes hidden xs ps ≡ words_at l bytes hidden ys ps
+same_words l bytes hidden xs ys ps = fun_ext (λ v. same_first l bytes hidden xs ys (slice_get ps v))
+
+-- the state is the definition's
+pub start_is : (l : Listing) (f : CFunction) (e : Entry) (env : ℕ → Option ℕ) (left : ℕ → ℕ) (bytes : Bytes) (hidden : ℕ → Option ℕ) (events : List Event)
+    → env ≡ words_at l bytes hidden [] f.params → left ≡ (λ o. 0) → bytes ≡ first_bytes l e.state → hidden ≡ with_offsets e.hidden (λ o. None) → events ≡ []
+    → at 0 (record { env = env; left = left; world = world_of bytes e.answers (record { taken = 0; events = events; end = None }) }) ≡ start_c l f (entry_of l e)
+start_is l f e env left bytes hidden events env_is left_is bytes_are hidden_are none =
+    let answers = map answer_of e.answers in
+    let with_env : (ℕ → Option ℕ) → CState = λ z. at 0 (record { env = z; left = left; world = world_of bytes e.answers (record { taken = 0; events = events; end = None }) }) in
+    let with_left : (ℕ → ℕ) → CState = λ z. at 0 (record { env = words_at l bytes hidden answers f.params; left = z; world = world_of bytes e.answers (record { taken = 0; events = events; end = None }) }) in
+    let with_events : List Event → CState = λ z. at 0 (record { env = words_at l bytes hidden answers f.params; left = λ o. 0; world = world_of bytes e.answers (record { taken = 0; events = z; end = None }) }) in
+    let with_hidden : (ℕ → Option ℕ) → CState = λ z. at 0 (record { env = words_at l bytes z answers f.params; left = λ o. 0; world = record { memory = bytes; answers = answers; events = []; over = None } }) in
+    let with_bytes : Bytes → CState = λ z. at 0 (record { env = words_at l z (with_offsets e.hidden (λ o. None)) answers f.params; left = λ o. 0; world = record { memory = z; answers = answers; events = []; over = None } }) in
+    ap with_env (env_is ∙ same_words l bytes hidden [] answers f.params) ∙ ap with_left left_is ∙ ap with_events none ∙ ap with_hidden hidden_are ∙ ap with_bytes bytes_are
+
+pub left_none : (g : ℕ → Option ℕ) → g ≡ (λ o. None) → ◌≡◌ {A = ℕ → ℕ} (λ o. or_else (g o) 0) (λ o. 0)
+left_none g is = let f : (ℕ → Option ℕ) → ℕ → ℕ = λ h o. or_else (h o) 0 in ap f is
+
+-- ---- bytes of the stack
+
+pub own_hidden : (hidden : ℕ → Option ℕ) (bytes : ℕ → ℕ → ℕ) (ram word size whole offset stack at b : ℕ) (o : Option ℕ) → whole ≡ size → stack ≡ word % size → at ≡ (stack + offset) % whole → o ≡ hidden at → o ≡ Some b
+    → b ≡ or_else (hidden ((word + offset) % size)) (bytes ram ((word + offset) % size))
+own_hidden hidden bytes ram word size whole offset stack at b o whole_is stack_is at_is got some =
+    let here : at ≡ (word + offset) % size = own_at word size offset stack at stack_is (at_is ∙ ap (λ z. (stack + offset) % z) whole_is) in
+    let there : hidden ((word + offset) % size) ≡ Some b = sym (ap hidden here) ∙ sym got ∙ some in
+    sym (ap (λ z. or_else z (bytes ram ((word + offset) % size))) there)
+
+pub own_shown : (hidden : ℕ → Option ℕ) (bytes : ℕ → ℕ → ℕ) (ram space word size whole offset stack at b : ℕ) (o : Option ℕ) → whole ≡ size → stack ≡ word % size → at ≡ (stack + offset) % whole → o ≡ hidden at → o ≡ None
+    → space ≡ ram → b ≡ bytes space at → b ≡ or_else (hidden ((word + offset) % size)) (bytes ram ((word + offset) % size))
+own_shown hidden bytes ram space word size whole offset stack at b o whole_is stack_is at_is got none space_is read =
+    let here : at ≡ (word + offset) % size = own_at word size offset stack at stack_is (at_is ∙ ap (λ z. (stack + offset) % z) whole_is) in
+    let there : hidden ((word + offset) % size) ≡ None = sym (ap hidden here) ∙ sym got ∙ none in
+    read ∙ ap (λ z. bytes z at) space_is ∙ ap (bytes ram) here ∙ sym (ap (λ z. or_else z (bytes ram ((word + offset) % size))) there)

@@ -1,19 +1,20 @@
 -- The steps of a run, one after another.
-use Rattle.std.proofs.Common.{◌≡◌, ℕ, zero, suc, ◌+◌, ◌-◌, ◌<◌, ◌≤◌, List, [], ◌∷◌, Option, Some, None, refl, sym, ap, ◌∙◌, arith, slice_get}
+use Rattle.std.proofs.Common.{◌≡◌, ℕ, zero, suc, ◌+◌, ◌-◌, ◌<◌, ◌≤◌, List, [], ◌∷◌, Option, Some, None, refl, sym, ap, ◌∙◌, arith, slice_get, subst}
 use Rattle.std.specs.Prelude.{IfSome, IsSome}
 use Rattle.std.specs.List.{AllByRecursion}
-use Rattle.machine.specs.Trace.{End}
-use Rattle.machine.specs.Machine.{after}
+use Rattle.machine.specs.Trace.{End, Trace}
+use Rattle.machine.specs.Machine.{after, seen}
 use Rattle.pcode_model.specs.declared.listing.Listing.{Listing}
 use Rattle.pcode_model.specs.World.{shown, unless_over}
 use Rattle.cmeaning.specs.declared.tree.CFunction.{CFunction}
 use Rattle.cmeaning.specs.Do.{widths_in}
 use Rattle.cmeaning.specs.Flat.{Flat, flat_of, returns_by}
-use Rattle.cmeaning.specs.Step.{CState, c_step, carry_out}
+use Rattle.cmeaning.specs.Step.{CState, c_machine, c_step, carry_out}
 use Rattle.worlds.specs.declared.entry.Answer.{Answer}
 use Rattle.worlds.specs.declared.trace.End as worlds
 use Rattle.worlds.specs.Meaning.{end_of, over_of}
 use Rattle.runc.specs.declared.local.Local.{Local}
+use Rattle.runc.specs.May.{MayStep, StepFits}
 use Rattle.runc.specs.States.{Goes, state_of}
 
 pub all_at : {A : Type 0} (P : A → Type 0) (xs : List A) (k : ℕ) → AllByRecursion P xs → IfSome (slice_get xs k) P
@@ -50,3 +51,14 @@ run_ends l f s first n i done before =
 pub run_over : (l : Listing) (f : CFunction) (s first : CState) (n i : ℕ) (o : Option worlds.End) → s.local.world.over ≡ over_of o → IsSome o → after (c_step l f) (n - i) s ≡ after (c_step l f) n first → shown s.local.world ≡ shown (after (c_step l f) n first).local.world
 run_over l f s first n i None over some before = cc
 run_over l f s first n i (Some e) over some before = ap (λ (z : CState). shown z.local.world) (sym (stays l f s (end_of e) (n - i) over) ∙ before)
+
+-- ---- the whole run
+
+pub may_all : (f g : CFunction) → g ≡ f → AllByRecursion (MayStep (widths_in f)) (flat_of f) → AllByRecursion (MayStep (widths_in g)) (flat_of g)
+may_all f g is h = let P : CFunction → Type 0 = λ z. AllByRecursion (MayStep (widths_in z)) (flat_of z) in subst P (sym is) h
+
+pub fit_all : (l : Listing) (f g : CFunction) → g ≡ f → AllByRecursion (StepFits l (widths_in f)) (flat_of f) → AllByRecursion (StepFits l (widths_in g)) (flat_of g)
+fit_all l f g is h = let P : CFunction → Type 0 = λ z. AllByRecursion (StepFits l (widths_in z)) (flat_of z) in subst P (sym is) h
+
+pub run_is : (l : Listing) (f g : CFunction) (s t : CState) (n : ℕ) (shown : Trace) → g ≡ f → s ≡ t → shown ≡ seen (c_machine l g) s n → shown ≡ seen (c_machine l f) t n
+run_is l f g s t n shown same begin is = is ∙ ap (λ z. seen (c_machine l z) s n) same ∙ ap (λ z. seen (c_machine l f) z n) begin

@@ -1,4 +1,4 @@
-use Rattle.std.proofs.Common.{◌≡◌, ◌+◌, ◌-◌, ◌%◌, ℕ, drop, arith, ap, ◌∙◌, sym}
+use Rattle.std.proofs.Common.{◌≡◌, ◌+◌, ◌-◌, ◌*◌, ◌%◌, ℕ, drop, arith, ap, ◌∙◌, sym}
 use Rattle.bits_core.specs.Bytes.{number}
 use Rattle.worlds.specs.Setting.{size}
 use Rattle.runc.proofs.Starts.{reduced_more}
@@ -9,6 +9,6 @@ loop-i-preserved c =
     let later : c.loop-i.i - 1 + 1 ≡ c.loop-i.i = omega arith in
     record {
       inside = omega arith;
-      value = reduced_more c.args.bytes.now (c.loop-i.i - 1) (size c.args.shape) c.loop-i.n c.reduce.result c.from-2.result (omega arith)
-          (c.loop-i.invariant.value ∙ ap (λ (k : ℕ). number (drop k c.args.bytes.now) % size c.args.shape) (sym later)) c.from-2.ensures (c.reduce.ensures.value ∙ ap (λ z. (z * 256 + c.from-2.result) % size c.args.shape) c.from.ensures);
+      value = reduced_more c.args.bytes.now (c.loop-i.i - 1) (size c.args.shape) c.loop-i.n c.reduce-n.result c.from-in-loop-i.result (omega arith)
+          (c.loop-i.invariant.value ∙ ap (λ (k : ℕ). number (drop k c.args.bytes.now) % size c.args.shape) (sym later)) c.from-in-loop-i.ensures (c.reduce-n.ensures.value ∙ ap (λ z. (z * 256 + c.from-in-loop-i.result) % size c.args.shape) c.from.ensures);
     }
