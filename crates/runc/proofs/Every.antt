@@ -95,7 +95,7 @@ arms_sound l f labels o q (a ∷ arms) room ok fit place out past p =
     let fits = both (arm_fits l (widths_in f) (o a)) (all_true (map (arm_fits l (widths_in f)) (map o arms))) fit in
     let P : Branch → Type 0 = λ z. AllSound l f (all_steps z.body place out p) in
     let body : AllSound l f (all_steps b.body place out p) = subst P (sym (branch_is (returns_by f.callees) (o a)))
-        (q a false false room (ap (λ (z : Cased). all_hold false z.body false room) (sym (cased_is f labels (o a))) ∙ two.0) (sym (arm_fits_is l (widths_in f) (o a)) ∙ fits.0) place out p) in
+    (q a false false room (ap (λ (z : Cased). all_hold false z.body false room) (sym (cased_is f labels (o a))) ∙ two.0) (sym (arm_fits_is l (widths_in f) (o a)) ∙ fits.0) place out p) in
     sound_append l f (all_steps b.body place out p) ((if breaks b then Jump past ∷ [] else []) ++ arm_steps rest place out past (p + arm_span b)) body
     (sound_append l f (if breaks b then Jump past ∷ [] else []) (arm_steps rest place out past (p + arm_span b)) (break_sound l f past (breaks b))
     (arms_sound l f labels o q arms room two.1 fits.1 place out past (p + arm_span b)))
@@ -153,9 +153,11 @@ stmt_layer l f labels formed g o h q (Stmt-F.IfElse c xs ys) after_call in_loop 
     let two = both first second three.1 in
     let fits = both (all_true (map (stmt_fits l ws) (map g xs))) (all_true (map (stmt_fits l ws) (map g ys))) fit in
     let yes = map (piece_of (returns_by f.callees)) (map g xs) in
-    let no = map (piece_of (returns_by f.callees)) (map g ys) in
-    ((right_condition (shape_of ws c) three.0, tt), sound_append l f (all_steps yes place out (suc p)) (Jump (suc (suc p + spans yes) + spans no) ∷ all_steps no place out (suc (suc p + spans yes)))
-    (body_sound l f labels g h xs false in_loop room two.0 fits.0 place out (suc p)) ((tt, tt), body_sound l f labels g h ys false in_loop room two.1 fits.1 place out (suc (suc p + spans yes))))
+    let no = map (piece_of (returns_by f.callees)) (map g ys) in (
+      (right_condition (shape_of ws c) three.0, tt),
+      sound_append l f (all_steps yes place out (suc p)) (Jump (suc (suc p + spans yes) + spans no) ∷ all_steps no place out (suc (suc p + spans yes)))
+          (body_sound l f labels g h xs false in_loop room two.0 fits.0 place out (suc p)) ((tt, tt), body_sound l f labels g h ys false in_loop room two.1 fits.1 place out (suc (suc p + spans yes))),
+    )
 stmt_layer l f labels formed g o h q (Stmt-F.While c xs) after_call in_loop room ok fit place out p =
     let two = both (is_condition (shape_of (widths_in f) c)) (all_hold false (map (rule_of f labels) (map g xs)) true room) ok in
     let body = map (piece_of (returns_by f.callees)) (map g xs) in

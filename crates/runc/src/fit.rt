@@ -5,7 +5,7 @@ ghost use Rattle.pcode_model.specs.Spaces.{number_of as kind_number};
 ghost use Rattle.cmeaning.specs.Do.{widths_in};
 ghost use Rattle.runc.specs.Fits.{Fits, all_true, arm_fits as fits_arm, body_fits as fits_body, lies_in as in_space, names_ram as is_ram_name, param_fits as fits_param, params_fit as fit_params, stmt_fits as fits_stmt};
 
-use crate::names::number_named;
+use crate::named::number_named;
 use cmeaning::{Arm, CFunction, Param, Stmt};
 use pcode_model::ranges::{is_kind, leaves, number_of};
 use pcode_model::{Listing, Name, ParamStorage, SpaceKind};
@@ -34,7 +34,12 @@ fn lies_in(listing: &Listing, kind: SpaceKind, offset: u64, count: u8) -> bool
     ensures { result ≡ in_space listing.now (kind_number kind listing.now.spaces) offset count }
 {
     let spaces = listing.spaces.as_slice();
-    !leaves(spaces, number_of(kind, spaces) as u64, offset, u32::from(count))
+    !leaves(
+        spaces,
+        number_of(kind, spaces) as u64,
+        offset,
+        u32::from(count),
+    )
 }
 
 /// The width of a variable in bytes, or 0 where there is none of this number.

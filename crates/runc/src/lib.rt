@@ -5,7 +5,7 @@ pub mod calls;
 pub mod course;
 pub mod fit;
 pub mod local;
-pub mod names;
+pub mod named;
 pub mod run;
 pub mod simple;
 pub mod start;

@@ -15,7 +15,7 @@ ghost use Rattle.runc.specs.States.{Becomes, IsCourse, local_of};
 use crate::calls::{call, call_ind, other};
 use crate::course::Course;
 use crate::local::Local;
-use crate::names::number_named;
+use crate::named::number_named;
 use crate::words::{read, read_left};
 use bits_core::{Divide, Memory, divide};
 use cmeaning::{Expr, StatementDivision, Stmt};

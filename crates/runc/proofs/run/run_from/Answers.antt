@@ -17,6 +17,6 @@ loop-preserved c =
 pub returns : goal.returns
 returns c =
     elim c.loop-test.branch [
-      else-loop-test w ↦ run_ends c.args.course.now.listing.now c.args.local.variables.f.now (state_of c.args.course.now.answers.now c.loop.local c.loop.position) (state_of c.args.course.now.answers.now c.args.local 0) c.args.n c.loop.counter (omega arith) c.loop.invariant.run
+      | else-loop-test w ↦ run_ends c.args.course.now.listing.now c.args.local.variables.f.now (state_of c.args.course.now.answers.now c.loop.local c.loop.position) (state_of c.args.course.now.answers.now c.args.local 0) c.args.n c.loop.counter (omega arith) c.loop.invariant.run
       | then-loop-test+then-is_some w ↦ run_over c.args.course.now.listing.now c.args.local.variables.f.now (state_of c.args.course.now.answers.now c.loop.local c.loop.position) (state_of c.args.course.now.answers.now c.args.local 0) c.args.n c.loop.counter c.loop.local.log.end refl (let some : IsSome c.loop.local.log.end = search rules in some) c.loop.invariant.run
     ]
