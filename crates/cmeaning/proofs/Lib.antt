@@ -6,4 +6,5 @@ pub mod Lengths
 pub mod Distinct
 pub mod Switches
 pub mod Runs
+mod Sets
 pub mod Grows

@@ -10,7 +10,7 @@ pub mod tree;
 pub mod worked;
 
 pub use numbering::Next;
-pub use rules::{has_name_form, valid};
+pub use rules::{checked, has_name_form, valid};
 pub use shape::Shape;
 pub use tree::{
     ArithmeticOp, Arm, Arms, Body, CFunction, CName, CalleeDecl, CalleeDecls, CompareOp, CountOp,

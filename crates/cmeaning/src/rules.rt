@@ -1,6 +1,6 @@
 //! The rules of a valid tree, but for those of expressions, case values and bodies.
 
-ghost use Rattle.std.specs.Prelude.{◌≡◌, ◌==◌, ◌++◌, ◌&&◌, ◌<◌, ◌^◌, ◌↔◌, IsTrue, List, length, map, nat_le, nat_lt, not, true, false};
+ghost use Rattle.std.specs.Prelude.{◌≡◌, ◌==◌, ◌++◌, ◌&&◌, ◌<◌, ◌^◌, ◌↔◌, IsTrue, List, length, map, nat_le, nat_lt, not, true, false, None, IfOk, IsOk};
 ghost use Rattle.cmeaning.specs.declared.tree.CFunction.{CFunction as Function};
 ghost use Rattle.cmeaning.specs.Do.{same_name as is_same_name, widths_in};
 ghost use Rattle.cmeaning.specs.Shape.{shape_of, is_right, has_width as is_wide, is_condition};
@@ -10,8 +10,9 @@ use crate::body::body_holds;
 use crate::numbering::{Next, number_body};
 use crate::shape::{has_width, obeys, variable_width};
 use crate::tree::{CFunction, CName, CalleeDecl, Expr, Param};
-use bits_core::Width;
+use bits_core::{Memory, Width};
 use pcode_model::{Name, ParamStorage};
+use std::alloc::Global;
 
 // ---- names
 
@@ -327,23 +328,25 @@ fn header_fits(f: &CFunction) -> bool
         && callees_fit(f.callees.as_slice())
 }
 
-fn body_fits(f: &CFunction, next: Option<Next>) -> bool
-    ensures { result ≡ is_complete f.now next }
+fn body_fits(memory: Option<Global>, f: &CFunction, next: Option<Next>) -> Result<bool, Memory>
+    ensures right { IfOk result (λ b. b ≡ is_complete f.now next) }
+    ensures without { memory ≡ None → IsOk result }
 {
     match next {
-        None => false,
+        None => Ok(false),
         Some(n) => {
             let variables = f.params.as_slice().len() + f.locals.as_slice().len();
-            n.variable == variables
-                && n.callee == f.callees.len()
-                && body_holds(f, n.label, f.body.as_slice(), false, 256)
+            if n.variable != variables || n.callee != f.callees.len() {
+                return Ok(false);
+            }
+            body_holds(memory, f, n.label, f.body.as_slice())
         }
     }
 }
 
-/// Whether a tree is valid, so that it has a text. It takes no memory.
-pub fn valid(f: &CFunction) -> bool
-    ensures { IsTrue result ↔ IsValid f.now }
+fn obeys_all(memory: Option<Global>, f: &CFunction) -> Result<bool, Memory>
+    ensures right { IfOk result (λ b. IsTrue b ↔ IsValid f.now) }
+    ensures without { memory ≡ None → IsOk result }
 {
     let first = Next {
         variable: f.params.len(),
@@ -351,5 +354,25 @@ pub fn valid(f: &CFunction) -> bool
         label: 1,
     };
     let next = number_body(f.callees.as_slice(), Some(first), f.body.as_slice());
-    header_fits(f) && body_fits(f, next)
+    if !header_fits(f) {
+        return Ok(false);
+    }
+    body_fits(memory, f, next)
+}
+
+/// Whether a tree is valid, so that it has a text. It takes no memory.
+pub fn valid(f: &CFunction) -> bool
+    ensures { IsTrue result ↔ IsValid f.now }
+{
+    match obeys_all(None, f) {
+        Ok(holds) => holds,
+        Err(_) => unreachable!(),
+    }
+}
+
+/// Whether a tree is valid, as `valid` says it. With memory for the case values of one switch, it compares no pairs of them.
+pub fn checked(alloc: Global, f: &CFunction) -> Result<bool, Memory>
+    ensures { IfOk result (λ b. IsTrue b ↔ IsValid f.now) }
+{
+    obeys_all(Some(alloc), f)
 }
