@@ -7,4 +7,6 @@ pub mod Distinct
 pub mod Switches
 pub mod Runs
 mod Sets
+pub mod Places
+mod Firsts
 pub mod Grows
