@@ -14,11 +14,11 @@ or_or : (a b c : Bool) → or a (or b c) ≡ or (or a b) c
 or_or true b c = refl
 or_or false b c = refl
 
-and_and : (a b c : Bool) → a && (b && c) ≡ (a && b) && c
+pub and_and : (a b c : Bool) → a && (b && c) ≡ (a && b) && c
 and_and true b c = refl
 and_and false b c = refl
 
-is_in_append : (x : ℕ) (xs ys : List ℕ) → is_in x (xs ++ ys) ≡ or (is_in x xs) (is_in x ys)
+pub is_in_append : (x : ℕ) (xs ys : List ℕ) → is_in x (xs ++ ys) ≡ or (is_in x xs) (is_in x ys)
 is_in_append x [] ys = refl
 is_in_append x (y ∷ xs) ys = ap (or (x == y)) (is_in_append x xs ys) ∙ or_or (x == y) (is_in x xs) (is_in x ys)
 

@@ -10,14 +10,7 @@ and_no : (b : Bool) → false ≡ b && false
 and_no true = refl
 and_no false = refl
 
--- names of two lengths aren't the same
-pub names_of_lengths : (a b : List ℕ) → length a ≢ length b → false ≡ same_name a b
-names_of_lengths [] [] differ = absurd (differ refl)
-names_of_lengths [] (d ∷ ds) differ = refl
-names_of_lengths (c ∷ cs) [] differ = refl
-names_of_lengths (c ∷ cs) (d ∷ ds) differ = and_no (c == d) ∙ ap (λ b. c == d && b) (names_of_lengths cs ds (λ same. differ (ap suc same)))
-
--- nor have as many expressions another number of widths
+-- as many expressions have no other number of widths
 pub args_of_lengths : (ws : ℕ → ℕ) (args : List Expr) (widths : List Width) → length args ≢ length widths → false ≡ have_widths ws args widths
 args_of_lengths ws [] [] differ = absurd (differ refl)
 args_of_lengths ws [] (w ∷ rest) differ = refl

@@ -6,4 +6,7 @@ pub mod Lengths
 pub mod Distinct
 pub mod Switches
 pub mod Runs
+mod Sets
+pub mod Places
+mod Firsts
 pub mod Grows

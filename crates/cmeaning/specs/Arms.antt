@@ -1,5 +1,7 @@
 -- The rules of arms, arm by arm.
-use Rattle.std.specs.Prelude.{ℕ, ◌&&◌, not, Bool, true, false, List, [], ◌∷◌, map}
+use Rattle.std.specs.Prelude.{◌≡◌, ℕ, ◌&&◌, not, Bool, true, false, List, [], ◌∷◌, ◌++◌, map}
+use Rattle.std.specs.Ordering.{nat_cmp}
+use Rattle.std.specs.BTreeSet.{BTreeSet, contains}
 use Rattle.pcode_model.specs.Spaces.{or}
 use Rattle.cmeaning.specs.declared.tree.Arm.{Arm}
 use Rattle.cmeaning.specs.declared.tree.CFunction.{CFunction}
@@ -28,3 +30,14 @@ arms_fit w (a ∷ rest) = are_words w a.cases && arms_fit w rest
 abbrev pub arms_right : CFunction → ℕ → List Arm → ℕ → Bool
 arms_right f labels [] room = true
 arms_right f labels (a ∷ rest) room = has_case a.cases && (all_hold false (map (rule_of f labels) a.body) false room && arms_right f labels rest room)
+
+-- ---- by a set
+
+-- a set has exactly the values of a list
+abbrev pub Holds : BTreeSet ℕ → List ℕ → Type 0
+Holds set known = (x : ℕ) → contains nat_cmp set x ≡ is_in x known
+
+-- the values are distinct, and none of them is known
+abbrev pub are_new : List ℕ → List ℕ → Bool
+are_new known [] = true
+are_new known (x ∷ xs) = not (is_in x known) && are_new (known ++ x ∷ []) xs

@@ -5,7 +5,9 @@ pub mod Step
 pub mod Agree
 pub mod Shape
 pub mod Mentions
+pub mod Places
 pub mod Valid
+pub mod Firsts
 pub mod Arms
 pub mod Examples
 pub mod Worked

@@ -1,8 +1,10 @@
 //! Whether the statements of a body obey the rules of a valid tree.
 
-ghost use Rattle.std.specs.Prelude.{◌≡◌, map, false, List, ℕ};
+ghost use Rattle.std.specs.Prelude.{◌≡◌, ◌&&◌, map, false, List, ℕ, None, IfOk, IsOk};
 ghost use Rattle.cmeaning.specs.declared.tree.CFunction.{CFunction as Function};
-ghost use Rattle.cmeaning.specs.Valid.{rule_of, all_hold};
+ghost use Rattle.cmeaning.specs.Do.{widths_in};
+ghost use Rattle.cmeaning.specs.Shape.{shape_of, is_condition};
+ghost use Rattle.cmeaning.specs.Valid.{rule_of, all_hold, are_cases_of, cases_of};
 ghost use Rattle.cmeaning.specs.Arms.{arms_right};
 
 use crate::cases::{cases_fit, is_named};
@@ -11,7 +13,9 @@ use crate::rules::{
     returns_right, store_fits,
 };
 use crate::shape::may_test;
-use crate::tree::{Arm, CFunction, Stmt};
+use crate::tree::{Arm, CFunction, Expr, Stmt};
+use bits_core::Memory;
+use std::alloc::Global;
 
 /// Whether an EXTRAOUT may stand directly after the statement.
 #[tactic(auto, unfolding(crate::specs::Valid::rule_of))]
@@ -26,112 +30,201 @@ fn takes_extra(s: &Stmt) -> bool
     }
 }
 
-/// Whether a statement obeys the rules, in a function whose next label would have the number `labels`, where so many
-/// levels of statements may stand inside it.
+/// What statements are held to.
+#[derive(Clone, Copy)]
+struct Rules<'f> {
+    /// The function that they stand in.
+    f: &'f CFunction,
+    /// The number that its next label would have.
+    labels: u64,
+    /// For sets of case values. Without it none is made, and none can be refused.
+    memory: Option<Global>,
+}
+
+/// Whether a statement obeys the rules, where so many levels of statements may stand inside it.
 #[cycle(body)]
 #[tactic(auto, unfolding(crate::specs::Valid::rule_of))]
 fn stmt_holds(
-    f: &CFunction,
-    labels: u64,
+    rules: Rules<'_>,
     s: &Stmt,
     after_call: bool,
     in_loop: bool,
     room: u32,
-) -> bool
-    ensures { result ≡ (rule_of f.now labels s.now).holds after_call in_loop room }
+) -> Result<bool, Memory>
+    ensures right { IfOk result (λ b. b ≡ (rule_of rules.entry.f.now rules.entry.labels s.now).holds after_call in_loop room) }
+    ensures without { rules.entry.memory ≡ None → IsOk result }
 {
     match s {
-        Stmt::Assign { target, value } => assigns(f, *target, value),
+        Stmt::Assign { target, value } => Ok(assigns(rules.f, *target, value)),
         Stmt::Load {
             target,
             space,
             address,
-        } => load_fits(f, *target, space, address),
+        } => Ok(load_fits(rules.f, *target, space, address)),
         Stmt::Store {
             space,
             address,
             value,
-        } => store_fits(f, space, address, value),
+        } => Ok(store_fits(rules.f, space, address, value)),
         Stmt::Call {
             target,
             callee,
             args,
-        } => call_fits(f, *target, *callee, args.as_slice()),
+        } => Ok(call_fits(rules.f, *target, *callee, args.as_slice())),
         Stmt::CallInd {
             target,
             callee,
             args,
-        } => call_ind_fits(f, *target, callee, args.as_slice()),
+        } => Ok(call_ind_fits(rules.f, *target, callee, args.as_slice())),
         Stmt::Other {
             target,
             index,
             args,
-        } => other_fits(f, *target, *index, args.as_slice()),
-        Stmt::Extra { target, offset } => extra_fits(f, *target, *offset, after_call),
+        } => Ok(other_fits(rules.f, *target, *index, args.as_slice())),
+        Stmt::Extra { target, offset } => {
+            Ok(extra_fits(rules.f, *target, *offset, after_call))
+        }
         Stmt::Divide {
             target,
             left,
             right,
             ..
-        } => divide_fits(f, *target, left, right),
+        } => Ok(divide_fits(rules.f, *target, left, right)),
         Stmt::If { condition, body } => {
-            may_test(f, condition) && body_holds(f, labels, body.as_slice(), in_loop, room)
+            tested_holds(rules, condition, body.as_slice(), in_loop, room)
         }
-        Stmt::IfElse { condition, yes, no } => {
-            may_test(f, condition)
-                && body_holds(f, labels, yes.as_slice(), in_loop, room)
-                && body_holds(f, labels, no.as_slice(), in_loop, room)
-        }
+        Stmt::IfElse { condition, yes, no } => branches_hold(
+            rules,
+            condition,
+            yes.as_slice(),
+            no.as_slice(),
+            in_loop,
+            room,
+        ),
         Stmt::While { condition, body } => {
-            may_test(f, condition) && body_holds(f, labels, body.as_slice(), true, room)
+            tested_holds(rules, condition, body.as_slice(), true, room)
         }
         Stmt::DoWhile { body, condition } => {
-            may_test(f, condition) && body_holds(f, labels, body.as_slice(), true, room)
+            tested_holds(rules, condition, body.as_slice(), true, room)
         }
-        Stmt::Loop { body } => body_holds(f, labels, body.as_slice(), true, room),
-        Stmt::Break => in_loop,
-        Stmt::Switch { value, arms } => {
-            cases_fit(f, value, arms.as_slice()) && arms_hold(f, labels, arms.as_slice(), room)
-        }
-        Stmt::Goto(n) => 0 < *n && u64::from(*n) < labels,
+        Stmt::Loop { body } => all_hold_in(rules, body.as_slice(), true, room),
+        Stmt::Break => Ok(in_loop),
+        Stmt::Switch { value, arms } => switch_holds(rules, value, arms.as_slice(), room),
+        Stmt::Goto(n) => Ok(0 < *n && u64::from(*n) < rules.labels),
         Stmt::Label(n) => {
             let _n = *n;
-            true
+            Ok(true)
         }
-        Stmt::Return(e) => returns_right(f, e),
+        Stmt::Return(e) => Ok(returns_right(rules.f, e)),
     }
+}
+
+/// Whether a condition and the statements under it obey the rules.
+#[cycle(body)]
+fn tested_holds(
+    rules: Rules<'_>,
+    condition: &Expr,
+    body: &[Stmt],
+    in_loop: bool,
+    room: u32,
+) -> Result<bool, Memory>
+    ensures right { IfOk result (λ b. b ≡ (is_condition (shape_of (widths_in rules.entry.f.now) condition.now) && all_hold false (map (rule_of rules.entry.f.now rules.entry.labels) body.now) in_loop room)) }
+    ensures without { rules.entry.memory ≡ None → IsOk result }
+{
+    if !may_test(rules.f, condition) {
+        return Ok(false);
+    }
+    all_hold_in(rules, body, in_loop, room)
+}
+
+#[cycle(body)]
+fn branches_hold(
+    rules: Rules<'_>,
+    condition: &Expr,
+    yes: &[Stmt],
+    no: &[Stmt],
+    in_loop: bool,
+    room: u32,
+) -> Result<bool, Memory>
+    ensures right { IfOk result (λ b. b ≡ (is_condition (shape_of (widths_in rules.entry.f.now) condition.now) && (all_hold false (map (rule_of rules.entry.f.now rules.entry.labels) yes.now) in_loop room && all_hold false (map (rule_of rules.entry.f.now rules.entry.labels) no.now) in_loop room))) }
+    ensures without { rules.entry.memory ≡ None → IsOk result }
+{
+    let first = tested_holds(rules, condition, yes, in_loop, room)?;
+    if !first {
+        return Ok(false);
+    }
+    all_hold_in(rules, no, in_loop, room)
+}
+
+#[cycle(body)]
+fn switch_holds(
+    rules: Rules<'_>,
+    value: &Expr,
+    arms: &[Arm],
+    room: u32,
+) -> Result<bool, Memory>
+    ensures right { IfOk result (λ b. b ≡ (are_cases_of (cases_of arms.now) (shape_of (widths_in rules.entry.f.now) value.now) && arms_right rules.entry.f.now rules.entry.labels arms.now room)) }
+    ensures without { rules.entry.memory ≡ None → IsOk result }
+{
+    let distinct = cases_fit(rules.memory, rules.f, value, arms)?;
+    if !distinct {
+        return Ok(false);
+    }
+    arms_hold(rules, arms, room)
 }
 
 /// Whether statements obey the rules, where so many levels of statements may stand.
 #[cycle(body)]
-pub(crate) fn body_holds(
-    f: &CFunction,
-    labels: u64,
+fn all_hold_in(
+    rules: Rules<'_>,
     body: &[Stmt],
     in_loop: bool,
     room: u32,
-) -> bool
-    ensures { result ≡ all_hold false (map (rule_of f.now labels) body.now) in_loop room }
+) -> Result<bool, Memory>
+    ensures right { IfOk result (λ b. b ≡ all_hold false (map (rule_of rules.entry.f.now rules.entry.labels) body.now) in_loop room) }
+    ensures without { rules.entry.memory ≡ None → IsOk result }
 {
     let mut after_call = false;
     for s in body {
-        if room == 0 || !stmt_holds(f, labels, s, after_call, in_loop, room - 1) {
-            return false;
+        if room == 0 {
+            return Ok(false);
+        }
+        let holds = stmt_holds(rules, s, after_call, in_loop, room - 1)?;
+        if !holds {
+            return Ok(false);
         }
         after_call = takes_extra(s);
     }
-    true
+    Ok(true)
 }
 
 #[cycle(body)]
-fn arms_hold(f: &CFunction, labels: u64, arms: &[Arm], room: u32) -> bool
-    ensures { result ≡ arms_right f.now labels arms.now room }
+fn arms_hold(rules: Rules<'_>, arms: &[Arm], room: u32) -> Result<bool, Memory>
+    ensures right { IfOk result (λ b. b ≡ arms_right rules.entry.f.now rules.entry.labels arms.now room) }
+    ensures without { rules.entry.memory ≡ None → IsOk result }
 {
     for arm in arms {
-        let named = is_named(arm.cases.as_slice());
-        if !named || !body_holds(f, labels, arm.body.as_slice(), false, room) {
-            return false;
+        if !is_named(arm.cases.as_slice()) {
+            return Ok(false);
+        }
+        let holds = all_hold_in(rules, arm.body.as_slice(), false, room)?;
+        if !holds {
+            return Ok(false);
         }
     }
-    true
+    Ok(true)
+}
+
+/// Whether the statements of a function's body obey the rules, where its next label would have the number `labels`.
+pub(crate) fn body_holds(
+    memory: Option<Global>,
+    f: &CFunction,
+    labels: u64,
+    body: &[Stmt],
+) -> Result<bool, Memory>
+    ensures right { IfOk result (λ b. b ≡ all_hold false (map (rule_of f.now labels) body.now) false 256) }
+    ensures without { memory ≡ None → IsOk result }
+{
+    let rules = Rules { f, labels, memory };
+    all_hold_in(rules, body, false, 256)
 }

@@ -1,14 +1,17 @@
 //! The case values of a switch.
 
-ghost use Rattle.std.specs.Prelude.{◌≡◌, nat_lt};
+ghost use Rattle.std.specs.Prelude.{◌≡◌, ◌++◌, List, ℕ, None, nat_lt, IsTrue, IfOk, IsOk};
 ghost use Rattle.bits_core.specs.Value.{limit};
 ghost use Rattle.cmeaning.specs.Do.{widths_in};
 ghost use Rattle.cmeaning.specs.Shape.{shape_of};
 ghost use Rattle.cmeaning.specs.Valid.{has_case, is_in, are_words, are_cases_of, cases_of};
-ghost use Rattle.cmeaning.specs.Arms.{is_case, differ_from, arms_differ, arms_fit};
+ghost use Rattle.cmeaning.specs.Arms.{is_case, differ_from, arms_differ, arms_fit, are_new, Holds};
 
 use crate::shape::expr_shape;
 use crate::tree::{Arm, CFunction, Expr};
+use bits_core::Memory;
+use std::alloc::Global;
+use std::collections::BTreeSet;
 
 /// Whether an arm has a case value.
 pub(crate) fn is_named(values: &[u128]) -> bool
@@ -65,6 +68,44 @@ fn all_differ(arms: &[Arm]) -> bool
     true
 }
 
+/// Puts values in a set, up to one that it has.
+fn add_new(seen: &mut BTreeSet<u128>, values: &[u128]) -> Result<bool, Memory>
+    ensures { (known : List ℕ) → Holds seen.old known → IfOk result (λ b. (b ≡ are_new known values.now) × (IsTrue b → Holds seen.new (known ++ values.now))) }
+{
+    for x in values {
+        match seen.insert(*x) {
+            Ok(true) => {}
+            Ok(false) => return Ok(false),
+            Err(_) => return Err(Memory),
+        }
+    }
+    Ok(true)
+}
+
+/// The same as `all_differ`, by a set.
+fn all_new(alloc: Global, arms: &[Arm]) -> Result<bool, Memory>
+    ensures { IfOk result (λ b. b ≡ arms_differ arms.now) }
+{
+    let mut seen = BTreeSet::new(alloc);
+    for arm in arms {
+        let added = add_new(&mut seen, arm.cases.as_slice())?;
+        if !added {
+            return Ok(false);
+        }
+    }
+    Ok(true)
+}
+
+fn distinct(memory: Option<Global>, arms: &[Arm]) -> Result<bool, Memory>
+    ensures right { IfOk result (λ b. b ≡ arms_differ arms.now) }
+    ensures without { memory ≡ None → IsOk result }
+{
+    match memory {
+        None => Ok(all_differ(arms)),
+        Some(alloc) => all_new(alloc, arms),
+    }
+}
+
 #[tactic(auto, using(crate::proofs::Distinct::wide_fits))]
 fn fits(width: u8, x: u128) -> bool
     ensures { result ≡ nat_lt x (limit width) }
@@ -97,13 +138,23 @@ fn all_fit(width: u8, arms: &[Arm]) -> bool
     true
 }
 
-/// Whether the case values of the arms are distinct words of the switch's value.
+/// Whether the case values of the arms are distinct words of the switch's value. They are compared by a set where there is
+/// memory for one, else in pairs.
 #[tactic(auto, using(crate::proofs::Distinct::distinct_by_arms, crate::proofs::Distinct::words_by_arms))]
-pub(crate) fn cases_fit(f: &CFunction, value: &Expr, arms: &[Arm]) -> bool
-    ensures { result ≡ are_cases_of (cases_of arms.now) (shape_of (widths_in f.now) value.now) }
+pub(crate) fn cases_fit(
+    memory: Option<Global>,
+    f: &CFunction,
+    value: &Expr,
+    arms: &[Arm],
+) -> Result<bool, Memory>
+    ensures right { IfOk result (λ b. b ≡ are_cases_of (cases_of arms.now) (shape_of (widths_in f.now) value.now)) }
+    ensures without { memory ≡ None → IsOk result }
 {
     match expr_shape(f, value) {
-        None => false,
-        Some(s) => all_differ(arms) && all_fit(s.width, arms),
+        None => Ok(false),
+        Some(s) => {
+            let differ = distinct(memory, arms)?;
+            Ok(differ && all_fit(s.width, arms))
+        }
     }
 }

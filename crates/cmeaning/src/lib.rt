@@ -2,6 +2,7 @@
 #![tactic(auto)]
 
 mod body;
+mod callees;
 mod cases;
 pub mod numbering;
 mod rules;
@@ -9,11 +10,12 @@ pub mod shape;
 pub mod tree;
 pub mod worked;
 
+pub use callees::CalleeDecls;
 pub use numbering::Next;
-pub use rules::{has_name_form, valid};
+pub use rules::{checked, has_name_form, valid};
 pub use shape::Shape;
 pub use tree::{
-    ArithmeticOp, Arm, Arms, Body, CFunction, CName, CalleeDecl, CalleeDecls, CompareOp, CountOp,
+    ArithmeticOp, Arm, Arms, Body, CFunction, CName, CalleeDecl, CompareOp, CountOp,
     DivisionOp, Expr, Exprs, ExtendOp, Local, Locals, OverflowOp, Param, Params, ShiftOp,
     SignedCompareOp, SignedDivisionOp, StatementDivision, Stmt, UnaryOp, Values, Widths,
 };

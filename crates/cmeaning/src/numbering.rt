@@ -1,9 +1,11 @@
 //! How a body numbers variables, callees and labels: by first appearance in the order of its text.
 
-ghost use Rattle.std.specs.Prelude.{◌≡◌, ◌<◌, ◌≤◌, ◌^◌, length, map, List, Option, Some, None};
-ghost use Rattle.cmeaning.specs.Mentions.{place_of as place_in, with_variable, with_callee, with_label, met as met_by, met_once, mentioned, numbered, in_expr, in_exprs, in_option, in_target, in_stmt, in_body, in_arm, in_arms, Variable, Callee, LabelLine};
+ghost use Rattle.std.specs.Prelude.{◌≡◌, ◌<◌, ◌^◌, map, List, Option, Some, None};
+ghost use Rattle.cmeaning.specs.declared.tree.CalleeDecl.{CalleeDecl};
+ghost use Rattle.cmeaning.specs.Mentions.{with_variable, with_callee, with_label, met as met_by, met_once, mentioned, numbered, in_expr, in_exprs, in_option, in_target, in_stmt, in_body, in_arm, in_arms, Variable, Callee, LabelLine};
 
-use crate::tree::{Arm, CalleeDecl, Expr, Stmt};
+use crate::callees::CalleeDecls;
+use crate::tree::{Arm, Expr, Stmt};
 
 /// The numbers that come next.
 #[derive(Clone, Copy, Debug, PartialEq, Eq)]
@@ -14,21 +16,6 @@ pub struct Next {
     pub callee: usize,
     /// Labels are numbered from 1.
     pub label: u64,
-}
-
-/// How many callees are listed before that of an address.
-fn place_of(callees: &[CalleeDecl], address: u64) -> usize
-    ensures value { result ≡ place_in callees.now address }
-    ensures within { result ≤ length callees.now }
-{
-    let mut place = 0;
-    while place < callees.len() {
-        if callees[place].address == address {
-            return place;
-        }
-        place += 1;
-    }
-    place
 }
 
 /// The next number after `x` is met.
@@ -62,11 +49,11 @@ fn meet_target(next: Option<Next>, v: Option<u32>) -> Option<Next>
     }
 }
 
-fn meet_callee(callees: &[CalleeDecl], next: Option<Next>, address: u64) -> Option<Next>
+fn meet_callee(callees: &CalleeDecls, next: Option<Next>, address: u64) -> Option<Next>
     ensures { result ≡ mentioned callees.now next (Callee address) }
 {
     let next = next?;
-    let callee = met(next.callee, place_of(callees, address))?;
+    let callee = met(next.callee, callees.place(address))?;
     Some(Next { callee, ..next })
 }
 
@@ -84,7 +71,7 @@ fn meet_label(next: Option<Next>, n: u32) -> Option<Next>
 }
 
 #[tactic(auto, unfolding(crate::specs::Mentions::in_expr), using(crate::proofs::Mentions::numbered_arithmetic, crate::proofs::Mentions::numbered_division, crate::proofs::Mentions::numbered_signed_division, crate::proofs::Mentions::numbered_shift, crate::proofs::Mentions::numbered_compare, crate::proofs::Mentions::numbered_signed_compare, crate::proofs::Mentions::numbered_concat, crate::proofs::Mentions::numbered_overflow))]
-fn number_expr(callees: &[CalleeDecl], next: Option<Next>, e: &Expr) -> Option<Next>
+fn number_expr(callees: &CalleeDecls, next: Option<Next>, e: &Expr) -> Option<Next>
     ensures { result ≡ numbered callees.now (in_expr e.now) next }
 {
     match e {
@@ -115,7 +102,7 @@ fn number_expr(callees: &[CalleeDecl], next: Option<Next>, e: &Expr) -> Option<N
     }
 }
 
-fn number_exprs(callees: &[CalleeDecl], next: Option<Next>, es: &[Expr]) -> Option<Next>
+fn number_exprs(callees: &CalleeDecls, next: Option<Next>, es: &[Expr]) -> Option<Next>
     ensures { result ≡ numbered callees.now (in_exprs es.now) next }
 {
     let mut next = next;
@@ -125,7 +112,7 @@ fn number_exprs(callees: &[CalleeDecl], next: Option<Next>, es: &[Expr]) -> Opti
     next
 }
 
-fn number_option(callees: &[CalleeDecl], next: Option<Next>, e: &Option<Expr>) -> Option<Next>
+fn number_option(callees: &CalleeDecls, next: Option<Next>, e: &Option<Expr>) -> Option<Next>
     ensures { result ≡ numbered callees.now (in_option e.now) next }
 {
     match e {
@@ -136,7 +123,7 @@ fn number_option(callees: &[CalleeDecl], next: Option<Next>, e: &Option<Expr>) -
 
 #[cycle(numbering)]
 #[tactic(auto, unfolding(crate::specs::Mentions::in_stmt, crate::specs::Mentions::in_arm), using(crate::proofs::Mentions::numbered_assign, crate::proofs::Mentions::numbered_load, crate::proofs::Mentions::numbered_store, crate::proofs::Mentions::numbered_call, crate::proofs::Mentions::numbered_call_ind, crate::proofs::Mentions::numbered_other, crate::proofs::Mentions::numbered_divide, crate::proofs::Mentions::numbered_if, crate::proofs::Mentions::numbered_if_else, crate::proofs::Mentions::numbered_while, crate::proofs::Mentions::numbered_do_while, crate::proofs::Mentions::numbered_switch))]
-fn number_stmt(callees: &[CalleeDecl], next: Option<Next>, s: &Stmt) -> Option<Next>
+fn number_stmt(callees: &CalleeDecls, next: Option<Next>, s: &Stmt) -> Option<Next>
     ensures { result ≡ numbered callees.now (in_stmt s.now) next }
 {
     match s {
@@ -220,7 +207,7 @@ fn number_stmt(callees: &[CalleeDecl], next: Option<Next>, s: &Stmt) -> Option<N
 
 /// The next numbers after a body.
 #[cycle(numbering)]
-pub(crate) fn number_body(callees: &[CalleeDecl], next: Option<Next>, body: &[Stmt]) -> Option<Next>
+pub(crate) fn number_body(callees: &CalleeDecls, next: Option<Next>, body: &[Stmt]) -> Option<Next>
     ensures { result ≡ numbered callees.now (in_body body.now) next }
 {
     let mut next = next;
@@ -231,7 +218,7 @@ pub(crate) fn number_body(callees: &[CalleeDecl], next: Option<Next>, body: &[St
 }
 
 #[cycle(numbering)]
-fn number_arms(callees: &[CalleeDecl], next: Option<Next>, arms: &[Arm]) -> Option<Next>
+fn number_arms(callees: &CalleeDecls, next: Option<Next>, arms: &[Arm]) -> Option<Next>
     ensures { result ≡ numbered callees.now (in_arms arms.now) next }
 {
     let mut next = next;

@@ -1,17 +1,20 @@
 //! The rules of a valid tree, but for those of expressions, case values and bodies.
 
-ghost use Rattle.std.specs.Prelude.{◌≡◌, ◌==◌, ◌++◌, ◌&&◌, ◌<◌, ◌^◌, ◌↔◌, IsTrue, List, length, map, nat_le, nat_lt, not, true, false};
+ghost use Rattle.std.specs.Prelude.{◌≡◌, ◌==◌, ◌++◌, ◌&&◌, ◌<◌, ◌^◌, ◌↔◌, IsTrue, List, length, map, nat_le, nat_lt, not, true, false, None, IfOk, IsOk};
 ghost use Rattle.cmeaning.specs.declared.tree.CFunction.{CFunction as Function};
-ghost use Rattle.cmeaning.specs.Do.{same_name as is_same_name, widths_in};
+ghost use Rattle.cmeaning.specs.Do.{widths_in};
 ghost use Rattle.cmeaning.specs.Shape.{shape_of, is_right, has_width as is_wide, is_condition};
-ghost use Rattle.cmeaning.specs.Valid.{is_letter, is_letter_or_digit, all_letters_or_digits, begins_well, is_name, is_storage, is_before, is_either_before, may_precede, precedes_all, are_params, is_callee_name, result_fits, same_callee_name, are_apart, is_apart_from, is_callee, are_callees, declared_in, is_variable, is_target, is_space, are_right, have_widths, takes, is_call, is_assigned, is_returned, is_long, is_complete, IsValid};
+ghost use Rattle.cmeaning.specs.Firsts.{are_firsts};
+ghost use Rattle.cmeaning.specs.Valid.{is_letter, is_letter_or_digit, all_letters_or_digits, begins_well, is_name, is_storage, is_before, is_either_before, may_precede, precedes_all, are_params, is_callee_name, result_fits, is_callee, are_callees, declared_in, is_variable, is_target, is_space, are_right, have_widths, takes, is_call, is_assigned, is_returned, is_long, is_complete, IsValid};
 
 use crate::body::body_holds;
+use crate::callees::CalleeDecls;
 use crate::numbering::{Next, number_body};
 use crate::shape::{has_width, obeys, variable_width};
 use crate::tree::{CFunction, CName, CalleeDecl, Expr, Param};
-use bits_core::Width;
+use bits_core::{Memory, Width};
 use pcode_model::{Name, ParamStorage};
+use std::alloc::Global;
 
 // ---- names
 
@@ -52,21 +55,6 @@ pub fn has_name_form(name: &[u8]) -> bool
     ensures { result ≡ is_name name.now }
 {
     starts_well(name) && letters_or_digits(name) && name.len() <= 64
-}
-
-#[tactic(auto, using(crate::proofs::Lengths::names_of_lengths))]
-fn same_name(a: &[u8], b: &[u8]) -> bool
-    ensures { result ≡ is_same_name a.now b.now }
-{
-    if a.len() != b.len() {
-        return false;
-    }
-    for i in 0..a.len() {
-        if a[i] != b[i] {
-            return false;
-        }
-    }
-    true
 }
 
 // ---- parameters
@@ -143,32 +131,6 @@ fn callee_name_fits(name: &CName) -> bool
     }
 }
 
-fn callee_names_agree(a: &CName, b: &CName) -> bool
-    ensures { result ≡ same_callee_name a.now b.now }
-{
-    match (a, b) {
-        (CName::Declared(a), CName::Declared(b)) => same_name(a.as_slice(), b.as_slice()),
-        _ => false,
-    }
-}
-
-fn apart(c: &CalleeDecl, d: &CalleeDecl) -> bool
-    ensures { result ≡ are_apart c.now d.now }
-{
-    c.address != d.address && !callee_names_agree(&c.name, &d.name)
-}
-
-fn apart_from_each(c: &CalleeDecl, callees: &[CalleeDecl]) -> bool
-    ensures { result ≡ is_apart_from c.now callees.now }
-{
-    for d in callees {
-        if !apart(c, d) {
-            return false;
-        }
-    }
-    true
-}
-
 fn callee_fits(c: &CalleeDecl) -> bool
     ensures { result ≡ is_callee c.now }
 {
@@ -176,15 +138,24 @@ fn callee_fits(c: &CalleeDecl) -> bool
     callee_name_fits(&c.name) && (c.returns || c.gives.is_none())
 }
 
-fn callees_fit(callees: &[CalleeDecl]) -> bool
-    ensures { result ≡ are_callees callees.now }
+/// Whether each is right, and the first of its address and of its name.
+fn firsts_fit(callees: &CalleeDecls) -> bool
+    ensures { result ≡ are_firsts callees.now 0 callees.now }
 {
-    for i in 0..callees.len() {
-        if !callee_fits(&callees[i]) || !apart_from_each(&callees[i], &callees[i + 1..]) {
+    let listed = callees.as_slice();
+    for i in 0..listed.len() {
+        if !callee_fits(&listed[i]) || !callees.is_first(i, &listed[i]) {
             return false;
         }
     }
     true
+}
+
+#[tactic(auto, using(crate::proofs::Firsts::callees_by_firsts))]
+fn callees_fit(callees: &CalleeDecls) -> bool
+    ensures { result ≡ are_callees callees.now }
+{
+    firsts_fit(callees)
 }
 
 // ---- the parts of statements
@@ -254,13 +225,10 @@ fn result_taken(f: &CFunction, v: Option<u32>, gives: Option<Width>) -> bool
 pub(crate) fn call_fits(f: &CFunction, v: Option<u32>, callee: u64, args: &[Expr]) -> bool
     ensures { result ≡ is_call (widths_in f.now) v args.now (declared_in f.now.callees callee) }
 {
-    let callees = f.callees.as_slice();
-    for c in callees {
-        if c.address == callee {
-            return args_fit(f, args, c.args.as_slice()) && result_taken(f, v, c.gives);
-        }
+    match f.callees.declared(callee) {
+        Some(c) => args_fit(f, args, c.args.as_slice()) && result_taken(f, v, c.gives),
+        None => false,
     }
-    false
 }
 
 pub(crate) fn assigns(f: &CFunction, v: u32, e: &Expr) -> bool
@@ -324,32 +292,54 @@ fn header_fits(f: &CFunction) -> bool
 {
     has_name_form(f.name.as_slice())
         && params_fit(f.params.as_slice())
-        && callees_fit(f.callees.as_slice())
+        && callees_fit(&f.callees)
 }
 
-fn body_fits(f: &CFunction, next: Option<Next>) -> bool
-    ensures { result ≡ is_complete f.now next }
+fn body_fits(memory: Option<Global>, f: &CFunction, next: Option<Next>) -> Result<bool, Memory>
+    ensures right { IfOk result (λ b. b ≡ is_complete f.now next) }
+    ensures without { memory ≡ None → IsOk result }
 {
     match next {
-        None => false,
+        None => Ok(false),
         Some(n) => {
             let variables = f.params.as_slice().len() + f.locals.as_slice().len();
-            n.variable == variables
-                && n.callee == f.callees.len()
-                && body_holds(f, n.label, f.body.as_slice(), false, 256)
+            if n.variable != variables || n.callee != f.callees.len() {
+                return Ok(false);
+            }
+            body_holds(memory, f, n.label, f.body.as_slice())
         }
     }
 }
 
-/// Whether a tree is valid, so that it has a text. It takes no memory.
-pub fn valid(f: &CFunction) -> bool
-    ensures { IsTrue result ↔ IsValid f.now }
+fn obeys_all(memory: Option<Global>, f: &CFunction) -> Result<bool, Memory>
+    ensures right { IfOk result (λ b. IsTrue b ↔ IsValid f.now) }
+    ensures without { memory ≡ None → IsOk result }
 {
     let first = Next {
         variable: f.params.len(),
         callee: 0,
         label: 1,
     };
-    let next = number_body(f.callees.as_slice(), Some(first), f.body.as_slice());
-    header_fits(f) && body_fits(f, next)
+    let next = number_body(&f.callees, Some(first), f.body.as_slice());
+    if !header_fits(f) {
+        return Ok(false);
+    }
+    body_fits(memory, f, next)
+}
+
+/// Whether a tree is valid, so that it has a text. It takes no memory.
+pub fn valid(f: &CFunction) -> bool
+    ensures { IsTrue result ↔ IsValid f.now }
+{
+    match obeys_all(None, f) {
+        Ok(holds) => holds,
+        Err(_) => unreachable!(),
+    }
+}
+
+/// Whether a tree is valid, as `valid` says it. With memory for the case values of one switch, it compares no pairs of them.
+pub fn checked(alloc: Global, f: &CFunction) -> Result<bool, Memory>
+    ensures { IfOk result (λ b. IsTrue b ↔ IsValid f.now) }
+{
+    obeys_all(Some(alloc), f)
 }

@@ -2,6 +2,7 @@
 //!
 //! A variable is named by its number: the parameters first, then the locals. Widths are in bytes.
 
+use crate::callees::CalleeDecls;
 use bits_core::{Width, Word};
 use pcode_model::{Name, ParamStorage};
 use sqlite_items::{Boxed, Items};
@@ -19,8 +20,6 @@ pub type Widths = Items<Width>;
 pub type Params = Items<Param>;
 
 pub type Locals = Items<Local>;
-
-pub type CalleeDecls = Items<CalleeDecl>;
 
 #[derive(Clone, Copy, Debug, PartialEq, Eq)]
 pub enum UnaryOp {

@@ -85,11 +85,6 @@ store_right sc space w a e small fits x y = access_right sc None (s.Store space 
 
 -- ---- names of callees
 
--- the declaration of an address is the same in both crates
-pub declared_is : (cs : List CalleeDecl) (address : ℕ) → declared_in cs address ≡ callee_at cs address
-declared_is [] address = refl
-declared_is (c ∷ cs) address = ap (λ (o : Option CalleeDecl). cond (eqb c.address address) (Some c) o) (declared_is cs address)
-
 same_rest : (w b : ℕ) (ws bs : List ℕ) → eqb w b ≡ true → is_whole (after (w ∷ ws) (b ∷ bs)) ≡ true → is_whole (after ws bs) ≡ true
 unfolding after
 same_rest w b ws bs is h = rw is at h
@@ -98,12 +93,12 @@ other_rest : (w b : ℕ) (ws bs : List ℕ) → eqb w b ≡ false → is_whole (
 unfolding after
 other_rest w b ws bs is h = rw is at h
 
-whole_self : (n : List ℕ) → is_whole (after n n) ≡ true
+pub whole_self : (n : List ℕ) → is_whole (after n n) ≡ true
 unfolding after
 whole_self [] = refl
 whole_self (w ∷ ws) = let same : eqb w w ≡ true = grind arith in rw same (whole_self ws)
 
-whole_is : (n name : List ℕ) → is_whole (after n name) ≡ true → n ≡ name
+pub whole_is : (n name : List ℕ) → is_whole (after n name) ≡ true → n ≡ name
 unfolding after
 whole_is [] [] h = refl
 whole_is [] (x ∷ xs) h = absurd cc

@@ -27,7 +27,8 @@ use Rattle.cread.proofs.Fronts.{and_both, decimal_again, AllSpaces}
 use Rattle.cread.proofs.Naming.{Named, space}
 use Rattle.cread.proofs.Law.{Context, reads}
 use Rattle.cread.proofs.Parts.{Written, written, written_right, written_width, written_test, value_again, all_right, all_wide, LineAt, target_line, IsNamed, RightText, behind_target, right_line, alone_line, target_named, variable_is_named}
-use Rattle.cread.proofs.Calls.{declared_is, load_right, store_right, call_right, indirect_right, other_right, extra_right, divide_right}
+use Rattle.ctext.proofs.Callees.{declared_is}
+use Rattle.cread.proofs.Calls.{load_right, store_right, call_right, indirect_right, other_right, extra_right, divide_right}
 use Rattle.cread.proofs.Bodies.{Setting, LineOk, AllOk, worded, if_line, else_line, while_line, loop_line, do_line}
 use Rattle.cread.proofs.Switches.{ArmOk, AllArmsOk, switch_line}
 

@@ -14,3 +14,4 @@ pub mod Rows
 pub mod Switches
 pub mod Whole
 pub mod Widths
+mod Named

@@ -163,7 +163,7 @@ fn callees(alloc: Global, bytes: &[u8]) -> Result<(CalleeDecls, &[u8]), CFault>
     for _ in 0..bytes.len() {
         match callee(alloc, rest) {
             Ok((c, more)) => {
-                found.push(c)?;
+                found = found.with(alloc, c)?;
                 rest = more;
             }
             Err(CFault::NotC) => return Ok((found, rest)),

@@ -3,13 +3,13 @@
 ghost use Rattle.std.specs.Prelude.{◌≡◌, ◌<◌, ◌%◌, ◌^◌, length, IfSome};
 ghost use Rattle.std.specs.Option.{option_map};
 ghost use Rattle.ctext.specs.Names.{scope_of};
-ghost use Rattle.cread.specs.Words.{after, decimal_at};
-ghost use Rattle.cread.specs.Names.{width_by, word_by, typed, type_at, below_at, stack_at, storage_at, entry_by, entry_at, same_flag, same_storage as equal_storage, is_entry, place_of, small, local_by, param_by, variable_at, is_whole, is_named, address_of as address_in};
+ghost use Rattle.cread.specs.Words.{decimal_at};
+ghost use Rattle.cread.specs.Names.{width_by, word_by, typed, type_at, below_at, stack_at, storage_at, entry_by, entry_at, same_flag, same_storage as equal_storage, is_entry, place_of, small, local_by, param_by, variable_at, address_of as address_in};
 
 use crate::item::Entry;
 use crate::words::{decimal, hex, skip};
 use bits_core::{Width, Word};
-use cmeaning::{CFunction, CName, CalleeDecl, Local, Param};
+use cmeaning::{CFunction, CalleeDecls, Local, Param};
 use pcode_model::ParamStorage;
 
 /// The width of so many bytes, or the nearest one.
@@ -198,32 +198,12 @@ pub fn variable<'b>(f: &CFunction, bytes: &'b [u8]) -> Option<(u32, &'b [u8])>
 
 // ---- callees
 
-fn is_whole_name(name: &[u8], text: &[u8]) -> bool
-    ensures { result ≡ is_whole (after text.now name.now) }
-{
-    match skip(text, name) {
-        Some(rest) => rest.is_empty(),
-        None => false,
-    }
-}
-
-fn has_name(name: &[u8], c: &CName) -> bool
-    ensures { result ≡ is_named name.now c.now }
-{
-    match c {
-        CName::Declared(text) => is_whole_name(name, text.as_slice()),
-        CName::Bare => false,
-    }
-}
-
 /// The address of the first callee with a name.
-pub fn address_of(name: &[u8], callees: &[CalleeDecl]) -> Option<u64>
+pub fn address_of(name: &[u8], callees: &CalleeDecls) -> Option<u64>
     ensures { result ≡ address_in name.now callees.now }
 {
-    for c in callees {
-        if has_name(name, &c.name) {
-            return Some(c.address);
-        }
+    match callees.named(name) {
+        Some(c) => Some(c.address),
+        None => None,
     }
-    None
 }

@@ -9,7 +9,7 @@ ghost use Rattle.cread.specs.Answer.{IsTreeOf, IsAnswered};
 use crate::functions::function;
 use crate::item::CFault;
 use bits_core::Memory;
-use cmeaning::{CFunction, valid};
+use cmeaning::{CFunction, checked};
 use ctext::print_c;
 use std::alloc::Global;
 
@@ -29,7 +29,8 @@ pub fn read_c(alloc: Global, bytes: &[u8]) -> Result<CFunction, CFault>
     ensures only { (f : Function) → IsTreeOf bytes.now f → IsAnswered f result }
 {
     let f = function(alloc, bytes)?;
-    if !valid(&f) {
+    let right = checked(alloc, &f)?;
+    if !right {
         return Err(CFault::NotC);
     }
     let same = has_text(alloc, &f, bytes)?;

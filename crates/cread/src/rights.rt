@@ -223,7 +223,7 @@ fn named<'b>(
     ensures { Gives (λ x. (x.0, x.1.now)) result (named_call (scope_of f.now) target bytes.now) }
 {
     let (name, rest) = name(bytes);
-    match address_of(name, f.callees.as_slice()) {
+    match address_of(name, &f.callees) {
         Some(address) => call(alloc, f, target, address, rest),
         None => Err(CFault::NotC),
     }

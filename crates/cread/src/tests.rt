@@ -78,3 +78,51 @@ fn depths(rt: HostRuntime) -> Result<(), Fail> {
     }
     Ok(())
 }
+
+// A line with a number in the middle.
+fn put_line(rt: &HostRuntime, text: &mut Vec<u8>, front: &[u8], n: u32, back: &[u8]) -> Result<(), Fail> {
+    let digits = n.to_string(rt.alloc())?;
+    text.extend_from_slice(front)?;
+    text.extend_from_slice(digits.as_bytes())?;
+    text.extend_from_slice(back)?;
+    Ok(())
+}
+
+// A switch with so many arms and one more, with the case value `last`.
+fn cases(rt: &HostRuntime, count: u32, last: u32) -> Result<Vec<u8>, Fail> {
+    let mut text = Vec::new(rt.alloc());
+    text.extend_from_slice(b"void f_f(u64 p_register_0)\n{\n  switch (p_register_0) {\n")?;
+    for n in 0..count {
+        put_line(rt, &mut text, b"  case 0x", n, b":\n    break;\n")?;
+    }
+    put_line(rt, &mut text, b"  case 0x", last, b":\n    break;\n")?;
+    text.extend_from_slice(b"  }\n  return;\n}\n")?;
+    Ok(text)
+}
+
+// So many callees and one more, with the address `last`, each of them called.
+fn calls(rt: &HostRuntime, count: u32, last: u32) -> Result<Vec<u8>, Fail> {
+    let mut text = Vec::new(rt.alloc());
+    for n in 0..count {
+        put_line(rt, &mut text, b"void f_c", n, b"(void); // 0x")?;
+        put_line(rt, &mut text, b"", n, b"\n")?;
+    }
+    put_line(rt, &mut text, b"void f_last(void); // 0x", last, b"\n")?;
+    text.extend_from_slice(b"void f_f(void)\n{\n")?;
+    for n in 0..count {
+        put_line(rt, &mut text, b"  f_c", n, b"();\n")?;
+    }
+    text.extend_from_slice(b"  f_last();\n  return;\n}\n")?;
+    Ok(text)
+}
+
+#[test]
+fn many_cases_and_callees(rt: HostRuntime) -> Result<(), Fail> {
+    for (last, good) in [(2000, true), (1999, false), (0, false)] {
+        let text = cases(&rt, 2000, last)?;
+        assert_eq!(rt; is_c(&rt, text.as_slice())?, good, "case {last}");
+        let text = calls(&rt, 2000, last)?;
+        assert_eq!(rt; is_c(&rt, text.as_slice())?, good, "address {last}");
+    }
+    Ok(())
+}

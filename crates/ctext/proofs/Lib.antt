@@ -1,3 +1,4 @@
+pub mod Callees
 pub mod Hexadecimal
 pub mod Nested
 pub mod Shown

@@ -5,7 +5,7 @@ ghost use Rattle.ctext.specs.Names.{type_text, unsigned_type, result_type, param
 
 use crate::digits::{put, put_decimal, put_hex};
 use bits_core::{Memory, Width};
-use cmeaning::{CFunction, CName, CalleeDecl, Local, Param};
+use cmeaning::{CFunction, CName, CalleeDecl, CalleeDecls, Local, Param};
 use pcode_model::ParamStorage;
 use std::alloc::Global;
 
@@ -134,22 +134,18 @@ pub fn put_variable(alloc: Global, out: &mut Vec<u8>, f: &CFunction, n: u32) -> 
 }
 
 /// The first of the callees with an address.
-pub fn find_callee(callees: &[CalleeDecl], address: u64) -> Option<&CalleeDecl>
+#[tactic(auto, using(crate::proofs::Callees::declared_is))]
+pub fn find_callee(callees: &CalleeDecls, address: u64) -> Option<&CalleeDecl>
     ensures { option_copied result ≡ callee_at callees.now address }
 {
-    for c in callees {
-        if c.address == address {
-            return Some(c);
-        }
-    }
-    None
+    callees.declared(address)
 }
 
 /// Whether a call of the callee with this address goes on.
 pub fn call_goes_on(f: &CFunction, address: u64) -> bool
     ensures { result ≡ goes_on (callee_at f.now.callees address) }
 {
-    match find_callee(f.callees.as_slice(), address) {
+    match find_callee(&f.callees, address) {
         Some(c) => c.returns,
         None => true,
     }
@@ -159,7 +155,7 @@ pub fn call_goes_on(f: &CFunction, address: u64) -> bool
 pub fn put_name_at(out: &mut Vec<u8>, f: &CFunction, address: u64) -> Result<(), Memory>
     ensures { OnOk result (out.new.items ≡ out.old.items ++ name_at (callee_at f.now.callees address)) }
 {
-    match find_callee(f.callees.as_slice(), address) {
+    match find_callee(&f.callees, address) {
         Some(c) => put_callee_name(out, &c.name, c.address),
         None => Ok(()),
     }

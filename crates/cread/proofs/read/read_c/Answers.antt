@@ -11,10 +11,10 @@ returns-in_err-f-clause-only c = λ f tree.
     let g = not_failed c.in_err-f.field-0.0 f c.args.bytes.now tree.valid tree.text (c.in_err-f.ensures {u = tt}) in
     rw (p.1, p.2) g
 
-pub returns-then-not-valid-clause-only : goal.returns-then-not-valid-clause-only
-returns-then-not-valid-clause-only c = λ f tree.
+pub returns-then-not-right-clause-only : goal.returns-then-not-right-clause-only
+returns-then-not-right-clause-only c = λ f tree.
     let same = read_is f c.in_ok-f.f c.args.bytes.now tree.valid tree.text (c.in_ok-f.ensures {u = tt}) in
-    absurd (not_true c.valid.result c.if-not-valid.true (c.valid.ensures.1 (subst IsValid (sym same) tree.valid)))
+    absurd (not_true c.in_ok-right.right c.if-not-right.true ((c.in_ok-right.ensures {u = tt}).1 (subst IsValid (sym same) tree.valid)))
 
 pub returns-then-not-same-clause-only : goal.returns-then-not-same-clause-only
 returns-then-not-same-clause-only c = λ f tree.
