@@ -124,8 +124,14 @@ at 0x1010 1
 end
 ";
 
+const FILLED: &[u8] = b"p store ram:0xffffffffffffffff ab
+p store ram:0x0 ab
+p store ram:0x1 ab
+p returned 0x0
+";
+
 // A byte of the register space.
-const fn register(offset: u64, value: u8) -> Byte {
+fn register(offset: u64, value: u8) -> Byte {
     Byte {
         space: 2,
         offset,
@@ -164,15 +170,16 @@ fn answers(alloc: Global, callee: Callee) -> Result<Answers, AllocError> {
     Ok(answers)
 }
 
-// The text of what a run has shown.
-fn shown(
+// The run of a text from an entry with these bytes shows so much.
+fn shows(
     rt: &impl Abort,
     alloc: Global,
     text: &[u8],
     state: &[Byte],
     callee: Callee,
     n: u32,
-) -> Result<Vec<u8>, Fail> {
+    want: &[u8],
+) -> Result<(), Fail> {
     assert!(rt; text.len() < 0xffff);
     let listing = read_listing(alloc, text)?;
     let entry = Entry {
@@ -183,94 +190,120 @@ fn shown(
     let trace = run_listing(alloc, &listing, &Frame::empty(alloc), &entry, n)?;
     let mut out = Vec::new(alloc);
     put_trace(&mut out, &listing, b"p ", &trace)?;
-    Ok(out)
+    assert_eq!(rt; out.as_slice(), want);
+    Ok(())
 }
 
 #[test]
 fn worked_runs(rt: HostRuntime) -> Result<(), Fail> {
+    let alloc = rt.alloc();
     let five = [register(0x38, 5)];
-    let cases: [(&[u8], &[Byte], Callee, u32, &[u8]); 13] = [
-        (ADD_ONE, &five, Callee::None, 10, b"p returned 0x6\n"),
-        (ADD_ONE, &five, Callee::None, 1, b"p going\n"),
-        (
-            DIVIDE,
-            &[register(0x38, 0)],
-            Callee::None,
-            10,
-            b"p divzero\n",
-        ),
-        (
-            DIVIDE,
-            &[register(0x38, 2)],
-            Callee::None,
-            10,
-            b"p returned 0x3\n",
-        ),
-        (SHIFT, &five, Callee::None, 10, b"p returned 0x0\n"),
-        (
-            SWAP,
-            &[register(0, 1), register(4, 2), register(0x38, 3)],
-            Callee::None,
-            100,
-            b"p returned 0x2\n",
-        ),
-        (
-            SWAP,
-            &[register(0, 1), register(4, 2), register(0x38, 2)],
-            Callee::None,
-            100,
-            b"p returned 0x1\n",
-        ),
-        (
-            FILL,
-            &[
-                register(0x38, 3),
-                register(0x40, 0xff),
-                register(0x41, 0xff),
-                register(0x42, 0xff),
-                register(0x43, 0xff),
-                register(0x44, 0xff),
-                register(0x45, 0xff),
-                register(0x46, 0xff),
-                register(0x47, 0xff),
-            ],
-            Callee::None,
-            100,
-            b"p store ram:0xffffffffffffffff ab\np store ram:0x0 ab\np store ram:0x1 ab\np returned 0x0\n",
-        ),
-        (
-            CALL,
-            &five,
-            Callee::Writes,
-            100,
-            b"p call 0x2000 0x5\np returned 0x1277\n",
-        ),
-        (
-            CALL,
-            &five,
-            Callee::None,
-            100,
-            b"p call 0x2000 0x5\np noanswer\n",
-        ),
-        (
-            CALL,
-            &five,
-            Callee::Hides,
-            100,
-            b"p call 0x2000 0x5\np outside\n",
-        ),
-        (READ_ONLY, &five, Callee::None, 100, b"p readonly\n"),
-        (
-            NEVER,
-            &five,
-            Callee::Writes,
-            100,
-            b"p call 0x2000 0x5\np noreturn\n",
-        ),
+    let none = [register(0x38, 0)];
+    let two = [register(0x38, 2)];
+    let thrice = [register(0, 1), register(4, 2), register(0x38, 3)];
+    let twice = [register(0, 1), register(4, 2), register(0x38, 2)];
+    let last_three = [
+        register(0x38, 3),
+        register(0x40, 0xff),
+        register(0x41, 0xff),
+        register(0x42, 0xff),
+        register(0x43, 0xff),
+        register(0x44, 0xff),
+        register(0x45, 0xff),
+        register(0x46, 0xff),
+        register(0x47, 0xff),
     ];
-    for (text, state, callee, n, want) in cases.as_slice() {
-        let got = shown(&rt, rt.alloc(), text, state, *callee, *n)?;
-        assert_eq!(rt; got.as_slice(), *want);
-    }
-    Ok(())
+    shows(
+        &rt,
+        alloc,
+        ADD_ONE,
+        &five,
+        Callee::None,
+        10,
+        b"p returned 0x6\n",
+    )?;
+    shows(&rt, alloc, ADD_ONE, &five, Callee::None, 1, b"p going\n")?;
+    shows(&rt, alloc, DIVIDE, &none, Callee::None, 10, b"p divzero\n")?;
+    shows(
+        &rt,
+        alloc,
+        DIVIDE,
+        &two,
+        Callee::None,
+        10,
+        b"p returned 0x3\n",
+    )?;
+    shows(
+        &rt,
+        alloc,
+        SHIFT,
+        &five,
+        Callee::None,
+        10,
+        b"p returned 0x0\n",
+    )?;
+    shows(
+        &rt,
+        alloc,
+        SWAP,
+        &thrice,
+        Callee::None,
+        100,
+        b"p returned 0x2\n",
+    )?;
+    shows(
+        &rt,
+        alloc,
+        SWAP,
+        &twice,
+        Callee::None,
+        100,
+        b"p returned 0x1\n",
+    )?;
+    shows(&rt, alloc, FILL, &last_three, Callee::None, 100, FILLED)?;
+    shows(
+        &rt,
+        alloc,
+        CALL,
+        &five,
+        Callee::Writes,
+        100,
+        b"p call 0x2000 0x5\np returned 0x1277\n",
+    )?;
+    shows(
+        &rt,
+        alloc,
+        CALL,
+        &five,
+        Callee::None,
+        100,
+        b"p call 0x2000 0x5\np noanswer\n",
+    )?;
+    shows(
+        &rt,
+        alloc,
+        CALL,
+        &five,
+        Callee::Hides,
+        100,
+        b"p call 0x2000 0x5\np outside\n",
+    )?;
+    shows(
+        &rt,
+        alloc,
+        READ_ONLY,
+        &five,
+        Callee::None,
+        100,
+        b"p readonly\n",
+    )?;
+    shows(
+        &rt,
+        alloc,
+        NEVER,
+        &five,
+        Callee::Writes,
+        100,
+        b"p call 0x2000 0x5\np noreturn\n",
+    )
 }
