@@ -1,6 +1,6 @@
 -- A listing that was read and whose ops obey their rules has what the laws of the plain lowering ask for.
 use Rattle.std.proofs.Common.{◌≡◌, ◌≤◌, ◌<◌, ◌+◌, ◌^◌, ◌⊎◌, ℕ, zero, suc, Bool, true, false, List, [], ◌∷◌, ◌++◌, Option, Some, None, length, refl, inl, inr, sym, subst, ap, ◌∙◌, arith}
-use Rattle.std.specs.Prelude.{◌&&◌, ◌==◌, if◌then◌else◌, nat_le, nat_lt, not, slice_get, IfSome}
+use Rattle.std.specs.Prelude.{◌&&◌, ◌==◌, if◌then◌else◌, nat_lt, not, slice_get, IfSome}
 use Rattle.std.specs.List.{AllByRecursion}
 use Rattle.std.proofs.lemmas.Bool.Decides.{nat_tests}
 use Rattle.pcode_model.specs.declared.listing.Instruction.{Instruction}
@@ -18,18 +18,18 @@ use Rattle.pcode_model.specs.declared.rules.OpWhy.{OpWhy}
 use Rattle.pcode_model.specs.declared.rules.OpWhy.TheVariants.{BadSpace, TooWide, OutOfSpace}
 use Rattle.pcode_model.specs.Atoms.{IsLocal, one_range}
 use Rattle.pcode_model.specs.Flow.{IsIn}
-use Rattle.pcode_model.specs.Ranges.{is_kind, leaves}
-use Rattle.pcode_model.specs.Rules.{any_leaves, any_wide, breaks, first_bad, input_ranges, inputs_stand, is_constant, is_in_first_ram, is_out_of_space, is_too_wide, is_wide, leaves_space, names_address, output_is_constant, output_leaves, output_wide, past_first, rules, spaces_stand}
+use Rattle.pcode_model.specs.Ranges.{leaves}
+use Rattle.pcode_model.specs.Rules.{any_leaves, any_wide, breaks, first_bad, input_ranges, inputs_stand, is_constant, is_in_first_ram, is_out_of_space, is_too_wide, is_wide, leaves_space, names_address, output_is_constant, output_leaves, output_wide, past_first, rules}
 use Rattle.pcode_model.specs.Spaces.{first_ram, kind_of, or, register_space, same_kind, size_of, unique_space}
-use Rattle.pcode_model.specs.Step.{proto_at, proto_in, proto_of}
-use Rattle.pcode_model.specs.WellFormed.{HasOps, IsArgument, IsOp, IsOperand, IsProto, IsRegister, IsStorage, IsWellFormed}
+use Rattle.pcode_model.specs.Step.{proto_in, proto_of}
+use Rattle.pcode_model.specs.WellFormed.{HasOps, IsArgument, IsOp, IsOperand, IsProto, IsStorage}
 use Rattle.pcodetext.specs.Formed.{HasKnownOps, IsKnown, IsKnownOp, IsRead}
 use Rattle.supported.specs.Ranges.{code_ranges, is_local, is_local_kind, local_of, locals_of, named_ranges, op_ranges, ops_ranges, output_of, result_range, storage_range, storage_ranges}
 use Rattle.plain_laws.proofs.Accessed.{in_either}
 use Rattle.plain_laws.proofs.Formed.{IsFormed, IsInput, IsWritten, Inside}
 use Rattle.plain_laws.proofs.Rules.{both, breaks_none, neither}
 use Rattle.plain_laws.proofs.Standing.{StandsIn}
-use Rattle.pipeline.proofs.Spaces.{constant_is, first_constant, kind_at, kind_of_first, low, only}
+use Rattle.pipeline.proofs.Spaces.{constant_is, first_constant, kind_of_first, low, only}
 
 -- ---- lists
 

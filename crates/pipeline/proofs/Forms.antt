@@ -34,12 +34,12 @@ use Rattle.stackvars.specs.declared.accessed.AtomFault.TheVariants as A
 use Rattle.flow.specs.Answer.{IsFlowFault}
 use Rattle.flow.specs.declared.answer.FlowFault.{FlowFault}
 use Rattle.flow.specs.declared.answer.FlowFault.TheVariants as F
-use Rattle.pipeline.specs.Lowers.{Lowers, StopsLowering}
+use Rattle.pipeline.specs.Passed.{Lowers}
 use Rattle.pipeline.specs.Outcome.{IsCause}
 use Rattle.pipeline.specs.Refused.{of_atoms, of_flow}
 use Rattle.pipeline.specs.declared.refusal.Refusal.{Refusal}
 use Rattle.pipeline.specs.declared.refusal.Refusal.TheVariants as R
-use Rattle.pipeline.specs.Verdict.{IsGood}
+use Rattle.pipeline.specs.Verdict.{Accepts, IsGood, Stops}
 use Rattle.pipeline.proofs.Formed.{formed_is}
 use Rattle.pipeline.proofs.Names.{name_is}
 
@@ -97,21 +97,27 @@ few_starts l blocks flow few = (starts_of blocks, (flow.starts, omega (arith, fe
 pub few_atoms : (l : Listing) (atoms : List Atom) → AreAccessed l atoms → (n : ℕ) × (listed.AccessesSoMany l n × (n ≤ 1024))
 few_atoms l atoms are = (length atoms, ((atoms, (are.listed, refl)), are.few))
 
+pub accepts : (bytes : List ℕ) (l : Listing) → IsGood bytes l → IsSupported l → (blocks : List Block) → IsFlow l [] blocks → NoFault l [] → length blocks ≤ 2048 → (atoms : List Atom) → AreAccessed l atoms → Accepts bytes l
+accepts bytes l good built blocks flow fine few atoms are = record {
+  good = good;
+  built = built;
+  flow = fine;
+  blocks = few_starts l blocks flow few;
+  atoms = few_atoms l atoms are;
+}
+
 -- all of it
 pub lowers : (l : Listing) → IsRead l → first_bad l ≡ None → IsSupported l → (blocks : List Block) → IsFlow l [] blocks → NoFault l [] → length blocks ≤ 2048 → (atoms : List Atom) → AreAccessed l atoms → (f : CFunction) → f ≡ plain_function l blocks atoms → Lowers l f
 lowers l read good sup blocks flow fine few atoms are f is =
     let P : CFunction → Type 0 = λ g. Lowers l g in
     subst P (sym is) (record {
-      flow = fine;
-      blocks = few_starts l blocks flow few;
-      atoms = few_atoms l atoms are;
       valid = is_valid l read good sup blocks flow fine few atoms are;
       agrees = agrees l read good sup blocks flow fine few atoms are;
     })
 
 -- ---- faults
 
-pub flow_stops : (l : Listing) (fault : FlowFault) → IsFlowFault l [] fault → StopsLowering l (of_flow fault)
+pub flow_stops : (l : Listing) (fault : FlowFault) → IsFlowFault l [] fault → Stops l (of_flow fault)
 flow_stops l (F.NoTarget p) h = h
 flow_stops l (F.FallsOff p) h = h
 flow_stops l (F.BadRelative p) h = h
@@ -120,11 +126,11 @@ flow_stops l (F.TableEntered p) h = h
 flow_stops l (F.TooManyBlocks n) h = h
 flow_stops l F.Memory h = tt
 
-pub atoms_stops : (l : Listing) (fault : AtomFault) → NoFault l [] → listed.IsCause l fault → StopsLowering l (of_atoms fault)
+pub atoms_stops : (l : Listing) (fault : AtomFault) → NoFault l [] → listed.IsCause l fault → Stops l (of_atoms fault)
 atoms_stops l (A.TooManyAtoms n) fine h = (fine, h)
 atoms_stops l A.Memory fine h = tt
 
-pub stops_refused : (bytes : List ℕ) (l : Listing) → IsGood bytes l → IsSupported l → (fault : Refusal) → StopsLowering l fault → IsCause bytes fault
+pub stops_refused : (bytes : List ℕ) (l : Listing) → IsGood bytes l → IsSupported l → (fault : Refusal) → Stops l fault → IsCause bytes fault
 stops_refused bytes l good built (R.Text fault) h = absurd h
 stops_refused bytes l good built (R.Op fault) h = absurd h
 stops_refused bytes l good built R.NotBuilt h = absurd h

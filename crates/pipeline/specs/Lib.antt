@@ -2,6 +2,6 @@ pub mod Request
 pub mod Refused
 pub mod Verdict
 pub mod Message
-pub mod Lowers
+pub mod Passed
 pub mod Outcome
 pub mod Table

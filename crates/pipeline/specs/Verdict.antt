@@ -1,6 +1,6 @@
 -- Which inputs are accepted, why the others are refused, and what may be printed. This project's own.
 -- The order of refusals: faults of the text, faults of ops, not built, faults of the flow, too many blocks, too many atoms.
-use Rattle.std.specs.Prelude.{◌≡◌, ℕ, ◌≤◌, List, [], length, Some, None}
+use Rattle.std.specs.Prelude.{◌≡◌, ℕ, ◌≤◌, List, [], length, Some, None, ⊤}
 use Rattle.pcode_model.specs.declared.listing.Listing.{Listing}
 use Rattle.pcode_model.specs.declared.listing.Place.{Place}
 use Rattle.pcode_model.specs.Memory.{no_frame}
@@ -52,6 +52,15 @@ IsRefused bytes (refusal.Flow fault) = RefusedBy bytes (λ l. IsSupported l × I
 IsRefused bytes (refusal.Atoms atoms.Memory) = ⊥
 IsRefused bytes (refusal.Atoms fault) = RefusedBy bytes (λ l. IsSupported l × (NoFault l [] × accessed.IsCause l fault))
 IsRefused bytes refusal.Memory = ⊥
+
+-- why a good listing that is built isn't accepted
+abbrev pub Stops : Listing → Refusal → Type 0
+Stops l (refusal.Flow flow.Memory) = ⊥
+Stops l (refusal.Flow fault) = IsFlowFault l [] fault
+Stops l (refusal.Atoms atoms.Memory) = ⊥
+Stops l (refusal.Atoms fault) = NoFault l [] × accessed.IsCause l fault
+Stops l refusal.Memory = ⊤
+Stops l _ = ⊥
 
 -- The text of a valid C function that agrees with the listing of the input: for every entry and every number of steps,
 -- what either run shows the other shows too.

@@ -8,12 +8,14 @@ mod passes;
 mod refusal;
 mod request;
 mod top;
+mod verdict;
 
 pub use outcome::{Outcome, deliver, work_out};
-pub use passes::decompile;
+pub use passes::{decompile, lower};
 pub use refusal::Refusal;
 pub use request::{Request, read_words};
 pub use top::decompile_words;
+pub use verdict::{Accepted, accept};
 
 #[cfg(test)]
 mod tests;

@@ -1,26 +1,18 @@
 // From the bytes of a listing to the text of its C: the passes in their order.
-ghost use Rattle.std.specs.Prelude.{◌≡◌, ◌-◌, ◌^◌, ◌≤◌, length, IfErr, IfOk, List, [], None, OnOk};
-ghost use Rattle.pcode_model.specs.Flow.{IsFlow, NoFault};
-ghost use Rattle.pcode_model.specs.Rules.{first_bad};
-ghost use Rattle.pcode_model.specs.WellFormed.{IsWellFormed};
-ghost use Rattle.pcodetext.specs.Formed.{IsRead};
-ghost use Rattle.pipeline.specs.Lowers.{Lowers, StopsLowering};
+ghost use Rattle.std.specs.Prelude.{◌≡◌, ◌-◌, ◌^◌, ◌≤◌, length, IfErr, IfOk, OnOk};
 ghost use Rattle.pipeline.specs.Outcome.{IsCause};
+ghost use Rattle.pipeline.specs.Passed.{HasPassed, Lowers};
 ghost use Rattle.pipeline.specs.Verdict.{IsAccepted, MayPrint};
-ghost use Rattle.stackvars.specs.Accessed.{AreAccessed};
-ghost use Rattle.supported.specs.Supported.{IsSupported};
 
 use crate::refusal::Refusal;
+use crate::verdict::{Accepted, accept};
+use bits_core::Memory;
 use cmeaning::CFunction;
 use ctext::print_c;
-use flow::follow;
 use layout::laid_out;
-use pcode_model::{Atoms, Flow, Listing, Name, Tables, Text, check_ops};
-use pcodetext::read_listing;
+use pcode_model::{Name, Text};
 use plaincode::{plain, result_width};
-use stackvars::atoms;
 use std::alloc::Global;
-use supported::is_supported;
 
 /// The C of a listing, or why there is none.
 pub fn decompile(alloc: Global, bytes: &[u8]) -> Result<Text, Refusal>
@@ -29,58 +21,19 @@ pub fn decompile(alloc: Global, bytes: &[u8]) -> Result<Text, Refusal>
     ensures text { IfOk result (λ text. MayPrint bytes.now text.items) }
     ensures refused { IfErr result (IsCause bytes.now) }
 {
-    let listing = read_listing(alloc, bytes)?;
-    check_ops(&listing)?;
-    let built = is_supported(alloc, &listing)?;
-    if !built {
-        return Err(Refusal::NotBuilt);
-    }
-    let function = lower(alloc, &listing)?;
+    let accepted = accept(alloc, bytes)?;
+    let function = lower(alloc, &accepted)?;
     let text = print_c(alloc, &function)?;
     Ok(text)
 }
 
-/// The C function of a listing that is built: its blocks, its atoms, the plain lowering, and that one's layout.
-pub fn lower(alloc: Global, listing: &Listing) -> Result<CFunction, Refusal>
-    requires read { IsRead listing.now }
-    requires ops { first_bad listing.now ≡ None }
-    requires supported { IsSupported listing.now }
-    ensures lowers { IfOk result (λ f. Lowers listing.now f) }
-    ensures stops { IfErr result (λ fault. StopsLowering listing.now fault) }
+/// The C function of a listing that is accepted: the plain lowering, and its layout.
+pub fn lower(alloc: Global, accepted: &Accepted) -> Result<CFunction, Memory>
+    requires { HasPassed accepted.now }
+    ensures { IfOk result (Lowers accepted.now.listing) }
 {
-    let flow = blocks(alloc, listing)?;
-    let atoms = ranges(alloc, listing, &flow)?;
-    let code = plain(alloc, listing, &flow, &atoms)?;
+    let listing = &accepted.listing;
+    let code = plain(alloc, listing, &accepted.flow, &accepted.atoms)?;
     let name = Name::from_slice(alloc, listing.func.name.as_slice())?;
-    let function = laid_out(alloc, name, result_width(listing), code)?;
-    Ok(function)
-}
-
-fn blocks(alloc: Global, listing: &Listing) -> Result<Flow, Refusal>
-    requires formed { IsWellFormed listing.now }
-    ensures blocks { IfOk result (λ flow. IsFlow listing.now [] flow) }
-    ensures no_fault { OnOk result (NoFault listing.now []) }
-    ensures few { IfOk result (λ flow. length flow ≤ 2048) }
-    ensures stops { IfErr result (λ fault. StopsLowering listing.now fault) }
-{
-    let tables = Tables::new(alloc);
-    match follow(alloc, listing, &tables) {
-        Ok(flow) => Ok(flow),
-        Err(fault) => Err(Refusal::from(fault)),
-    }
-}
-
-fn ranges(alloc: Global, listing: &Listing, flow: &Flow) -> Result<Atoms, Refusal>
-    requires read { IsRead listing.now }
-    requires ops { first_bad listing.now ≡ None }
-    requires supported { IsSupported listing.now }
-    requires flow { IsFlow listing.now [] flow.now }
-    requires no_fault { NoFault listing.now [] }
-    ensures ok { IfOk result (λ atoms. AreAccessed listing.now atoms) }
-    ensures stops { IfErr result (λ fault. StopsLowering listing.now fault) }
-{
-    match atoms(alloc, listing, flow) {
-        Ok(atoms) => Ok(atoms),
-        Err(fault) => Err(Refusal::from(fault)),
-    }
+    laid_out(alloc, name, result_width(listing), code)
 }

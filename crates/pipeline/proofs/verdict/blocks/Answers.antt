@@ -2,10 +2,10 @@ use Rattle.std.proofs.Common.{List, sym, subst}
 use Rattle.pcode_model.specs.declared.tables.TableAt.{TableAt}
 use Rattle.pcode_model.specs.Flow.{NoFault}
 use Rattle.flow.specs.Answer.{IsFlowFault}
-use Rattle.pipeline.specs.Lowers.{StopsLowering}
+use Rattle.pipeline.specs.Verdict.{Stops}
 use Rattle.pipeline.specs.declared.refusal.Refusal.{Refusal}
 use Rattle.pipeline.proofs.Forms.{flow_stops}
-use Rattle.pipeline.proofs.passes.blocks.Goals as goal
+use Rattle.pipeline.proofs.verdict.blocks.Goals as goal
 
 pub returns-in-Ok-clause-no_fault : goal.returns-in-Ok-clause-no_fault
 returns-in-Ok-clause-no_fault c =
@@ -15,5 +15,5 @@ returns-in-Ok-clause-no_fault c =
 pub returns-clause-stops : goal.returns-clause-stops
 returns-clause-stops c =
     let P : List TableAt → Type 0 = λ t. IsFlowFault c.args.listing.now t c.in-Err.fault in
-    let R : Refusal → Type 0 = λ r. StopsLowering c.args.listing.now r in
+    let R : Refusal → Type 0 = λ r. Stops c.args.listing.now r in
     subst R (sym c.from.ensures) (flow_stops c.args.listing.now c.in-Err.fault (subst P c.new-tables.ensures c.in-Err.ensures.fault))

@@ -1,6 +1,6 @@
 use Rattle.plain_laws.proofs.Form.{accessed_equal_or_apart, accessed_sized}
 use Rattle.pipeline.proofs.Formed.{formed_is}
-use Rattle.pipeline.proofs.passes.ranges.Goals as goal
+use Rattle.pipeline.proofs.verdict.ranges.Goals as goal
 
 pub atoms-requires-clause-sized : goal.atoms-requires-clause-sized
 atoms-requires-clause-sized c = accessed_sized c.args.listing.now c.requires.supported (formed_is c.args.listing.now c.requires.read c.requires.ops)

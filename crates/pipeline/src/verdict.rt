@@ -1,0 +1,79 @@
+// Which inputs are accepted, and why the others are refused.
+ghost use Rattle.std.specs.Prelude.{◌≡◌, ◌-◌, ◌^◌, ◌≤◌, length, IfErr, IfOk, List, [], None, OnOk};
+ghost use Rattle.pcode_model.specs.Flow.{IsFlow, NoFault};
+ghost use Rattle.pcode_model.specs.Rules.{first_bad};
+ghost use Rattle.pcode_model.specs.WellFormed.{IsWellFormed};
+ghost use Rattle.pcodetext.specs.Formed.{IsRead};
+ghost use Rattle.pipeline.specs.Outcome.{IsCause};
+ghost use Rattle.pipeline.specs.Verdict.{Accepts, Stops};
+ghost use Rattle.pipeline.specs.Passed.{HasPassed};
+ghost use Rattle.stackvars.specs.Accessed.{AreAccessed};
+ghost use Rattle.supported.specs.Supported.{IsSupported};
+
+use crate::refusal::Refusal;
+use flow::follow;
+use pcode_model::{Atoms, Flow, Listing, Tables, check_ops};
+use pcodetext::read_listing;
+use stackvars::atoms;
+use std::alloc::Global;
+use supported::is_supported;
+
+/// A listing that is accepted, its blocks, and the ranges that its ops access.
+#[derive(Drop)]
+pub struct Accepted {
+    pub listing: Listing,
+    pub flow: Flow,
+    pub atoms: Atoms,
+}
+
+/// The listing of an input with its blocks and ranges, or the first fault of the input: a fault of the text, an op that
+/// breaks a rule, a listing that isn't built, a fault of the flow, too many blocks, or too many ranges.
+pub fn accept(alloc: Global, bytes: &[u8]) -> Result<Accepted, Refusal>
+    requires { length bytes.now ≤ 2 ^ 32 - 2 }
+    ensures accepted { IfOk result (λ accepted. Accepts bytes.now accepted.listing) }
+    ensures passed { IfOk result HasPassed }
+    ensures refused { IfErr result (IsCause bytes.now) }
+{
+    let listing = read_listing(alloc, bytes)?;
+    check_ops(&listing)?;
+    let built = is_supported(alloc, &listing)?;
+    if !built {
+        return Err(Refusal::NotBuilt);
+    }
+    let flow = blocks(alloc, &listing)?;
+    let atoms = ranges(alloc, &listing, &flow)?;
+    Ok(Accepted {
+        listing,
+        flow,
+        atoms,
+    })
+}
+
+fn blocks(alloc: Global, listing: &Listing) -> Result<Flow, Refusal>
+    requires formed { IsWellFormed listing.now }
+    ensures blocks { IfOk result (λ flow. IsFlow listing.now [] flow) }
+    ensures no_fault { OnOk result (NoFault listing.now []) }
+    ensures few { IfOk result (λ flow. length flow ≤ 2048) }
+    ensures stops { IfErr result (λ fault. Stops listing.now fault) }
+{
+    let tables = Tables::new(alloc);
+    match follow(alloc, listing, &tables) {
+        Ok(flow) => Ok(flow),
+        Err(fault) => Err(Refusal::from(fault)),
+    }
+}
+
+fn ranges(alloc: Global, listing: &Listing, flow: &Flow) -> Result<Atoms, Refusal>
+    requires read { IsRead listing.now }
+    requires ops { first_bad listing.now ≡ None }
+    requires supported { IsSupported listing.now }
+    requires flow { IsFlow listing.now [] flow.now }
+    requires no_fault { NoFault listing.now [] }
+    ensures ok { IfOk result (λ atoms. AreAccessed listing.now atoms) }
+    ensures stops { IfErr result (λ fault. Stops listing.now fault) }
+{
+    match atoms(alloc, listing, flow) {
+        Ok(atoms) => Ok(atoms),
+        Err(fault) => Err(Refusal::from(fault)),
+    }
+}
