@@ -11,9 +11,11 @@ use Rattle.outside.specs.declared.reading.ReadEnd.{ReadEnd}
 use Rattle.outside.specs.declared.reading.ReadEnd.TheVariants.{Fault, TooLong, Memory}
 use Rattle.runwords.specs.Fetched.{AllFetched, Fetched, Passed, all_in, in_folder, limit, whole, with_c_text, with_entry, with_listing}
 use Rattle.runwords.specs.Request.{Asked}
-use Rattle.runwords.specs.Table.{Because, Due, BadArguments, Missing, TooManyBytes, Showing, Faulty, Quiet}
+use Rattle.runwords.specs.Table.{Because, Due, BadArguments, Ends, IsGathered, IsJudged, Missing, TooManyBytes, Showing, Faulty, Quiet, Table}
 use Rattle.runwords.specs.Told.{Bytes, Delivers, WritesLine, WritesText}
+use Rattle.runwords.proofs.Rows.{rows}
 use Rattle.runwords.specs.declared.files.Inputs.{Inputs}
+use Rattle.runwords.specs.declared.gathering.Gathered.{Gathered}
 use Rattle.runwords.specs.declared.outcome.Outcome.{Outcome}
 use Rattle.runwords.specs.declared.outcome.Outcome.TheVariants as outcome
 
@@ -155,3 +157,38 @@ module _ (Shows : Inputs → ℕ → Bytes → Type 0) (Faults : Inputs → Byte
         let came = sure (Err TooLong) (all_in files a) long_memory (all_is files a shelf shelf_new told quiet (Err TooLong) read) in
         inr (due asked (Some a) status 6 is (written _ _ _ d.0) (TooManyBytes a files came))
     exact asked outcome.Memory status why d = inl d.0
+
+-- ---- the whole table
+
+ended : (Shows : Inputs → ℕ → Bytes → Type 0) (Faults : Inputs → Bytes → Type 0) (asked : Option Asked) (reads : Asked → Result Inputs ReadEnd → Type 0) (o : Outcome) → Ends asked reads o → Because Shows Faults asked reads o
+ended Shows Faults asked reads (outcome.Shown text) h = absurd h
+ended Shows Faults asked reads (outcome.Refused line) h = absurd h
+ended Shows Faults asked reads outcome.BadArguments h = h
+ended Shows Faults asked reads outcome.ReadFault h = h
+ended Shows Faults asked reads outcome.TooLong h = h
+ended Shows Faults asked reads outcome.Memory h = tt
+
+judged : (Shows : Inputs → ℕ → Bytes → Type 0) (Faults : Inputs → Bytes → Type 0) (asked : Option Asked) (reads : Asked → Result Inputs ReadEnd → Type 0) (g : Gathered) (o : Outcome)
+    → IsGathered asked reads g → IsJudged Shows Faults g.inputs g.steps o → Because Shows Faults asked reads o
+judged Shows Faults asked reads g (outcome.Shown text) (a, (is, (read, steps))) h = (a, (g.inputs, (is, (read, (let P : ℕ → Type 0 = λ n. Shows g.inputs n text.items in subst P steps h)))))
+judged Shows Faults asked reads g (outcome.Refused line) (a, (is, (read, steps))) h = (a, (g.inputs, (is, (read, h))))
+judged Shows Faults asked reads g outcome.BadArguments w h = absurd h
+judged Shows Faults asked reads g outcome.ReadFault w h = absurd h
+judged Shows Faults asked reads g outcome.TooLong w h = absurd h
+judged Shows Faults asked reads g outcome.Memory w h = tt
+
+module _ (Shows : Inputs → ℕ → Bytes → Type 0) (Faults : Inputs → Bytes → Type 0) (asked : Option Asked) (shelf shelf_new : Told) (out out_new err err_new : Held) where
+  table : (o : Outcome) (status : ℕ) → Because Shows Faults asked (λ a came. AllFetched a shelf shelf_new came) o → Delivers o out out_new err err_new status → Table Shows Faults asked shelf shelf_new out out_new err err_new status
+  table o status why told = record {
+    rows = rows Shows Faults asked (λ a came. AllFetched a shelf shelf_new came) out out_new err err_new o status why told;
+    exact = λ quiet_shelf quiet_out quiet_err files is. exact Shows Faults shelf shelf_new quiet_shelf files is out out_new err err_new quiet_out quiet_err asked o status why told;
+  }
+
+  -- where the call ends before any input is looked at
+  pub table_early : (o : Outcome) (status : ℕ) → Ends asked (λ a came. AllFetched a shelf shelf_new came) o → Delivers o out out_new err err_new status → Table Shows Faults asked shelf shelf_new out out_new err err_new status
+  table_early o status why told = table o status (ended Shows Faults asked (λ a came. AllFetched a shelf shelf_new came) o why) told
+
+  -- where the inputs are judged
+  pub table_judged : (g : Gathered) (o : Outcome) (status : ℕ) → IsGathered asked (λ a came. AllFetched a shelf shelf_new came) g → IsJudged Shows Faults g.inputs g.steps o → Delivers o out out_new err err_new status
+      → Table Shows Faults asked shelf shelf_new out out_new err err_new status
+  table_judged g o status got why told = table o status (judged Shows Faults asked (λ a came. AllFetched a shelf shelf_new came) g o got why) told

@@ -9,12 +9,26 @@ use Rattle.runwords.specs.Fetched.{AllFetched, all_in}
 use Rattle.runwords.specs.Request.{Asked}
 use Rattle.runwords.specs.Told.{Bytes, bad_arguments, read_fault, too_long}
 use Rattle.runwords.specs.declared.files.Inputs.{Inputs}
+use Rattle.runwords.specs.declared.gathering.Gathered.{Gathered}
 use Rattle.runwords.specs.declared.outcome.Outcome.{Outcome}
 use Rattle.runwords.specs.declared.outcome.Outcome.TheVariants as outcome
 
 -- what the words ask for was read from the shelf, and this came of it
 abbrev pub Reads : Option Asked → (Asked → Result Inputs ReadEnd → Type 0) → Result Inputs ReadEnd → Type 0
 Reads asked reads came = (a : Asked) × ((asked ≡ Some a) × reads a came)
+
+-- the words ask for these inputs and for so many steps, and the inputs were read whole
+abbrev pub IsGathered : Option Asked → (Asked → Result Inputs ReadEnd → Type 0) → Gathered → Type 0
+IsGathered asked reads g = (a : Asked) × ((asked ≡ Some a) × (reads a (Ok g.inputs) × (g.steps ≡ a.steps)))
+
+-- why a call ends before any input is looked at
+abbrev pub Ends : Option Asked → (Asked → Result Inputs ReadEnd → Type 0) → Outcome → Type 0
+Ends asked reads (outcome.Shown text) = ⊥
+Ends asked reads (outcome.Refused line) = ⊥
+Ends asked reads outcome.BadArguments = asked ≡ None
+Ends asked reads outcome.ReadFault = Reads asked reads (Err Fault)
+Ends asked reads outcome.TooLong = Reads asked reads (Err TooLong)
+Ends asked reads outcome.Memory = ⊤
 
 -- no fault was counted
 abbrev pub Quiet : ℕ → ℕ → Type 0
@@ -37,6 +51,13 @@ module _ (Shows : Inputs → ℕ → Bytes → Type 0) (Faults : Inputs → Byte
   Because asked reads outcome.ReadFault = Reads asked reads (Err Fault)
   Because asked reads outcome.TooLong = Reads asked reads (Err TooLong)
   Because asked reads outcome.Memory = ⊤
+
+  -- what the inputs come to, before anything is written
+  abbrev pub IsJudged : Inputs → ℕ → Outcome → Type 0
+  IsJudged inputs steps (outcome.Shown text) = Shows inputs steps text.items
+  IsJudged inputs steps (outcome.Refused line) = Faults inputs line.items
+  IsJudged inputs steps outcome.Memory = ⊤
+  IsJudged inputs steps _ = ⊥
 
   -- the line that goes with a status, and why
   abbrev pub MayComplain : Option Asked → (Asked → Result Inputs ReadEnd → Type 0) → Bytes → Type 0

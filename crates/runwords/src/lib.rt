@@ -2,10 +2,12 @@
 #![tactic(auto)]
 
 mod files;
+mod gathering;
 mod outcome;
 mod plan;
 
 pub use files::{Inputs, LIMIT, fetch};
+pub use gathering::{Gathered, gather};
 pub use outcome::{Outcome, deliver};
 pub use plan::{Plan, read_words};
 
