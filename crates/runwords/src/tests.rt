@@ -41,7 +41,9 @@ fn reads_words_and_files(rt: HostRuntime) -> Result<(), Fail> {
     assert!(rt; read_words(words(alloc, &["l", "c", "e", "1", "2"])?.as_slice()).is_none());
     let mut files = Files::new(alloc);
     for (name, bytes) in [("l", "first"), ("c", "second"), ("e", "third")] {
-        files.push(file(alloc, name, bytes.as_bytes())?).map_err(|_| "memory")?;
+        files
+            .push(file(alloc, name, bytes.as_bytes())?)
+            .map_err(|_| "memory")?;
     }
     let mut shelf = MemShelf::new(files, Fails::new(alloc));
     let line = words(alloc, &["e", "l", "c", "7"])?;
