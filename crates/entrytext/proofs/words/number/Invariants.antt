@@ -1,0 +1,5 @@
+use Rattle.entrytext.proofs.Digits.{HasRead}
+use Rattle.entrytext.proofs.words.number.Given as goal
+
+abbrev pub invariant-loop-b : goal.invariant-loop-b
+invariant-loop-b l = HasRead l.n l.b-index l.digits

@@ -1,0 +1,4 @@
+pub mod Request
+pub mod Fetched
+pub mod Told
+pub mod Table

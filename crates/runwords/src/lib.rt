@@ -1,0 +1,15 @@
+//! What the command that runs both machines is asked for, the files that it reads, and what it tells.
+#![tactic(auto)]
+
+mod files;
+mod gathering;
+mod outcome;
+mod plan;
+
+pub use files::{Inputs, LIMIT, fetch};
+pub use gathering::{Gathered, gather};
+pub use outcome::{Outcome, deliver};
+pub use plan::{Plan, read_words};
+
+#[cfg(test)]
+mod tests;
