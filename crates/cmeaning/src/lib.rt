@@ -15,9 +15,9 @@ pub use numbering::Next;
 pub use rules::{checked, has_name_form, valid};
 pub use shape::Shape;
 pub use tree::{
-    ArithmeticOp, Arm, Arms, Body, CFunction, CName, CalleeDecl, CompareOp, CountOp,
-    DivisionOp, Expr, Exprs, ExtendOp, Local, Locals, OverflowOp, Param, Params, ShiftOp,
-    SignedCompareOp, SignedDivisionOp, StatementDivision, Stmt, UnaryOp, Values, Widths,
+    ArithmeticOp, Arm, Arms, Body, CFunction, CName, CalleeDecl, CompareOp, CountOp, DivisionOp,
+    Expr, Exprs, ExtendOp, Local, Locals, OverflowOp, Param, Params, ShiftOp, SignedCompareOp,
+    SignedDivisionOp, StatementDivision, Stmt, UnaryOp, Values, Widths,
 };
 
 #[cfg(test)]

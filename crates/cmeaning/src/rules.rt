@@ -290,9 +290,7 @@ pub(crate) fn divide_fits(f: &CFunction, v: u32, left: &Expr, right: &Expr) -> b
 fn header_fits(f: &CFunction) -> bool
     ensures { result ≡ (is_name f.now.name && (are_params f.now.params && are_callees f.now.callees)) }
 {
-    has_name_form(f.name.as_slice())
-        && params_fit(f.params.as_slice())
-        && callees_fit(&f.callees)
+    has_name_form(f.name.as_slice()) && params_fit(f.params.as_slice()) && callees_fit(&f.callees)
 }
 
 fn body_fits(memory: Option<Global>, f: &CFunction, next: Option<Next>) -> Result<bool, Memory>
