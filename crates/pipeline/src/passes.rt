@@ -35,5 +35,6 @@ pub fn lower(alloc: Global, accepted: &Accepted) -> Result<CFunction, Memory>
     let listing = &accepted.listing;
     let code = plain(alloc, listing, &accepted.flow, &accepted.atoms)?;
     let name = Name::from_slice(alloc, listing.func.name.as_slice())?;
-    laid_out(alloc, name, result_width(listing), code)
+    let function = laid_out(alloc, name, result_width(listing), code)?;
+    Ok(function)
 }

@@ -11,5 +11,11 @@ plain-requires-clause-spaces c = let few = c.requires.read.limited.spaces in ome
 
 pub returns : goal.returns
 returns c =
-    let f = c.laid_out.ensures in
-    c.laid_out.ensures
+    let passed = c.requires in
+    let f = c.in_ok-function.ensures in
+    let k = c.in_ok-code.ensures in
+    let n = c.in_ok-name.ensures in
+    let w = c.result_width.ensures in
+    let l = c.args.accepted.now.listing in
+    let is : c.in_ok-function.function ≡ plain_function l c.args.accepted.now.flow c.args.accepted.now.atoms = cc in
+    lowers l passed.read passed.ops passed.built c.args.accepted.now.flow passed.blocks passed.no_fault passed.few c.args.accepted.now.atoms passed.atoms c.in_ok-function.function is

@@ -1,0 +1,11 @@
+//! Which listings are run beside a C function, and why the others are refused.
+#![tactic(auto)]
+
+mod accepting;
+mod tables;
+
+pub use accepting::accept;
+pub use tables::is_runnable;
+
+#[cfg(test)]
+mod tests;
