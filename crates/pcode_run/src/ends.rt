@@ -1,4 +1,4 @@
-//! What an op of the wrong kind of access or place leads to.
+//! The ends of a run, and where it goes.
 
 ghost use Rattle.std.specs.Prelude.{◌≡◌};
 ghost use Rattle.pcode_model.specs.Step.{gone, in_world};
