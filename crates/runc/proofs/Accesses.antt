@@ -1,15 +1,13 @@
 -- What assignments, loads and stores mean.
-use Rattle.std.proofs.Common.{◌≡◌, ℕ, ◌%◌, ◌≤◌, ◌^◌, Bool, true, List, Option, Some, None, refl, sym, ap, ◌∙◌}
+use Rattle.std.proofs.Common.{◌≡◌, ℕ, ◌%◌, Bool, true, List, Option, Some, None, refl, sym, ap, ◌∙◌}
 use Rattle.std.proofs.lemmas.Bool.{eqb-true}
 use Rattle.bits_core.specs.Bytes.{word_bytes}
 use Rattle.bits_core.specs.declared.ops.Divide.{Divide}
 use Rattle.bits_core.specs.Value.{divide_value}
 use Rattle.pcode_model.specs.declared.listing.Listing.{Listing}
-use Rattle.pcode_model.specs.declared.listing.SpaceKind.TheVariants.{Constant, Ram}
 use Rattle.pcode_model.specs.Memory.{Bytes, plain}
-use Rattle.pcode_model.specs.Spaces.{is_big, kind_of, put, same_kind, size_of}
+use Rattle.pcode_model.specs.Spaces.{is_big, put, size_of}
 use Rattle.pcode_model.specs.Step.{bytes_in, word_in_bytes}
-use Rattle.pcode_model.specs.WellFormed.{IsWellFormed}
 use Rattle.pcode_model.specs.World.{World, store}
 use Rattle.cmeaning.specs.declared.shape.Shape.{Shape}
 use Rattle.cmeaning.specs.declared.tree.Expr.{Expr}
@@ -25,7 +23,6 @@ use Rattle.worlds.specs.declared.byte_map.ByteMap.{ByteMap}
 use Rattle.worlds.specs.declared.log.Log.{Log}
 use Rattle.worlds.specs.Log.{world_of}
 use Rattle.worlds.specs.Maps.{bytes_of}
-use Rattle.worlds.proofs.Declared.{size_most}
 use Rattle.runc.specs.declared.local.Local.{Local}
 use Rattle.runc.specs.States.{Becomes, local_of}
 

@@ -1,5 +1,5 @@
 -- In a valid function that fits its listing, each step may be carried out.
-use Rattle.std.proofs.Common.{◌≡◌, ℕ, suc, ◌+◌, ◌-◌, ◌&&◌, Bool, true, false, List, [], ◌∷◌, ◌++◌, map, Option, refl, sym, ap, ◌∙◌, subst}
+use Rattle.std.proofs.Common.{◌≡◌, ℕ, suc, ◌+◌, ◌-◌, ◌&&◌, Bool, true, false, List, [], ◌∷◌, ◌++◌, map, refl, sym, ap, ◌∙◌, subst}
 use Rattle.std.specs.Prelude.{nat_lt, if◌then◌else◌}
 use Rattle.std.specs.List.{AllByRecursion}
 use Rattle.pcode_model.specs.declared.listing.Listing.{Listing}
@@ -13,11 +13,11 @@ use Rattle.cmeaning.specs.declared.tree.Stmt.TheOpen.{Stmt-F, Arm-F}
 use Rattle.cmeaning.specs.declared.tree.Stmt.TheVariants as S
 use Rattle.cmeaning.specs.declared.tree.Stmt.TheViews.{out-roll-Stmt}
 use Rattle.cmeaning.specs.Do.{widths_in}
-use Rattle.cmeaning.specs.Flat.{Flat, Do, Test, Jump, Choose, Give, Piece, Branch, spans, all_labels, all_steps, arm_cases, arm_span, arm_spans, arm_steps, breaks, flat_of, found_in, piece_of, piece_step, pieces_of, returns_by}
+use Rattle.cmeaning.specs.Flat.{Flat, Do, Test, Jump, Piece, Branch, spans, all_labels, all_steps, arm_span, arm_spans, arm_steps, breaks, flat_of, found_in, piece_of, piece_step, pieces_of, returns_by}
 use Rattle.cmeaning.specs.Shape.{shape_of, is_right, has_width, is_condition}
 use Rattle.cmeaning.specs.Valid.{IsValid, Rule, Cased, all_cases, all_hold, are_cases_of, are_right, arms_hold, cased_of, cased_step, declared_in, has_case, is_assigned, is_long, is_space, is_target, is_variable, rule_of, rule_step}
 use Rattle.cmeaning.proofs.Flat.{branch_of, branch_is, piece_roll}
-use Rattle.runc.specs.Fits.{Fits, all_true, arm_fits, arm_step, fits_step, names_ram, stmt_fits}
+use Rattle.runc.specs.Fits.{Fits, all_true, arm_fits, arm_step, fits_step, stmt_fits}
 use Rattle.runc.specs.May.{MayStep, StepFits, fits_layer, may_layer}
 use Rattle.runc.proofs.Rules.{assigned_right, call_right, returned_right, right_condition, right_value, target_there, there}
 use Rattle.runc.proofs.Spaces.{both, inside, ram_accessed}

@@ -1,5 +1,5 @@
 -- What the rules of a valid tree say of expressions and variables.
-use Rattle.std.proofs.Common.{◌≡◌, ℕ, ◌<◌, ◌&&◌, ◌^◌, Bool, true, false, List, [], ◌∷◌, Option, Some, None, refl, ap, ◌∙◌}
+use Rattle.std.proofs.Common.{◌≡◌, ℕ, ◌<◌, ◌&&◌, ◌^◌, Bool, true, List, [], ◌∷◌, Option, Some, None, refl}
 use Rattle.std.specs.Prelude.{nat_lt, ◌==◌}
 use Rattle.std.proofs.lemmas.Bool.{ltb-true}
 use Rattle.bits_core.specs.declared.word.Width.{Width}
@@ -8,7 +8,7 @@ use Rattle.cmeaning.specs.declared.tree.CalleeDecl.{CalleeDecl}
 use Rattle.cmeaning.specs.declared.tree.Expr.{Expr}
 use Rattle.cmeaning.specs.Shape.{shape_of, is_right, has_width, is_condition}
 use Rattle.cmeaning.specs.Valid.{are_cases_of, are_right, have_widths, is_assigned, is_call, is_returned, is_target, is_variable, takes}
-use Rattle.runc.specs.May.{AreRight, IsFor, IsRight, IsTarget, may_give}
+use Rattle.runc.specs.May.{AreRight, IsFor, IsTarget, may_give}
 use Rattle.runc.proofs.Spaces.{both}
 
 pub right_width : (w : ℕ) (o : Option Shape) → has_width w o ≡ true → is_right o ≡ true

@@ -1,5 +1,5 @@
 -- The spaces of a well-formed listing.
-use Rattle.std.proofs.Common.{◌≡◌, ℕ, suc, ◌+◌, ◌<◌, ◌≤◌, ◌^◌, ◌&&◌, not, Bool, true, false, cond, List, [], ◌∷◌, Option, Some, None, refl, sym, ap, ◌∙◌, arith}
+use Rattle.std.proofs.Common.{◌≡◌, ℕ, suc, ◌+◌, ◌<◌, ◌≤◌, ◌^◌, ◌&&◌, not, Bool, true, false, cond, List, [], ◌∷◌, Option, Some, None, refl, ap, ◌∙◌, arith}
 use Rattle.std.specs.Prelude.{slice_get, nat_lt}
 use Rattle.std.proofs.lemmas.Bool.Decides.{nat_tests}
 use Rattle.pcode_model.specs.declared.listing.Listing.{Listing}
@@ -7,10 +7,10 @@ use Rattle.pcode_model.specs.declared.listing.Space.{Space}
 use Rattle.pcode_model.specs.declared.listing.SpaceKind.{SpaceKind}
 use Rattle.pcode_model.specs.declared.listing.SpaceKind.TheVariants.{Constant, Ram, Register, Unique}
 use Rattle.pcode_model.specs.declared.listing.Varnode.{Varnode}
-use Rattle.pcode_model.specs.Spaces.{first_ram, kind_in, kind_of, number_of, register_space, same_kind, size_in, size_of, unique_space}
+use Rattle.pcode_model.specs.Spaces.{first_ram, kind_in, kind_of, number_of, register_space, same_kind, size_of, unique_space}
 use Rattle.pcode_model.specs.WellFormed.{IsRegister, IsWellFormed, how_many}
 use Rattle.cmeaning.specs.Do.{accessed, space_named}
-use Rattle.worlds.specs.Setting.{HasShape, size}
+use Rattle.worlds.specs.Setting.{HasShape}
 use Rattle.worlds.specs.declared.shape.Shape.{Shape}
 use Rattle.worlds.proofs.Declared.{size_most}
 use Rattle.runc.specs.Fits.{lies_in, names_ram}

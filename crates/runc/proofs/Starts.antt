@@ -1,5 +1,5 @@
 -- What a run begins with.
-use Rattle.std.proofs.Common.{◌≡◌, ℕ, zero, suc, ◌+◌, ◌-◌, ◌*◌, ◌%◌, ◌<◌, ◌≤◌, ◌&&◌, Bool, true, false, List, [], ◌∷◌, length, get_or, drop, take, map, Option, Some, None, refl, sym, ap, ◌∙◌, arith, slice_get, add-one}
+use Rattle.std.proofs.Common.{◌≡◌, ℕ, zero, suc, ◌+◌, ◌-◌, ◌*◌, ◌%◌, ◌<◌, Bool, true, false, List, [], ◌∷◌, length, get_or, drop, take, map, Option, Some, None, refl, sym, ap, ◌∙◌, slice_get, add-one}
 use Rattle.std.specs.Prelude.{if◌then◌else◌, ◌==◌}
 use Rattle.std.proofs.Math.Dec.{eqb-suc-suc, eqb-suc-zero, eqb-zero-suc}
 use Rattle.std.proofs.Math.Nat.{mod-add-mod}
@@ -10,12 +10,11 @@ use Rattle.pcode_model.specs.declared.listing.Listing.{Listing}
 use Rattle.pcode_model.specs.declared.storage.ParamStorage.{ParamStorage}
 use Rattle.pcode_model.specs.declared.storage.ParamStorage.TheVariants.{Register, Unique, Stack}
 use Rattle.pcode_model.specs.Memory.{Bytes, or_else}
-use Rattle.pcode_model.specs.Spaces.{first_ram, put, size_of}
-use Rattle.pcode_model.specs.Step.{stack0}
+use Rattle.pcode_model.specs.Spaces.{put}
 use Rattle.pcode_model.specs.World as W
 use Rattle.cmeaning.specs.declared.tree.CFunction.{CFunction}
 use Rattle.cmeaning.specs.declared.tree.Param.{Param}
-use Rattle.cmeaning.specs.Do.{local_width, variable_width, widths_in}
+use Rattle.cmeaning.specs.Do.{variable_width, widths_in}
 use Rattle.cmeaning.specs.Step.{CState, at, first_word, start_c, word_at}
 use Rattle.worlds.specs.declared.entry.Entry.{Entry}
 use Rattle.worlds.specs.declared.trace.Event.{Event}

@@ -1,4 +1,4 @@
-use Rattle.runc.proofs.Spaces.{register_inside, register_small}
+use Rattle.runc.proofs.Spaces.{register_small}
 use Rattle.runc.proofs.start.pointer.Goals as goal
 
 pub new-shape-requires : goal.new-shape-requires

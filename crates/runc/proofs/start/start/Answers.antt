@@ -1,4 +1,4 @@
-use Rattle.std.proofs.Common.{ℕ, [], List, ap, ◌∙◌, None}
+use Rattle.std.proofs.Common.{[], List, ap, ◌∙◌, None}
 use Rattle.cmeaning.specs.declared.tree.Param.{Param}
 use Rattle.cvalue.specs.Held.{env_of}
 use Rattle.worlds.specs.declared.entry.Byte.{Byte}
