@@ -9,4 +9,5 @@ pub mod Runs
 mod Sets
 pub mod Places
 mod Firsts
+mod Order
 pub mod Grows

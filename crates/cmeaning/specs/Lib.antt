@@ -8,6 +8,7 @@ pub mod Mentions
 pub mod Places
 pub mod Valid
 pub mod Firsts
+pub mod Order
 pub mod Arms
 pub mod Examples
 pub mod Worked

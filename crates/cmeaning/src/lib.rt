@@ -5,6 +5,7 @@ mod body;
 mod callees;
 mod cases;
 pub mod numbering;
+mod params;
 mod rules;
 pub mod shape;
 pub mod tree;
