@@ -1,11 +1,11 @@
 -- Callees that stand first, each of its address and of its name, are apart.
-use Rattle.std.proofs.Common.{◌≡◌, ℕ, suc, ◌+◌, ◌==◌, ◌&&◌, not, Bool, true, false, List, [], ◌∷◌, ◌++◌, length, refl, sym, ap, ap₂, ◌∙◌, subst, arith}
+use Rattle.std.proofs.Common.{◌≡◌, ℕ, suc, ◌+◌, ◌==◌, ◌&&◌, not, Bool, true, false, List, [], ◌∷◌, ◌++◌, length, refl, sym, ap, ap₂, ◌∙◌, arith}
 use Rattle.std.specs.Prelude.{Option, Some, None, if◌then◌else◌}
 use Rattle.std.specs.Option.{option_map}
 use Rattle.std.specs.Str.{bytes_eq}
 use Rattle.std.specs.Cmp.Lexicographic.{bytes_decides}
 use Rattle.std.proofs.lemmas.Bool.Decides.{nat_tests}
-use Rattle.std.proofs.lemmas.List.{append_assoc, append-nil}
+use Rattle.std.proofs.lemmas.List.{append_assoc}
 use Rattle.cmeaning.specs.declared.tree.CName.{CName}
 use Rattle.cmeaning.specs.declared.tree.CName.TheVariants.{Declared, Bare}
 use Rattle.cmeaning.specs.declared.tree.CalleeDecl.{CalleeDecl}
@@ -136,9 +136,9 @@ firsts_are : (front cs all : List CalleeDecl) (n : ℕ) → all ≡ front ++ cs 
 firsts_are front [] all n is count = refl
 firsts_are front (c ∷ cs) all n is count =
     ap₂ (λ (t u : Bool). is_callee c && (t && u))
-        (ap₂ (λ (k : ℕ) (xs : List CalleeDecl). is_first k xs c) count is ∙ before_is front c cs)
-        (firsts_are (front ++ c ∷ []) cs all (n + 1) (is ∙ sym (append_assoc front (c ∷ []) cs)) (ap (λ (k : ℕ). k + 1) count ∙ sym (one_longer front))
-            ∙ ap (λ (t : Bool). t && are_callees cs) (all_more front c cs))
+    (ap₂ (λ (k : ℕ) (xs : List CalleeDecl). is_first k xs c) count is ∙ before_is front c cs)
+    (firsts_are (front ++ c ∷ []) cs all (n + 1) (is ∙ sym (append_assoc front (c ∷ []) cs)) (ap (λ (k : ℕ). k + 1) count ∙ sym (one_longer front))
+    ∙ ap (λ (t : Bool). t && are_callees cs) (all_more front c cs))
     ∙ moved (is_callee c) (are_before front c) (all_before front cs) (is_apart_from c cs) (are_callees cs)
   where
     one_longer : (xs : List CalleeDecl) → length (xs ++ c ∷ []) ≡ length xs + 1

@@ -10,4 +10,5 @@ mod Sets
 pub mod Places
 mod Firsts
 mod Order
+mod Entries
 pub mod Grows

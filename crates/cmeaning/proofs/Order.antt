@@ -13,7 +13,8 @@ use Rattle.pcode_model.specs.declared.storage.ParamStorage.TheVariants.{Register
 use Rattle.pcode_model.specs.Spaces.{or}
 use Rattle.cmeaning.specs.declared.tree.Param.{Param}
 use Rattle.cmeaning.specs.Valid.{is_storage, is_before, is_either_before, precedes_all, are_params}
-use Rattle.cmeaning.specs.Order.{key_of, key_cmp, has_key, HoldsKeys, comes_before, is_nothing, may_come, next_last, next_known, may_all_come}
+use Rattle.cmeaning.specs.Entries.{key_of, key_cmp}
+use Rattle.cmeaning.specs.Order.{has_key, HoldsKeys, comes_before, is_nothing, may_come, next_last, next_known, may_all_come}
 
 -- ---- storages
 
@@ -108,7 +109,7 @@ keys_more known p (q ∷ qs) model =
     ap₂ (λ (t u : Bool). (if q.model then not t else true) && u) (has_more (key_of q.storage) known p) (keys_more known p qs model)
     ∙ by_model q.model (has_key (key_of q.storage) known) (is_eq (key_cmp (key_of p.storage) (key_of q.storage))) (new_keys known qs) (precedes_all p qs)
     ∙ ap₂ (λ (t u : Bool). ((if q.model then not (has_key (key_of q.storage) known) else true) && new_keys known qs) && ((if t then (if q.model then u else true) else (not q.model && is_before p.storage q.storage)) && precedes_all p qs))
-        (sym model) (sym (either_is p.storage q.storage))
+    (sym model) (sym (either_is p.storage q.storage))
   where
     by_model : (m a b c d : Bool) → (if m then not (or a b) else true) && (c && d) ≡ ((if m then not a else true) && c) && ((if m then not b else true) && d)
     by_model false a b c d = refl
@@ -250,10 +251,12 @@ pub model_came : (set new : BTreeSet (ℕ × ℤ)) (last : Option ParamStorage) 
 model_came set new last known p key added right model first is_key is updates holds =
     let here : added ≡ not (has_key (key_of p.storage) known) = is ∙ ap (λ (k : ℕ × ℤ). not (contains key_cmp set k)) is_key ∙ ap not (holds (key_of p.storage)) in
     let says : may_come last known p ≡ not (has_key (key_of p.storage) known) =
-        ap₂ (λ (t m : Bool). t && (if m then (is_nothing last && not (has_key (key_of p.storage) known)) else comes_before last p.storage)) right model
-        ∙ ap (λ (t : Bool). t && not (has_key (key_of p.storage) known)) first in
-    (here ∙ sym says, λ t. subst (HoldsKeys new) (ap (λ (m : Bool). if m then known ++ p ∷ [] else known) (sym model))
-        (keys_put set new known p holds (subst (λ (k : ℕ × ℤ). Updates key_cmp set new k true) is_key updates)))
+    ap₂ (λ (t m : Bool). t && (if m then (is_nothing last && not (has_key (key_of p.storage) known)) else comes_before last p.storage)) right model
+    ∙ ap (λ (t : Bool). t && not (has_key (key_of p.storage) known)) first in (
+      here ∙ sym says,
+      λ t. subst (HoldsKeys new) (ap (λ (m : Bool). if m then known ++ p ∷ [] else known) (sym model))
+          (keys_put set new known p holds (subst (λ (k : ℕ × ℤ). Updates key_cmp set new k true) is_key updates)),
+    )
 
 -- ---- the turns of the loop
 

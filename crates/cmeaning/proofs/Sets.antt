@@ -98,7 +98,7 @@ value_added set new known values i within holds before added updates =
     let front : known ++ take (i + 1) values ≡ now ++ x ∷ [] = one_on known values i within in
     let absent : is_in x now ≡ false = sym (holds x) ∙ not_not (contains nat_cmp set x) (sym added) in
     let step : are_new now (drop i values) ≡ are_new (now ++ x ∷ []) (drop (i + 1) values) =
-        at_drop_more (are_new now) values i 0 within ∙ ap (λ (b : Bool). not b && are_new (now ++ x ∷ []) (drop (i + 1) values)) absent in
+    at_drop_more (are_new now) values i 0 within ∙ ap (λ (b : Bool). not b && are_new (now ++ x ∷ []) (drop (i + 1) values)) absent in
     (subst (Holds new) (sym front) (holds_more set new now x holds updates), ap (λ (k : List ℕ). are_new k (drop (i + 1) values)) front ∙ sym step ∙ before)
 
 pub value_known : (set : BTreeSet ℕ) (known values : List ℕ) (i : ℕ) → i < length values → Holds set (known ++ take i values) → are_new (known ++ take i values) (drop i values) ≡ are_new known values
@@ -108,7 +108,7 @@ value_known set known values i within holds before added =
     let now : List ℕ = known ++ take i values in
     let present : is_in x now ≡ true = sym (holds x) ∙ not_false (contains nat_cmp set x) added in
     let step : are_new now (drop i values) ≡ false =
-        at_drop_more (are_new now) values i 0 within ∙ ap (λ (b : Bool). not b && are_new (now ++ x ∷ []) (drop (i + 1) values)) present in
+    at_drop_more (are_new now) values i 0 within ∙ ap (λ (b : Bool). not b && are_new (now ++ x ∷ []) (drop (i + 1) values)) present in
     sym step ∙ before
 
 pub values_end : (set : BTreeSet ℕ) (known values : List ℕ) (i : ℕ) → length values ≤ i → Holds set (known ++ take i values) → are_new (known ++ take i values) (drop i values) ≡ are_new known values

@@ -9,6 +9,7 @@ pub mod Places
 pub mod Valid
 pub mod Firsts
 pub mod Order
+pub mod Entries
 pub mod Arms
 pub mod Examples
 pub mod Worked

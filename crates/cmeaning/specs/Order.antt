@@ -1,22 +1,12 @@
 -- Parameters one after another, by what came before.
-use Rattle.std.specs.Prelude.{◌≡◌, ℕ, ◌&&◌, not, Bool, true, false, if◌then◌else◌, ℤ, pos, List, [], ◌∷◌, ◌++◌, Option, Some, None}
-use Rattle.std.specs.Ordering.{is_eq, nat_cmp, int_cmp, ordering_then}
-use Rattle.std.specs.declared.cmp.Ordering.{Ordering}
+use Rattle.std.specs.Prelude.{◌≡◌, ℕ, ◌&&◌, not, Bool, true, false, if◌then◌else◌, ℤ, List, [], ◌∷◌, ◌++◌, Option, Some, None}
+use Rattle.std.specs.Ordering.{is_eq}
 use Rattle.std.specs.BTreeSet.{BTreeSet, contains}
 use Rattle.pcode_model.specs.declared.storage.ParamStorage.{ParamStorage}
-use Rattle.pcode_model.specs.declared.storage.ParamStorage.TheVariants.{Register, Unique, Stack}
 use Rattle.pcode_model.specs.Spaces.{or}
 use Rattle.cmeaning.specs.declared.tree.Param.{Param}
+use Rattle.cmeaning.specs.Entries.{key_of, key_cmp}
 use Rattle.cmeaning.specs.Valid.{is_storage, is_before}
-
--- a storage as a key: the number of its space, and its offset
-abbrev pub key_of : ParamStorage → ℕ × ℤ
-key_of (Register offset) = (0, pos offset)
-key_of (Unique offset) = (1, pos offset)
-key_of (Stack offset) = (2, offset)
-
-abbrev pub key_cmp : ℕ × ℤ → ℕ × ℤ → Ordering
-key_cmp a b = ordering_then (nat_cmp a.0 b.0) (int_cmp a.1 b.1)
 
 -- one of the parameters has the key
 abbrev pub has_key : ℕ × ℤ → List Param → Bool

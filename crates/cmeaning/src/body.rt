@@ -81,9 +81,7 @@ fn stmt_holds(
             index,
             args,
         } => Ok(other_fits(rules.f, *target, *index, args.as_slice())),
-        Stmt::Extra { target, offset } => {
-            Ok(extra_fits(rules.f, *target, *offset, after_call))
-        }
+        Stmt::Extra { target, offset } => { Ok(extra_fits(rules.f, *target, *offset, after_call)) }
         Stmt::Divide {
             target,
             left,
@@ -157,12 +155,7 @@ fn branches_hold(
 }
 
 #[cycle(body)]
-fn switch_holds(
-    rules: Rules<'_>,
-    value: &Expr,
-    arms: &[Arm],
-    room: u32,
-) -> Result<bool, Memory>
+fn switch_holds(rules: Rules<'_>, value: &Expr, arms: &[Arm], room: u32) -> Result<bool, Memory>
     ensures right { IfOk result (λ b. b ≡ (are_cases_of (cases_of arms.now) (shape_of (widths_in rules.entry.f.now) value.now) && arms_right rules.entry.f.now rules.entry.labels arms.now room)) }
     ensures without { rules.entry.memory ≡ None → IsOk result }
 {
@@ -175,12 +168,7 @@ fn switch_holds(
 
 /// Whether statements obey the rules, where so many levels of statements may stand.
 #[cycle(body)]
-fn all_hold_in(
-    rules: Rules<'_>,
-    body: &[Stmt],
-    in_loop: bool,
-    room: u32,
-) -> Result<bool, Memory>
+fn all_hold_in(rules: Rules<'_>, body: &[Stmt], in_loop: bool, room: u32) -> Result<bool, Memory>
     ensures right { IfOk result (λ b. b ≡ all_hold false (map (rule_of rules.entry.f.now rules.entry.labels) body.now) in_loop room) }
     ensures without { rules.entry.memory ≡ None → IsOk result }
 {

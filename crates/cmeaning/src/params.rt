@@ -3,7 +3,8 @@
 ghost use Rattle.std.specs.Prelude.{◌≡◌, ℕ, List, [], ℤ, None, IsTrue, IfOk, IsOk};
 ghost use Rattle.cmeaning.specs.declared.tree.Param.{Param as Variable};
 ghost use Rattle.cmeaning.specs.Valid.{is_storage, is_before, may_precede, precedes_all, are_params};
-ghost use Rattle.cmeaning.specs.Order.{key_of, HoldsKeys, comes_before, may_come, next_last, next_known};
+ghost use Rattle.cmeaning.specs.Entries.{key_of};
+ghost use Rattle.cmeaning.specs.Order.{HoldsKeys, comes_before, may_come, next_last, next_known};
 
 use crate::tree::Param;
 use bits_core::Memory;
@@ -73,7 +74,7 @@ fn in_pairs(params: &[Param]) -> bool
 }
 
 /// The number of the storage's space, and its offset.
-fn key(p: ParamStorage) -> (u8, i128)
+pub(crate) fn key(p: ParamStorage) -> (u8, i128)
     ensures { result ≡ key_of p }
 {
     match p {

@@ -279,7 +279,8 @@ pub fn valid(f: &CFunction) -> bool
     }
 }
 
-/// Whether a tree is valid, as `valid` says it. With memory for the case values of one switch, it compares no pairs of them.
+/// Whether a tree is valid, as `valid` says it. With memory for the case values of one switch and for the
+/// parameters, it compares no pairs of them.
 pub fn checked(alloc: Global, f: &CFunction) -> Result<bool, Memory>
     ensures { IfOk result (λ b. IsTrue b ↔ IsValid f.now) }
 {
