@@ -1,8 +1,7 @@
 -- Facts of the rules of a valid tree.
-use Rattle.std.proofs.Common.{◌≡◌, ◌≢◌, ℕ, suc, ◌==◌, ◌&&◌, ◌∙◌, Bool, true, false, List, [], ◌∷◌, length, refl, ap}
+use Rattle.std.proofs.Common.{◌≡◌, ◌≢◌, ℕ, suc, ◌&&◌, ◌∙◌, Bool, true, false, List, [], ◌∷◌, length, refl, ap}
 use Rattle.bits_core.specs.declared.word.Width.{Width}
 use Rattle.cmeaning.specs.declared.tree.Expr.{Expr}
-use Rattle.cmeaning.specs.Do.{same_name}
 use Rattle.cmeaning.specs.Shape.{shape_of, has_width}
 use Rattle.cmeaning.specs.Valid.{have_widths}
 

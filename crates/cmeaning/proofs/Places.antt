@@ -1,14 +1,14 @@
 -- The first places of callees, by tables.
-use Rattle.std.proofs.Common.{◌≡◌, ℕ, suc, ◌+◌, ◌<◌, ◌==◌, Bool, true, false, List, [], ◌∷◌, ◌++◌, length, refl, sym, ap, ap₂, ◌∙◌, subst, arith}
+use Rattle.std.proofs.Common.{◌≡◌, ℕ, suc, ◌<◌, ◌==◌, Bool, true, false, List, [], ◌∷◌, ◌++◌, length, refl, sym, ap, ap₂, ◌∙◌, subst, arith}
 use Rattle.std.specs.declared.cmp.Ordering.{Ordering}
 use Rattle.std.specs.Option.{option_map}
 use Rattle.std.specs.Prelude.{Option, Some, None, is_some, cond, if◌then◌else◌, slice_get}
-use Rattle.std.specs.Ordering.{nat_cmp, is_eq, eq_by_cmp}
+use Rattle.std.specs.Ordering.{nat_cmp, is_eq}
 use Rattle.std.specs.Cmp.{unsigned_tied, eq_by_cmp_equiv}
 use Rattle.std.specs.Cmp.Lexicographic.{slice_cmp, nat_list_cmp_total, bytes_decides}
 use Rattle.std.specs.Str.{bytes_eq}
 use Rattle.std.specs.Map.{lookup, IsKeyTest, AreApart, KeepsOthers}
-use Rattle.std.specs.BTreeMap.{BTreeMap, get, get_by, Updates, UpdatesBy}
+use Rattle.std.specs.BTreeMap.{BTreeMap, get, get_by, Updates}
 use Rattle.std.proofs.lemmas.Bool.Decides.{nat_tests}
 use Rattle.std.proofs.lemmas.Map.Text.{is_eq-slice_cmp}
 use Rattle.cmeaning.specs.declared.tree.CName.{CName}
@@ -104,7 +104,7 @@ place_more test (y ∷ ys) x = by_test (test y) (place_more test ys x)
 
 -- a table by any queries, of which some hit the new thing
 module _ {A Q : Type 0} (test : Q → A → Bool) (xs : List A) (x : A) (old : Q → Option ℕ) (table : (q : Q) → old q ≡ place (test q) xs) where
-  put : (new : Q → Option ℕ) → ((q : Q) → new q ≡ cond (test q x) (Some (length xs)) (old q)) → ((q : Q) → test q x ≡ true → old q ≡ None) → (q : Q) → new q ≡ place (test q) (xs ++ x ∷ [])
+  pub put : (new : Q → Option ℕ) → ((q : Q) → new q ≡ cond (test q x) (Some (length xs)) (old q)) → ((q : Q) → test q x ≡ true → old q ≡ None) → (q : Q) → new q ≡ place (test q) (xs ++ x ∷ [])
   put new update absent q = update q ∙ by_test (test q x) refl (old q) refl ∙ sym (place_more (test q) xs x)
     where
       by_test : (t : Bool) → test q x ≡ t → (o : Option ℕ) → old q ≡ o → cond t (Some (length xs)) (old q) ≡ or_new (place (test q) xs) t (length xs)
@@ -112,7 +112,7 @@ module _ {A Q : Type 0} (test : Q → A → Bool) (xs : List A) (x : A) (old : Q
       by_test false miss None is = is ∙ ap (λ (p : Option ℕ). or_new p false (length xs)) (sym is ∙ table q)
       by_test false miss (Some n) is = is ∙ ap (λ (p : Option ℕ). or_new p false (length xs)) (sym is ∙ table q)
 
-  kept : ((q : Q) → test q x ≡ true → old q ≡ None → ⊥) → (q : Q) → old q ≡ place (test q) (xs ++ x ∷ [])
+  pub kept : ((q : Q) → test q x ≡ true → old q ≡ None → ⊥) → (q : Q) → old q ≡ place (test q) (xs ++ x ∷ [])
   kept present q = by_test (test q x) refl (old q) refl ∙ sym (place_more (test q) xs x)
     where
       by_test : (t : Bool) → test q x ≡ t → (o : Option ℕ) → old q ≡ o → old q ≡ or_new (place (test q) xs) t (length xs)

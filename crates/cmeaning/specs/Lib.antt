@@ -8,6 +8,8 @@ pub mod Mentions
 pub mod Places
 pub mod Valid
 pub mod Firsts
+pub mod Order
+pub mod Entries
 pub mod Arms
 pub mod Examples
 pub mod Worked

@@ -5,6 +5,8 @@ mod body;
 mod callees;
 mod cases;
 pub mod numbering;
+mod param_decls;
+mod params;
 mod rules;
 pub mod shape;
 pub mod tree;
@@ -12,11 +14,12 @@ pub mod worked;
 
 pub use callees::CalleeDecls;
 pub use numbering::Next;
+pub use param_decls::ParamDecls;
 pub use rules::{checked, has_name_form, valid};
 pub use shape::Shape;
 pub use tree::{
     ArithmeticOp, Arm, Arms, Body, CFunction, CName, CalleeDecl, CompareOp, CountOp, DivisionOp,
-    Expr, Exprs, ExtendOp, Local, Locals, OverflowOp, Param, Params, ShiftOp, SignedCompareOp,
+    Expr, Exprs, ExtendOp, Local, Locals, OverflowOp, Param, ShiftOp, SignedCompareOp,
     SignedDivisionOp, StatementDivision, Stmt, UnaryOp, Values, Widths,
 };
 

@@ -1,19 +1,20 @@
-//! The rules of a valid tree, but for those of expressions, case values and bodies.
+//! The rules of a valid tree, but for those of parameters, expressions, case values and bodies.
 
 ghost use Rattle.std.specs.Prelude.{◌≡◌, ◌==◌, ◌++◌, ◌&&◌, ◌<◌, ◌^◌, ◌↔◌, IsTrue, List, length, map, nat_le, nat_lt, not, true, false, None, IfOk, IsOk};
 ghost use Rattle.cmeaning.specs.declared.tree.CFunction.{CFunction as Function};
 ghost use Rattle.cmeaning.specs.Do.{widths_in};
 ghost use Rattle.cmeaning.specs.Shape.{shape_of, is_right, has_width as is_wide, is_condition};
 ghost use Rattle.cmeaning.specs.Firsts.{are_firsts};
-ghost use Rattle.cmeaning.specs.Valid.{is_letter, is_letter_or_digit, all_letters_or_digits, begins_well, is_name, is_storage, is_before, is_either_before, may_precede, precedes_all, are_params, is_callee_name, result_fits, is_callee, are_callees, declared_in, is_variable, is_target, is_space, are_right, have_widths, takes, is_call, is_assigned, is_returned, is_long, is_complete, IsValid};
+ghost use Rattle.cmeaning.specs.Valid.{is_letter, is_letter_or_digit, all_letters_or_digits, begins_well, is_name, are_params, is_callee_name, result_fits, is_callee, are_callees, declared_in, is_variable, is_target, is_space, are_right, have_widths, takes, is_call, is_assigned, is_returned, is_long, is_complete, IsValid};
 
 use crate::body::body_holds;
 use crate::callees::CalleeDecls;
 use crate::numbering::{Next, number_body};
+use crate::params::params_fit;
 use crate::shape::{has_width, obeys, variable_width};
-use crate::tree::{CFunction, CName, CalleeDecl, Expr, Param};
+use crate::tree::{CFunction, CName, CalleeDecl, Expr};
 use bits_core::{Memory, Width};
-use pcode_model::{Name, ParamStorage};
+use pcode_model::Name;
 use std::alloc::Global;
 
 // ---- names
@@ -55,69 +56,6 @@ pub fn has_name_form(name: &[u8]) -> bool
     ensures { result ≡ is_name name.now }
 {
     starts_well(name) && letters_or_digits(name) && name.len() <= 64
-}
-
-// ---- parameters
-
-fn before(a: ParamStorage, b: ParamStorage) -> bool
-    ensures { result ≡ is_before a b }
-{
-    match a {
-        ParamStorage::Register(x) => match b {
-            ParamStorage::Register(y) => x < y,
-            _ => true,
-        },
-        ParamStorage::Unique(x) => match b {
-            ParamStorage::Register(_) => false,
-            ParamStorage::Unique(y) => x < y,
-            ParamStorage::Stack(_) => true,
-        },
-        ParamStorage::Stack(x) => match b {
-            ParamStorage::Stack(y) => x < y,
-            _ => false,
-        },
-    }
-}
-
-fn precedes(p: &Param, q: &Param) -> bool
-    ensures { result ≡ may_precede p.now q.now }
-{
-    if !p.model {
-        return !q.model && before(p.storage, q.storage);
-    }
-    !q.model || before(p.storage, q.storage) || before(q.storage, p.storage)
-}
-
-fn precedes_each(p: &Param, params: &[Param]) -> bool
-    ensures { result ≡ precedes_all p.now params.now }
-{
-    for q in params {
-        if !precedes(p, q) {
-            return false;
-        }
-    }
-    true
-}
-
-fn storage_fits(p: ParamStorage) -> bool
-    ensures { result ≡ is_storage p }
-{
-    match p {
-        ParamStorage::Register(_) => true,
-        ParamStorage::Unique(_) => true,
-        ParamStorage::Stack(_) => true,
-    }
-}
-
-fn params_fit(params: &[Param]) -> bool
-    ensures { result ≡ are_params params.now }
-{
-    for i in 0..params.len() {
-        if !storage_fits(params[i].storage) || !precedes_each(&params[i], &params[i + 1..]) {
-            return false;
-        }
-    }
-    true
 }
 
 // ---- declarations of callees
@@ -287,10 +225,15 @@ pub(crate) fn divide_fits(f: &CFunction, v: u32, left: &Expr, right: &Expr) -> b
 
 // ---- functions
 
-fn header_fits(f: &CFunction) -> bool
-    ensures { result ≡ (is_name f.now.name && (are_params f.now.params && are_callees f.now.callees)) }
+fn header_fits(memory: Option<Global>, f: &CFunction) -> Result<bool, Memory>
+    ensures right { IfOk result (λ b. b ≡ (is_name f.now.name && (are_params f.now.params && are_callees f.now.callees))) }
+    ensures without { memory ≡ None → IsOk result }
 {
-    has_name_form(f.name.as_slice()) && params_fit(f.params.as_slice()) && callees_fit(&f.callees)
+    if !has_name_form(f.name.as_slice()) {
+        return Ok(false);
+    }
+    let ordered = params_fit(memory, f.params.as_slice())?;
+    Ok(ordered && callees_fit(&f.callees))
 }
 
 fn body_fits(memory: Option<Global>, f: &CFunction, next: Option<Next>) -> Result<bool, Memory>
@@ -319,7 +262,8 @@ fn obeys_all(memory: Option<Global>, f: &CFunction) -> Result<bool, Memory>
         label: 1,
     };
     let next = number_body(&f.callees, Some(first), f.body.as_slice());
-    if !header_fits(f) {
+    let header = header_fits(memory, f)?;
+    if !header {
         return Ok(false);
     }
     body_fits(memory, f, next)
@@ -335,7 +279,8 @@ pub fn valid(f: &CFunction) -> bool
     }
 }
 
-/// Whether a tree is valid, as `valid` says it. With memory for the case values of one switch, it compares no pairs of them.
+/// Whether a tree is valid, as `valid` says it. With memory for the case values of one switch and for the
+/// parameters, it compares no pairs of them.
 pub fn checked(alloc: Global, f: &CFunction) -> Result<bool, Memory>
     ensures { IfOk result (λ b. IsTrue b ↔ IsValid f.now) }
 {

@@ -17,15 +17,18 @@ fn one_more(alloc: Global, v: u32) -> Result<Expr, AllocError> {
     Ok(Expr::Arithmetic(ArithmeticOp::Add, left, right))
 }
 
-// A function of one parameter, variable 0, and so many locals.
-fn function(alloc: Global, locals: u32, body: Body) -> Result<CFunction, AllocError> {
-    let mut params = Items::new(alloc);
-    params.push(Param {
-        storage: ParamStorage::Register(0x38),
-        model: true,
+fn param(model: bool, storage: ParamStorage) -> Param {
+    Param {
+        storage,
+        model,
         width: FOUR,
         signed: false,
-    })?;
+    }
+}
+
+// A function of one parameter, variable 0, and so many locals.
+fn function(alloc: Global, locals: u32, body: Body) -> Result<CFunction, AllocError> {
+    let params = ParamDecls::new(alloc).with(param(true, ParamStorage::Register(0x38)))?;
     let mut all = Items::new(alloc);
     for _ in 0..locals {
         all.push(Local {
@@ -34,7 +37,7 @@ fn function(alloc: Global, locals: u32, body: Body) -> Result<CFunction, AllocEr
         })?;
     }
     Ok(CFunction {
-        callees: Items::new(alloc),
+        callees: CalleeDecls::new(alloc),
         name: Items::from_slice(alloc, b"add1")?,
         gives: Some(FOUR),
         params,
@@ -113,6 +116,52 @@ fn trees_are_valid_by_their_rules(rt: HostRuntime) -> Result<(), Fail> {
         let body = before(rt.alloc(), case)?;
         let f = function(rt.alloc(), locals, body)?;
         assert_eq!(rt; valid(&f), right, "case {case} with {locals} locals");
+    }
+    Ok(())
+}
+
+// Two parameters, and `return p + 1;` of the first.
+fn of_two(alloc: Global, first: Param, second: Param) -> Result<CFunction, AllocError> {
+    let mut f = function(alloc, 0, before(alloc, 0)?)?;
+    f.params = ParamDecls::new(alloc).with(first)?.with(second)?;
+    Ok(f)
+}
+
+#[test]
+fn parameters_are_in_order(rt: HostRuntime) -> Result<(), Fail> {
+    let low = ParamStorage::Register(0);
+    let high = ParamStorage::Register(8);
+    let unique = ParamStorage::Unique(4);
+    let table = [
+        (true, low, true, high, true),
+        (true, high, true, low, true),
+        (true, high, true, high, false),
+        (true, high, false, high, true),
+        (false, low, true, high, false),
+        (false, low, false, high, true),
+        (false, high, false, low, false),
+        (false, high, false, high, false),
+        (false, high, false, unique, true),
+        (false, unique, false, high, false),
+        (
+            false,
+            ParamStorage::Stack(-4),
+            false,
+            ParamStorage::Stack(4),
+            true,
+        ),
+        (
+            false,
+            ParamStorage::Stack(4),
+            false,
+            ParamStorage::Stack(-4),
+            false,
+        ),
+    ];
+    for (a, first, b, second, right) in table {
+        let f = of_two(rt.alloc(), param(a, first), param(b, second))?;
+        assert_eq!(rt; valid(&f), right);
+        assert_eq!(rt; checked(rt.alloc(), &f)?, right);
     }
     Ok(())
 }

@@ -3,6 +3,7 @@
 //! A variable is named by its number: the parameters first, then the locals. Widths are in bytes.
 
 use crate::callees::CalleeDecls;
+use crate::param_decls::ParamDecls;
 use bits_core::{Width, Word};
 use pcode_model::{Name, ParamStorage};
 use sqlite_items::{Boxed, Items};
@@ -16,8 +17,6 @@ pub type Arms = Items<Arm>;
 pub type Values = Items<u128>;
 
 pub type Widths = Items<Width>;
-
-pub type Params = Items<Param>;
 
 pub type Locals = Items<Local>;
 
@@ -249,7 +248,7 @@ pub struct CFunction {
     pub callees: CalleeDecls,
     pub name: Name,
     pub gives: Option<Width>,
-    pub params: Params,
+    pub params: ParamDecls,
     pub locals: Locals,
     pub body: Body,
 }

@@ -15,3 +15,4 @@ pub mod Switches
 pub mod Whole
 pub mod Widths
 mod Named
+mod Places

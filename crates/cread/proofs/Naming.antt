@@ -15,7 +15,8 @@ use Rattle.cmeaning.specs.Valid.{is_storage, is_before, is_either_before, may_pr
 use Rattle.ctext.specs.Names.{storage_text, param_name, local_name, Scope, variable, of_param_or_local, of_local}
 use Rattle.cread.specs.declared.item.Entry.{Entry}
 use Rattle.cread.specs.Words.{after}
-use Rattle.cread.specs.Names.{storage_at, entry_at, same_flag, same_storage, is_entry, place_of, variable_at}
+use Rattle.cmeaning.specs.Entries.{same_flag, same_storage}
+use Rattle.cread.specs.Names.{storage_at, entry_at, is_entry, place_of, variable_at}
 use Rattle.cread.proofs.Fronts.{and_both, hex_again, decimal_again, hex_begins}
 
 -- what may stand behind an operand, and behind a whole expression

@@ -14,6 +14,7 @@ use Rattle.cmeaning.specs.declared.tree.Param.{Param}
 use Rattle.cmeaning.specs.declared.tree.CName.{CName}
 use Rattle.cmeaning.specs.declared.tree.CName.TheVariants.{Declared, Bare}
 use Rattle.cmeaning.specs.declared.tree.CalleeDecl.{CalleeDecl}
+use Rattle.cmeaning.specs.Entries.{is_param}
 use Rattle.ctext.specs.Names.{Scope}
 use Rattle.cread.specs.declared.item.Entry.{Entry}
 use Rattle.cread.specs.Words.{◌>>=◌, after, chosen, decimal_at, hex_at}
@@ -82,24 +83,8 @@ entry_at bytes =
 
 -- ---- the numbers of variables
 
-abbrev pub same_flag : Bool → Bool → Bool
-same_flag true b = b
-same_flag false true = false
-same_flag false false = true
-
-abbrev pub same_storage : ParamStorage → ParamStorage → Bool
-same_storage (Register a) (Register b) = a == b
-same_storage (Register a) (Unique b) = false
-same_storage (Register a) (Stack b) = false
-same_storage (Unique a) (Register b) = false
-same_storage (Unique a) (Unique b) = a == b
-same_storage (Unique a) (Stack b) = false
-same_storage (Stack a) (Register b) = false
-same_storage (Stack a) (Unique b) = false
-same_storage (Stack a) (Stack b) = int_eq a b
-
 abbrev pub is_entry : Entry → Param → Bool
-is_entry e p = same_flag p.model e.model && same_storage p.storage e.storage
+is_entry e p = is_param e.model e.storage p
 
 -- the place of a parameter, where the first has the place n
 abbrev pub place_of : Entry → ℕ → List Param → Option ℕ

@@ -10,7 +10,7 @@ use crate::statements::body;
 use crate::words::{decimal, hex, name, need, skip};
 use bits_core::Width;
 use cmeaning::{
-    Body, CFunction, CName, CalleeDecl, CalleeDecls, Local, Locals, Param, Params, Widths,
+    Body, CFunction, CName, CalleeDecl, CalleeDecls, Local, Locals, Param, ParamDecls, Widths,
 };
 use pcode_model::Name;
 use std::alloc::Global;
@@ -206,7 +206,7 @@ fn next_param(bytes: &[u8]) -> Result<(Param, &[u8]), CFault>
 }
 
 #[tactic(auto, using(crate::proofs::Rows::row_more, crate::proofs::Rows::row_stops, crate::proofs::Rows::row_ends))]
-fn add_params(found: Params, bytes: &[u8]) -> Result<(Params, &[u8]), CFault>
+fn add_params(found: ParamDecls, bytes: &[u8]) -> Result<(ParamDecls, &[u8]), CFault>
     ensures { Gives (λ x. (x.0, x.1.now)) result (Some (behind found (more_params bytes.now))) }
 {
     let mut found = found;
@@ -214,7 +214,7 @@ fn add_params(found: Params, bytes: &[u8]) -> Result<(Params, &[u8]), CFault>
     for _ in 0..bytes.len() {
         match next_param(rest) {
             Ok((p, more)) => {
-                found.push(p)?;
+                found = found.with(p)?;
                 rest = more;
             }
             Err(CFault::NotC) => return Ok((found, rest)),
@@ -225,16 +225,15 @@ fn add_params(found: Params, bytes: &[u8]) -> Result<(Params, &[u8]), CFault>
 }
 
 #[tactic(auto, unfolding(crate::specs::Functions::params_at))]
-fn params(alloc: Global, bytes: &[u8]) -> Result<(Params, &[u8]), CFault>
+fn params(alloc: Global, bytes: &[u8]) -> Result<(ParamDecls, &[u8]), CFault>
     ensures { Gives (λ x. (x.0, x.1.now)) result (params_at bytes.now) }
 {
-    let mut found = Params::new(alloc);
+    let found = ParamDecls::new(alloc);
     if let Some(rest) = skip(b"void", bytes) {
         return Ok((found, rest));
     }
     let (p, rest) = param(bytes)?;
-    found.push(p)?;
-    add_params(found, rest)
+    add_params(found.with(p)?, rest)
 }
 
 /// The line of a local.

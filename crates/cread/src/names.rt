@@ -4,12 +4,12 @@ ghost use Rattle.std.specs.Prelude.{◌≡◌, ◌<◌, ◌%◌, ◌^◌, length
 ghost use Rattle.std.specs.Option.{option_map};
 ghost use Rattle.ctext.specs.Names.{scope_of};
 ghost use Rattle.cread.specs.Words.{decimal_at};
-ghost use Rattle.cread.specs.Names.{width_by, word_by, typed, type_at, below_at, stack_at, storage_at, entry_by, entry_at, same_flag, same_storage as equal_storage, is_entry, place_of, small, local_by, param_by, variable_at, address_of as address_in};
+ghost use Rattle.cread.specs.Names.{width_by, word_by, typed, type_at, below_at, stack_at, storage_at, entry_by, entry_at, place_of, small, local_by, param_by, variable_at, address_of as address_in};
 
 use crate::item::Entry;
 use crate::words::{decimal, hex, skip};
 use bits_core::{Width, Word};
-use cmeaning::{CFunction, CalleeDecls, Local, Param};
+use cmeaning::{CFunction, CalleeDecls, Local, ParamDecls};
 use pcode_model::ParamStorage;
 
 /// The width of so many bytes, or the nearest one.
@@ -124,36 +124,12 @@ pub fn entry(bytes: &[u8]) -> Option<(Entry, &[u8])>
 
 // ---- the numbers of variables
 
-fn same_storage(a: ParamStorage, b: ParamStorage) -> bool
-    ensures { result ≡ equal_storage a b }
-{
-    match (a, b) {
-        (ParamStorage::Register(x), ParamStorage::Register(y)) => x == y,
-        (ParamStorage::Unique(x), ParamStorage::Unique(y)) => x == y,
-        (ParamStorage::Stack(x), ParamStorage::Stack(y)) => x == y,
-        _ => false,
-    }
-}
-
-fn is_at(e: Entry, p: &Param) -> bool
-    ensures { result ≡ is_entry e p.now }
-{
-    p.model == e.model && same_storage(p.storage, e.storage)
-}
-
 /// The place of a parameter.
-fn place(e: Entry, params: &[Param]) -> Option<usize>
+fn place(e: Entry, params: &ParamDecls) -> Option<usize>
     ensures value { result ≡ place_of e 0 params.now }
     ensures within { IfSome result (λ n. n < length params.now) }
 {
-    let mut n = 0;
-    for p in params {
-        if is_at(e, p) {
-            return Some(n);
-        }
-        n += 1;
-    }
-    None
+    params.place(e.model, e.storage)
 }
 
 fn narrowed(n: usize) -> Option<u32>
@@ -175,7 +151,7 @@ fn local(count: usize, n: u128, rest: &[u8]) -> Option<(u32, &[u8])>
     Some((k, rest))
 }
 
-fn param<'b>(params: &[Param], e: Entry, rest: &'b [u8]) -> Option<(u32, &'b [u8])>
+fn param<'b>(params: &ParamDecls, e: Entry, rest: &'b [u8]) -> Option<(u32, &'b [u8])>
     ensures { option_map (λ x. (x.0, x.1.now)) result ≡ param_by params.now (e, rest.now) }
 {
     let k = place(e, params)?;
@@ -193,7 +169,7 @@ pub fn variable<'b>(f: &CFunction, bytes: &'b [u8]) -> Option<(u32, &'b [u8])>
         return local(f.params.as_slice().len(), n, rest);
     }
     let (e, rest) = entry(bytes)?;
-    param(f.params.as_slice(), e, rest)
+    param(&f.params, e, rest)
 }
 
 // ---- callees

@@ -122,6 +122,31 @@ fn calls(rt: &HostRuntime, count: u32, last: u32) -> Result<Vec<u8>, Fail> {
     Ok(text)
 }
 
+// So many of the prototype's arguments and one more, with the offset `last`, each of them assigned.
+fn params(rt: &HostRuntime, count: u32, last: u32) -> Result<Vec<u8>, Fail> {
+    let mut text = Vec::new(rt.alloc());
+    text.extend_from_slice(b"void f_f(")?;
+    for n in 0..count {
+        put_line(rt, &mut text, b"u32 p_register_", n, b", ")?;
+    }
+    put_line(rt, &mut text, b"u32 p_register_", last, b")\n{\n")?;
+    for n in 0..count {
+        put_line(rt, &mut text, b"  p_register_", n, b" = ")?;
+        put_line(rt, &mut text, b"p_register_", last, b";\n")?;
+    }
+    text.extend_from_slice(b"  return;\n}\n")?;
+    Ok(text)
+}
+
+#[test]
+fn many_parameters(rt: HostRuntime) -> Result<(), Fail> {
+    for (last, good) in [(2000, true), (1999, false), (0, false)] {
+        let text = params(&rt, 2000, last)?;
+        assert_eq!(rt; is_c(&rt, text.as_slice())?, good, "offset {last}");
+    }
+    Ok(())
+}
+
 #[test]
 fn many_cases_and_callees(rt: HostRuntime) -> Result<(), Fail> {
     for (last, good) in [(400, true), (399, false), (0, false)] {

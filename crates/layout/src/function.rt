@@ -7,17 +7,17 @@ use crate::labels::labels;
 use crate::lines::{add_block, add_jump};
 use bits_core::{Memory, Width};
 use blockcode::{Block, Blocks, Code, Variable};
-use cmeaning::{Body, CFunction, CalleeDecls, Local, Locals, Param, Params};
+use cmeaning::{Body, CFunction, CalleeDecls, Local, Locals, Param, ParamDecls};
 use pcode_model::Name;
 use std::alloc::Global;
 
-fn params(alloc: Global, variables: &[Variable]) -> Result<Params, Memory>
+fn params(alloc: Global, variables: &[Variable]) -> Result<ParamDecls, Memory>
     ensures { IfOk result (λ ps. ps ≡ params_of variables.now) }
 {
-    let mut params = Params::new(alloc);
+    let mut params = ParamDecls::new(alloc);
     for variable in variables {
         if let Some(storage) = variable.storage {
-            params.push(Param {
+            params = params.with(Param {
                 storage,
                 model: false,
                 width: variable.width,

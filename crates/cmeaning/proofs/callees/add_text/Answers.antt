@@ -1,4 +1,3 @@
-use Rattle.std.proofs.Common.{ap, ◌∙◌}
 use Rattle.std.specs.Prelude.{vec_items}
 use Rattle.cmeaning.proofs.Places.{known_there, nothing_there, name_kept, name_put, at}
 use Rattle.cmeaning.proofs.callees.add_text.Goals as goal

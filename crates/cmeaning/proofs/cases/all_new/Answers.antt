@@ -1,4 +1,3 @@
-use Rattle.std.proofs.Common.{◌≡◌, refl}
 use Rattle.cmeaning.proofs.Sets.{arm_added, arm_known, arms_end}
 use Rattle.cmeaning.proofs.cases.all_new.Goals as goal
 

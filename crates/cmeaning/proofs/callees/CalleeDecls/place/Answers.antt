@@ -1,4 +1,4 @@
-use Rattle.std.proofs.Common.{◌≤◌, ◌<◌, length, sym, ap, ◌∙◌, subst, arith}
+use Rattle.std.proofs.Common.{◌<◌, length, sym, ap, ◌∙◌, subst, arith}
 use Rattle.cmeaning.specs.Mentions.{place_of}
 use Rattle.cmeaning.specs.Places.{has_address}
 use Rattle.cmeaning.proofs.Places.{some_first, place_none, place_some}
