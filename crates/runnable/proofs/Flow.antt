@@ -1,5 +1,5 @@
 -- Faults of the flow as refusals.
-use Rattle.std.proofs.Common.{ℕ, List}
+use Rattle.std.proofs.Common.{ℕ, List, []}
 use Rattle.pcode_model.specs.declared.listing.Listing.{Listing}
 use Rattle.flow.specs.Answer.{IsFlowFault}
 use Rattle.flow.specs.declared.answer.FlowFault.{FlowFault}

@@ -1,7 +1,7 @@
 -- Which inputs are listings that are run, and why the others are refused. This project's own.
 -- The order of refusals: faults of the text, faults of ops, a `stack` line or a BRANCHIND, faults of the flow, too many
 -- blocks. How many ranges a listing accesses isn't asked, as a run keeps bytes.
-use Rattle.std.specs.Prelude.{◌≡◌, ℕ, ◌≤◌, List, [], length, Some, None, ⊤}
+use Rattle.std.specs.Prelude.{◌≡◌, ◌≤◌, List, [], length, Some, ⊤}
 use Rattle.pcode_model.specs.declared.listing.Listing.{Listing}
 use Rattle.pcode_model.specs.declared.listing.Place.{Place}
 use Rattle.pcode_model.specs.Flow.{AreStarts, NoFault}

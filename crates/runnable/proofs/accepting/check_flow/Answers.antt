@@ -1,5 +1,4 @@
 use Rattle.std.proofs.Common.{List, sym, subst}
-use Rattle.pcode_model.specs.declared.flow.Block.{Block}
 use Rattle.pcode_model.specs.declared.tables.TableAt.{TableAt}
 use Rattle.pcode_model.specs.Flow.{IsFlow, NoFault}
 use Rattle.flow.specs.Answer.{IsFlowFault}
@@ -13,6 +12,11 @@ pub returns-in-Ok-clause-no_fault : goal.returns-in-Ok-clause-no_fault
 returns-in-Ok-clause-no_fault c =
     let P : List TableAt → Type 0 = λ t. NoFault c.args.listing.now t in
     subst P c.new-tables.ensures c.in-Ok.ensures.no_fault
+
+pub returns-in-Ok-clause-few : goal.returns-in-Ok-clause-few
+returns-in-Ok-clause-few c =
+    let P : List TableAt → Type 0 = λ t. IsFlow c.args.listing.now t c.in-Ok.field-0 in
+    few_starts c.args.listing.now c.in-Ok.field-0 (subst P c.new-tables.ensures c.in-Ok.ensures.blocks) c.in-Ok.ensures.few
 
 pub returns-clause-stops : goal.returns-clause-stops
 returns-clause-stops c =
