@@ -1,0 +1,53 @@
+-- What stands at a place of a listing that can run.
+use Rattle.std.proofs.Common.{◌≡◌, ◌<◌, ◌^◌, ◌==◌, ℕ, zero, suc, Bool, true, false, cond, List, [], ◌∷◌, length, Option, Some, inl, inr, sym, subst, ap, ◌∙◌}
+use Rattle.std.specs.Prelude.{slice_get}
+use Rattle.std.specs.List.{AllByRecursion}
+use Rattle.pcode_model.specs.declared.listing.Instruction.{Instruction}
+use Rattle.pcode_model.specs.declared.listing.Listing.{Listing}
+use Rattle.pcode_model.specs.declared.listing.Op.{Op}
+use Rattle.pcode_model.specs.Flow.{IsIn}
+use Rattle.pcode_model.specs.Places.{Does, instruction_at, instruction_in, op_in, place, standing, standing_in, standing_of}
+use Rattle.pcode_model.specs.Rules.{HasFewOps}
+use Rattle.pcode_model.specs.WellFormed.{HasOps, IsOp}
+use Rattle.op_laws.proofs.Rules.{in_code}
+use Rattle.whole_memory.specs.Course.{CanRun}
+use Rattle.pcode_run.specs.Steps.{Obeys}
+
+either_in : (j i : Instruction) (rest : List Instruction) (o : Option Instruction) (b : Bool) → cond b (Some j) o ≡ Some i → (o ≡ Some i → IsIn i rest) → IsIn i (j ∷ rest)
+either_in j i rest o true e later = let same : j ≡ i = cc in inl (sym same)
+either_in j i rest o false e later = inr (later e)
+
+found_in : (code : List Instruction) (a : ℕ) (i : Instruction) → instruction_in code a ≡ Some i → IsIn i code
+found_in [] a i is = absurd (cc)
+found_in (j ∷ rest) a i is = either_in j i rest (instruction_in rest a) (j.address == a) is (found_in rest a i)
+
+some_in : (ops : List Op) (n : ℕ) (op : Op) → slice_get ops n ≡ Some op → IsIn op ops
+some_in [] n op is = absurd (cc)
+some_in (x ∷ ops) zero op is = let same : x ≡ op = cc in inl (sym same)
+some_in (x ∷ ops) (suc n) op is = inr (some_in ops n op is)
+
+each : {A : Type 0} (P : A → Type 0) (x : A) (xs : List A) → AllByRecursion P xs → IsIn x xs → P x
+each P x [] all is = absurd is
+each P x (y ∷ ys) all (inl e) = subst P (sym e) all.0
+each P x (y ∷ ys) all (inr is) = each P x ys all.1 is
+
+few_in : (i : Instruction) (code : List Instruction) → HasFewOps code → IsIn i code → length i.ops < 2 ^ 32
+few_in i [] few is = absurd is
+few_in i (j ∷ rest) few (inl e) = let P : Instruction → Type 0 = λ x. length x.ops < 2 ^ 32 in subst P (sym e) few.0
+few_in i (j ∷ rest) few (inr is) = few_in i rest few.1 is
+
+pub few_ops : (l : Listing) (a : ℕ) (i : Instruction) → CanRun l → instruction_at l a ≡ Some i → length i.ops < 2 ^ 32
+few_ops l a i can here = few_in i l.code can.formed.few (found_in l.code a i here)
+
+pub op_obeys : (l : Listing) (a n : ℕ) (i : Instruction) (op : Op) → CanRun l → instruction_at l a ≡ Some i → slice_get i.ops n ≡ Some op → Obeys l op
+op_obeys l a n i op can here is = record {
+  formed = each IsOp op i.ops (each HasOps i l.code can.formed.ops (found_in l.code a i here)) (some_in i.ops n op is);
+  checked = in_code l l.code can.checked i (found_in l.code a i here) op (some_in i.ops n op is);
+}
+
+pub does_in : (i : Instruction) (ops : List Op) (n : ℕ) (op : Op) → slice_get ops n ≡ Some op → standing_in i ops n ≡ Does i op
+does_in i [] n op is = absurd (cc)
+does_in i (x ∷ ops) n op is = ap (op_in i) is
+
+pub does_at : (l : Listing) (a n : ℕ) (i : Instruction) (op : Op) → instruction_at l a ≡ Some i → slice_get i.ops n ≡ Some op → standing l (place a n) ≡ Does i op
+does_at l a n i op here is = ap (λ (o : Option Instruction). standing_of o n) here ∙ does_in i i.ops n op is

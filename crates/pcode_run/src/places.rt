@@ -1,0 +1,91 @@
+//! Where ops lead.
+
+ghost use Rattle.std.specs.Prelude.{◌≡◌, ◌<◌, ◌≤◌, ◌^◌, length, MatchOption, pos, ◌+ℤ◌};
+ghost use Rattle.bits_core.specs.Value.{signed, limit as limit_of};
+ghost use Rattle.pcode_model.specs.Places.{branch_place, next_instruction, next_place, relative_place};
+ghost use Rattle.flow.specs.Edges.{IsNegative};
+ghost use Rattle.runp.specs.State.{place_of, places_of};
+
+use pcode_model::{Instruction, Varnode};
+use runp::state::Spot;
+
+/// Index 0 of the instruction that follows.
+pub fn next_instruction(instruction: &Instruction) -> Spot
+    ensures { place_of result ≡ next_instruction instruction.now }
+{
+    Spot {
+        address: u128::from(instruction.address) + u128::from(instruction.length),
+        index: 0,
+    }
+}
+
+/// The next place after an index of an instruction.
+pub fn next_spot(instruction: &Instruction, index: u32) -> Spot
+    requires { length instruction.now.ops < 2 ^ 32 }
+    ensures { place_of result ≡ next_place instruction.now index }
+{
+    let next = index as usize + 1;
+    if next < instruction.ops.len() {
+        Spot {
+            address: u128::from(instruction.address),
+            index: next as u32,
+        }
+    } else {
+        next_instruction(instruction)
+    }
+}
+
+fn limit(size: u32) -> u128
+    requires { size ≤ 8 }
+    ensures { result ≡ limit_of size }
+{
+    1u128 << (8 * size)
+}
+
+// The index of a relative branch, whose count is signed at its own size. None where it is negative.
+fn relative_index(index: u32, count: Varnode) -> Option<u128>
+    ensures { MatchOption result (IsNegative (pos index +ℤ signed count.size count.offset)) (λ m. pos index +ℤ signed count.size count.offset ≡ pos m) }
+{
+    let offset = u128::from(count.offset);
+    let sum = u128::from(index) + offset;
+    if count.size > 8 {
+        return Some(sum);
+    }
+    let limit = limit(count.size);
+    if offset < limit / 2 {
+        Some(sum)
+    } else {
+        sum.checked_sub(limit)
+    }
+}
+
+// Where a relative branch leads. None where its index is below 0 or above the op count.
+fn relative_spot(instruction: &Instruction, index: u32, count: Varnode) -> Option<Spot>
+    requires { length instruction.now.ops < 2 ^ 32 }
+    ensures { places_of result ≡ relative_place instruction.now index count }
+{
+    let ops = instruction.ops.len() as u128;
+    match relative_index(index, count) {
+        Some(target) if target < ops => Some(Spot {
+            address: u128::from(instruction.address),
+            index: target as u32,
+        }),
+        Some(target) if target == ops => Some(next_instruction(instruction)),
+        _ => None,
+    }
+}
+
+/// Where a branch at an index of an instruction to this destination leads.
+pub fn branch_spot(instruction: &Instruction, index: u32, to: Varnode) -> Option<Spot>
+    requires { length instruction.now.ops < 2 ^ 32 }
+    ensures { places_of result ≡ branch_place instruction.now index to }
+{
+    if to.space == 0 {
+        relative_spot(instruction, index, to)
+    } else {
+        Some(Spot {
+            address: u128::from(to.offset),
+            index: 0,
+        })
+    }
+}

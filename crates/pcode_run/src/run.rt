@@ -1,0 +1,159 @@
+//! The run.
+
+ghost use Rattle.std.specs.Prelude.{◌≡◌, ◌≤◌, ◌↔◌, None, IfOk, IfSome, IsTrue};
+ghost use Rattle.machine.specs.Machine.{seen};
+ghost use Rattle.pcode_model.specs.Memory.{whole};
+ghost use Rattle.pcode_model.specs.Rules.{first_bad};
+ghost use Rattle.pcode_model.specs.Step.{first_whole, layout, machine, seen_p, stack_word, start};
+ghost use Rattle.pcode_model.specs.WellFormed.{IsWellFormed};
+ghost use Rattle.worlds.specs.Maps.{bytes_of};
+ghost use Rattle.worlds.specs.Meaning.{entry_of, trace_of};
+ghost use Rattle.whole_memory.specs.declared.course.Course.{Course};
+ghost use Rattle.whole_memory.specs.Course.{CanRun, IsCourse, layout_of, whole_of};
+ghost use Rattle.whole_memory.specs.Frame.{frame_of};
+ghost use Rattle.runp.specs.State.{state_of};
+ghost use Rattle.pcode_run.specs.Run.{LiesInRam, OwnsFirstRam};
+
+use crate::step::step;
+use bits_core::Memory;
+use pcode_model::{Listing, Varnode};
+use runp::operands::local_word;
+use runp::state::{Spot, State};
+use std::alloc::Global;
+use whole_memory::{Course, Frame, Whole};
+use worlds::{ByteMap, Entry, Events, Log, OffsetMap, Setting, Shape, Trace};
+
+/// Whether the run of a listing can be carried out: at most 256 spaces, and a stack pointer of at most 8 bytes.
+pub fn can_run(listing: &Listing) -> bool
+    requires formed { IsWellFormed listing.now }
+    requires checked { first_bad listing.now ≡ None }
+    ensures { IsTrue result ↔ CanRun listing.now }
+{
+    listing.spaces.len() <= 256 && is_narrow(listing.stack)
+}
+
+fn is_narrow(stack: Option<Varnode>) -> bool
+    ensures { IsTrue result ↔ IfSome stack (λ v. v.size ≤ 8) }
+{
+    match stack {
+        Some(v) => v.size <= 8,
+        None => true,
+    }
+}
+
+// What the memory begins with.
+fn first_memory(alloc: Global, listing: &Listing, entry: &Entry) -> Result<Whole, Memory>
+    requires { IsWellFormed listing.now }
+    ensures { IfOk result (λ memory. whole_of memory ≡ first_whole (entry_of listing.now entry.now)) }
+{
+    let bytes = ByteMap::first(alloc, listing, entry.state.as_slice())?;
+    let hidden = OffsetMap::of_bytes(alloc, entry.hidden.as_slice())?;
+    Ok(Whole {
+        bytes,
+        hidden,
+        spoiled: OffsetMap::new(alloc),
+    })
+}
+
+// The state that the run of a listing begins with.
+fn start(alloc: Global, listing: &Listing, entry: &Entry) -> Result<State, Memory>
+    requires { IsWellFormed listing.now }
+    ensures local { IfOk result (λ state. bytes_of state.local ≡ (entry_of listing.now entry.now).bytes) }
+    ensures state { IfOk result (λ state. (c : Course) → c.answers.now ≡ entry.now.answers → state_of c state ≡ start listing.now (entry_of listing.now entry.now) (first_whole (entry_of listing.now entry.now))) }
+{
+    let local = ByteMap::first(alloc, listing, entry.state.as_slice())?;
+    let memory = first_memory(alloc, listing, entry)?;
+    Ok(State {
+        at: Spot {
+            address: u128::from(listing.func.address),
+            index: 0,
+        },
+        local,
+        memory,
+        log: Log {
+            taken: 0,
+            events: Events::new(alloc),
+            end: None,
+        },
+    })
+}
+
+// The stack pointer's word.
+fn stack_word(course: &Course, local: &ByteMap) -> Result<u64, Memory>
+    requires { IsCourse course.now }
+    ensures { IfOk result (λ n. n ≡ stack_word course.now.listing.now course.now.listing.now.stack (bytes_of local.now)) }
+{
+    match course.listing.stack {
+        Some(sp) => {
+            let word = local_word(course, local, sp)?;
+            Ok(word.value as u64)
+        }
+        None => Ok(0),
+    }
+}
+
+// What stays the same during the run from a state on.
+fn course<'a>(
+    alloc: Global,
+    listing: &'a Listing,
+    frame: &'a Frame,
+    entry: &'a Entry,
+    local: &ByteMap,
+) -> Result<Course<'a>, Memory>
+    requires can { CanRun listing.now }
+    requires local { bytes_of local.now ≡ (entry_of listing.now entry.now).bytes }
+    ensures course { IfOk result IsCourse }
+    ensures listing { IfOk result (λ c. c.listing.now ≡ listing.now) }
+    ensures frame { IfOk result (λ c. c.frame.now ≡ frame.now) }
+    ensures answers { IfOk result (λ c. c.answers.now ≡ entry.now.answers) }
+    ensures layout { IfOk result (λ c. layout_of c ≡ layout listing.now (frame_of frame.now) (entry_of listing.now entry.now)) }
+{
+    let setting = Setting::new(alloc, listing)?;
+    let ram = Shape::new(listing, setting.first_ram);
+    let mut course = Course {
+        alloc,
+        listing,
+        frame,
+        answers: entry.answers.as_slice(),
+        setting,
+        ram,
+        stack0: 0,
+    };
+    course.stack0 = stack_word(&course, local)?;
+    Ok(course)
+}
+
+// What the run has shown after n steps from a state on.
+fn run_from(course: &Course, state: State, n: u32) -> Result<Trace, Memory>
+    requires course { IsCourse course.now }
+    requires owns { OwnsFirstRam course.now.listing.now (frame_of course.now.frame.now) }
+    ensures { IfOk result (λ t. trace_of t ≡ seen (machine (whole (layout_of course.now)) course.now.listing.now (frame_of course.now.frame.now)) (state_of course.now state) n) }
+{
+    let mut state = state;
+    for _ in 0..n {
+        if state.log.end.is_some() {
+            break;
+        }
+        step(course, &mut state)?;
+    }
+    let State { log, .. } = state;
+    let Log { events, end, .. } = log;
+    Ok(Trace { events, end })
+}
+
+/// What the run of a listing's p-code has shown after n steps, with the frame's variables.
+pub fn run_p(
+    alloc: Global,
+    listing: &Listing,
+    frame: &Frame,
+    entry: &Entry,
+    n: u32,
+) -> Result<Trace, Memory>
+    requires can { CanRun listing.now }
+    requires owns { LiesInRam listing.now frame.now }
+    ensures { IfOk result (λ t. trace_of t ≡ seen_p listing.now (frame_of frame.now) (entry_of listing.now entry.now) n) }
+{
+    let state = start(alloc, listing, entry)?;
+    let course = course(alloc, listing, frame, entry, &state.local)?;
+    run_from(&course, state, n)
+}
