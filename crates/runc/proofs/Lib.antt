@@ -1,0 +1,12 @@
+pub mod Bytes
+pub mod Spaces
+pub mod Rules
+pub mod Every
+pub mod Values
+pub mod Effects
+pub mod Asking
+pub mod Accesses
+pub mod Meaningless
+pub mod Positions
+pub mod Turns
+pub mod Starts
