@@ -9,8 +9,9 @@ mod refusal;
 mod request;
 mod top;
 
+pub use message::put_words;
 pub use outcome::{Outcome, deliver, work_out};
-pub use passes::decompile;
+pub use passes::{accept, decompile};
 pub use refusal::Refusal;
 pub use request::{Request, read_words};
 pub use top::decompile_words;

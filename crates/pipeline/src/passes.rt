@@ -6,7 +6,7 @@ ghost use Rattle.pcode_model.specs.WellFormed.{IsWellFormed};
 ghost use Rattle.pcodetext.specs.Formed.{IsRead};
 ghost use Rattle.pipeline.specs.Lowers.{Lowers, StopsLowering};
 ghost use Rattle.pipeline.specs.Outcome.{IsCause};
-ghost use Rattle.pipeline.specs.Verdict.{IsAccepted, MayPrint};
+ghost use Rattle.pipeline.specs.Verdict.{Accepts, IsAccepted, MayPrint};
 ghost use Rattle.stackvars.specs.Accessed.{AreAccessed};
 ghost use Rattle.supported.specs.Supported.{IsSupported};
 
@@ -38,6 +38,24 @@ pub fn decompile(alloc: Global, bytes: &[u8]) -> Result<Text, Refusal>
     let function = lower(alloc, &listing)?;
     let text = print_c(alloc, &function)?;
     Ok(text)
+}
+
+/// The listing of an input that is accepted, or why it isn't.
+pub fn accept(alloc: Global, bytes: &[u8]) -> Result<Listing, Refusal>
+    requires { length bytes.now ≤ 2 ^ 32 - 2 }
+    ensures accepted { IfOk result (Accepts bytes.now) }
+    ensures read { IfOk result IsRead }
+    ensures refused { IfErr result (IsCause bytes.now) }
+{
+    let listing = read_listing(alloc, bytes)?;
+    check_ops(&listing)?;
+    let built = is_supported(alloc, &listing)?;
+    if !built {
+        return Err(Refusal::NotBuilt);
+    }
+    let flow = blocks(alloc, &listing)?;
+    ranges(alloc, &listing, &flow)?;
+    Ok(listing)
 }
 
 /// The C function of a listing that is built: its blocks, its atoms, the plain lowering, and that one's layout.
