@@ -6,7 +6,7 @@ ghost use Rattle.pcode_model.specs.WellFormed.{IsWellFormed};
 ghost use Rattle.pcodetext.specs.Formed.{IsRead};
 ghost use Rattle.pipeline.specs.Lowers.{Lowers, StopsLowering};
 ghost use Rattle.pipeline.specs.Outcome.{IsCause};
-ghost use Rattle.pipeline.specs.Verdict.{Accepts, IsAccepted, MayPrint};
+ghost use Rattle.pipeline.specs.Verdict.{Accepts, IsAccepted, IsGood, MayPrint};
 ghost use Rattle.stackvars.specs.Accessed.{AreAccessed};
 ghost use Rattle.supported.specs.Supported.{IsSupported};
 
@@ -22,11 +22,12 @@ use stackvars::atoms;
 use std::alloc::Global;
 use supported::is_supported;
 
-/// The C of a listing, or why there is none.
-pub fn decompile(alloc: Global, bytes: &[u8]) -> Result<Text, Refusal>
+// The listing of an input that is built.
+fn read_built(alloc: Global, bytes: &[u8]) -> Result<Listing, Refusal>
     requires { length bytes.now ≤ 2 ^ 32 - 2 }
-    ensures accepted { OnOk result (IsAccepted bytes.now) }
-    ensures text { IfOk result (λ text. MayPrint bytes.now text.items) }
+    ensures good { IfOk result (IsGood bytes.now) }
+    ensures read { IfOk result IsRead }
+    ensures supported { IfOk result IsSupported }
     ensures refused { IfErr result (IsCause bytes.now) }
 {
     let listing = read_listing(alloc, bytes)?;
@@ -35,6 +36,17 @@ pub fn decompile(alloc: Global, bytes: &[u8]) -> Result<Text, Refusal>
     if !built {
         return Err(Refusal::NotBuilt);
     }
+    Ok(listing)
+}
+
+/// The C of a listing, or why there is none.
+pub fn decompile(alloc: Global, bytes: &[u8]) -> Result<Text, Refusal>
+    requires { length bytes.now ≤ 2 ^ 32 - 2 }
+    ensures accepted { OnOk result (IsAccepted bytes.now) }
+    ensures text { IfOk result (λ text. MayPrint bytes.now text.items) }
+    ensures refused { IfErr result (IsCause bytes.now) }
+{
+    let listing = read_built(alloc, bytes)?;
     let function = lower(alloc, &listing)?;
     let text = print_c(alloc, &function)?;
     Ok(text)
@@ -47,12 +59,7 @@ pub fn accept(alloc: Global, bytes: &[u8]) -> Result<Listing, Refusal>
     ensures read { IfOk result IsRead }
     ensures refused { IfErr result (IsCause bytes.now) }
 {
-    let listing = read_listing(alloc, bytes)?;
-    check_ops(&listing)?;
-    let built = is_supported(alloc, &listing)?;
-    if !built {
-        return Err(Refusal::NotBuilt);
-    }
+    let listing = read_built(alloc, bytes)?;
     let flow = blocks(alloc, &listing)?;
     ranges(alloc, &listing, &flow)?;
     Ok(listing)

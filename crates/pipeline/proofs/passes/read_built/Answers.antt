@@ -1,5 +1,5 @@
 use Rattle.pipeline.proofs.Forms.{named_in_space}
-use Rattle.pipeline.proofs.passes.decompile.Goals as goal
+use Rattle.pipeline.proofs.passes.read_built.Goals as goal
 
 pub is_supported-requires : goal.is_supported-requires
 is_supported-requires c = named_in_space c.in_ok-listing.listing c.in_ok-listing.ensures.formed c.in_ok-check_ops.ensures.ok
