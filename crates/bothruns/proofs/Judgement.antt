@@ -8,7 +8,6 @@ use Rattle.pcodetext.specs.Formed.{IsRead}
 use Rattle.cmeaning.specs.declared.tree.CFunction.{CFunction}
 use Rattle.worlds.specs.declared.entry.Entry.{Entry}
 use Rattle.whole_memory.specs.Course.{CanRun}
-use Rattle.supported.specs.Supported.{IsSupported}
 use Rattle.runwords.specs.declared.files.Inputs.{Inputs}
 use Rattle.runwords.specs.declared.outcome.Outcome.{Outcome}
 use Rattle.runwords.specs.declared.outcome.Outcome.TheVariants as outcome

@@ -46,7 +46,9 @@ fn status(
     let mut shelf = MemShelf::new(shelf, Fails::new(alloc));
     let mut words = Words::new(alloc);
     for word in ["l", "c", "e", steps] {
-        words.push(String::from_str(alloc, word)?).map_err(|_| "memory")?;
+        words
+            .push(String::from_str(alloc, word)?)
+            .map_err(|_| "memory")?;
     }
     let mut out = MemSink::new(alloc, 999, Fails::new(alloc)).map_err(|_| "memory")?;
     let mut err = MemSink::new(alloc, 999, Fails::new(alloc)).map_err(|_| "memory")?;
@@ -64,12 +66,27 @@ fn runs_both_machines(rt: HostRuntime) -> Result<(), Fail> {
     let going = "p going\nc returned 0x6\nboth: p in c\n";
     assert_eq!(rt; status(alloc, &files, "1", going, "")?, Some(0));
     let files = [("l", ADD_ONE), ("c", "x"), ("e", OF_5)];
-    assert_eq!(rt; status(alloc, &files, "10", "", "runboth: not C\n")?, Some(1));
+    assert_eq!(rt;
+        status(alloc, &files, "10", "", "runboth: not C\n")?,
+        Some(1)
+    );
     let files = [("l", "x"), ("c", "x"), ("e", OF_5)];
-    assert_eq!(rt; status(alloc, &files, "10", "", "runboth: line 1: syntax\n")?, Some(1));
+    assert_eq!(rt;
+        status(alloc, &files, "10", "", "runboth: line 1: syntax\n")?,
+        Some(1)
+    );
     let files = [("l", ADD_ONE), ("c", ITS_C), ("e", "entry 1\n")];
-    assert_eq!(rt; status(alloc, &files, "10", "", "runboth: entry line 2: syntax\n")?, Some(1));
-    assert_eq!(rt; status(alloc, &files[..2], "10", "", "runboth: read fault\n")?, Some(3));
-    assert_eq!(rt; status(alloc, &files, "010", "", "runboth: bad arguments\n")?, Some(2));
+    assert_eq!(rt;
+        status(alloc, &files, "10", "", "runboth: entry line 2: syntax\n")?,
+        Some(1)
+    );
+    assert_eq!(rt;
+        status(alloc, &files[..2], "10", "", "runboth: read fault\n")?,
+        Some(3)
+    );
+    assert_eq!(rt;
+        status(alloc, &files, "010", "", "runboth: bad arguments\n")?,
+        Some(2)
+    );
     Ok(())
 }
