@@ -10,6 +10,7 @@ mod request;
 mod top;
 mod verdict;
 
+pub use message::put_words;
 pub use outcome::{Outcome, deliver, work_out};
 pub use passes::{decompile, lower};
 pub use refusal::Refusal;

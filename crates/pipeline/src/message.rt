@@ -24,7 +24,8 @@ pub fn refusal_line(alloc: Global, refusal: &Refusal) -> Result<Text, Memory>
     Ok(line)
 }
 
-fn put_words(alloc: Global, out: &mut Text, refusal: &Refusal) -> Result<(), Memory>
+/// Puts the words of a refusal behind a text, without the name of the command and a line feed.
+pub fn put_words(alloc: Global, out: &mut Text, refusal: &Refusal) -> Result<(), Memory>
     ensures { OnOk result (out.new.items ≡ out.old.items ++ words_of refusal.now) }
 {
     match refusal {

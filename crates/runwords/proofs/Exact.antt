@@ -160,7 +160,7 @@ module _ (Shows : Inputs → ℕ → Bytes → Type 0) (Faults : Inputs → Byte
 
 -- ---- the whole table
 
-ended : (Shows : Inputs → ℕ → Bytes → Type 0) (Faults : Inputs → Bytes → Type 0) (asked : Option Asked) (reads : Asked → Result Inputs ReadEnd → Type 0) (o : Outcome) → Ends asked reads o → Because Shows Faults asked reads o
+pub ended : (Shows : Inputs → ℕ → Bytes → Type 0) (Faults : Inputs → Bytes → Type 0) (asked : Option Asked) (reads : Asked → Result Inputs ReadEnd → Type 0) (o : Outcome) → Ends asked reads o → Because Shows Faults asked reads o
 ended Shows Faults asked reads (outcome.Shown text) h = absurd h
 ended Shows Faults asked reads (outcome.Refused line) h = absurd h
 ended Shows Faults asked reads outcome.BadArguments h = h
@@ -168,7 +168,7 @@ ended Shows Faults asked reads outcome.ReadFault h = h
 ended Shows Faults asked reads outcome.TooLong h = h
 ended Shows Faults asked reads outcome.Memory h = tt
 
-judged : (Shows : Inputs → ℕ → Bytes → Type 0) (Faults : Inputs → Bytes → Type 0) (asked : Option Asked) (reads : Asked → Result Inputs ReadEnd → Type 0) (g : Gathered) (o : Outcome)
+pub judged : (Shows : Inputs → ℕ → Bytes → Type 0) (Faults : Inputs → Bytes → Type 0) (asked : Option Asked) (reads : Asked → Result Inputs ReadEnd → Type 0) (g : Gathered) (o : Outcome)
     → IsGathered asked reads g → IsJudged Shows Faults g.inputs g.steps o → Because Shows Faults asked reads o
 judged Shows Faults asked reads g (outcome.Shown text) (a, (is, (read, steps))) h = (a, (g.inputs, (is, (read, (let P : ℕ → Type 0 = λ n. Shows g.inputs n text.items in subst P steps h)))))
 judged Shows Faults asked reads g (outcome.Refused line) (a, (is, (read, steps))) h = (a, (g.inputs, (is, (read, h))))
@@ -178,7 +178,7 @@ judged Shows Faults asked reads g outcome.TooLong w h = absurd h
 judged Shows Faults asked reads g outcome.Memory w h = tt
 
 module _ (Shows : Inputs → ℕ → Bytes → Type 0) (Faults : Inputs → Bytes → Type 0) (asked : Option Asked) (shelf shelf_new : Told) (out out_new err err_new : Held) where
-  table : (o : Outcome) (status : ℕ) → Because Shows Faults asked (λ a came. AllFetched a shelf shelf_new came) o → Delivers o out out_new err err_new status → Table Shows Faults asked shelf shelf_new out out_new err err_new status
+  pub table : (o : Outcome) (status : ℕ) → Because Shows Faults asked (λ a came. AllFetched a shelf shelf_new came) o → Delivers o out out_new err err_new status → Table Shows Faults asked shelf shelf_new out out_new err err_new status
   table o status why told = record {
     rows = rows Shows Faults asked (λ a came. AllFetched a shelf shelf_new came) out out_new err err_new o status why told;
     exact = λ quiet_shelf quiet_out quiet_err files is. exact Shows Faults shelf shelf_new quiet_shelf files is out out_new err err_new quiet_out quiet_err asked o status why told;

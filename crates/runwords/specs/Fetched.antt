@@ -1,5 +1,5 @@
 -- What comes of reading the files. This project's own.
-use Rattle.std.specs.Prelude.{◌≡◌, ◌⊎◌, ℕ, List, length, nat_lt, Option, Some, None, Result, Ok, Err, if◌then◌else◌}
+use Rattle.std.specs.Prelude.{◌≡◌, ◌⊎◌, ◌≤◌, ℕ, List, length, nat_lt, Option, Some, None, Result, Ok, Err, if◌then◌else◌}
 use Rattle.outside.specs.Causes.{Rose}
 use Rattle.outside.specs.Files.{IsFile, IsMissing, file_of}
 use Rattle.outside.specs.Reading.{Gave}
@@ -12,6 +12,12 @@ use Rattle.runwords.specs.declared.files.Inputs.{Inputs}
 -- the greatest number of bytes of a file
 abbrev pub limit : ℕ
 limit = 4194304
+
+-- no file has more bytes
+pub record AreShort (i : Inputs) : Type 0 where
+  pub listing : length i.listing ≤ limit
+  pub c_text : length i.c_text ≤ limit
+  pub entry : length i.entry ≤ limit
 
 -- the named file was selected, and nothing else changed
 pub record Selected (name : List ℕ) (old new : Told) : Type 0 where

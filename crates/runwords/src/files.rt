@@ -1,8 +1,8 @@
 //! The files that are read, in their order.
 
-ghost use Rattle.std.specs.Prelude.{◌≡◌, ◌≤◌};
+ghost use Rattle.std.specs.Prelude.{◌≡◌, ◌≤◌, length, IfOk};
 ghost use Rattle.runwords.specs.Request.{plan_of};
-ghost use Rattle.runwords.specs.Fetched.{AllFetched, Fetched};
+ghost use Rattle.runwords.specs.Fetched.{AllFetched, AreShort, Fetched, limit};
 
 use crate::plan::Plan;
 use outside::{Bytes, ReadEnd, Shelf, read_all};
@@ -22,6 +22,7 @@ pub struct Inputs {
 // The bytes of a file, if these are at most `LIMIT`.
 fn fetch_one<H: Shelf>(alloc: Global, shelf: &mut H, name: &str) -> Result<Bytes, ReadEnd>
     ensures fetched { Fetched name.now (H.told shelf.old) (H.told shelf.new) result }
+    ensures short { IfOk result (λ bytes. length bytes ≤ limit) }
     ensures files { (H.told shelf.new).files ≡ (H.told shelf.old).files }
     ensures later { (H.told shelf.old).faults ≤ (H.told shelf.new).faults }
 {
@@ -34,6 +35,7 @@ fn fetch_one<H: Shelf>(alloc: Global, shelf: &mut H, name: &str) -> Result<Bytes
 /// The bytes of the three files, which are read one after the other. The first that fails or is too long ends it.
 pub fn fetch<H: Shelf>(alloc: Global, shelf: &mut H, plan: &Plan) -> Result<Inputs, ReadEnd>
     ensures fetched { AllFetched (plan_of plan.now) (H.told shelf.old) (H.told shelf.new) result }
+    ensures short { IfOk result AreShort }
     ensures files { (H.told shelf.new).files ≡ (H.told shelf.old).files }
     ensures later { (H.told shelf.old).faults ≤ (H.told shelf.new).faults }
 {

@@ -1,7 +1,7 @@
 //! The words and the files together.
 
 ghost use Rattle.std.specs.Prelude.{◌≡◌, ◌≤◌, map, string_bytes, None, IfErr, IfOk};
-ghost use Rattle.runwords.specs.Fetched.{AllFetched};
+ghost use Rattle.runwords.specs.Fetched.{AllFetched, AreShort};
 ghost use Rattle.runwords.specs.Request.{asked_by};
 ghost use Rattle.runwords.specs.Table.{Ends, IsGathered};
 
@@ -22,6 +22,7 @@ pub struct Gathered {
 /// What the words ask for, read from the shelf. Where that is nothing, or can't be read, what the call comes to.
 pub fn gather<H: Shelf>(alloc: Global, words: &Words, shelf: &mut H) -> Result<Gathered, Outcome>
     ensures inputs { IfOk result (λ g. IsGathered (asked_by (map string_bytes words.now)) (λ a came. AllFetched a (H.told shelf.old) (H.told shelf.new) came) g) }
+    ensures short { IfOk result (λ g. AreShort g.inputs) }
     ensures ends { IfErr result (λ outcome. Ends (asked_by (map string_bytes words.now)) (λ a came. AllFetched a (H.told shelf.old) (H.told shelf.new) came) outcome) }
     ensures stays { asked_by (map string_bytes words.now) ≡ None → shelf.new ≡ shelf.old }
     ensures files { (H.told shelf.new).files ≡ (H.told shelf.old).files }

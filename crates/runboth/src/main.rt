@@ -1,0 +1,37 @@
+//! The program: the words of the command line, the file system, the standard streams, and the top call.
+#![tactic(auto)]
+
+use bothruns::runboth_words;
+use outside::{StdSink, Words};
+use shelves::FileShelf;
+use std::env;
+use std::io::{self, ErrorKind};
+use std::process::ExitCode;
+
+const BAD_ARGUMENTS: u8 = 2;
+
+const NO_MEMORY: u8 = 5;
+
+fn main(rt: HostRuntime) -> ExitCode {
+    let words = match words_of(&rt) {
+        Ok(words) => words,
+        Err(error) if error.kind() == ErrorKind::OutOfMemory => return ExitCode::from(NO_MEMORY),
+        Err(_) => return ExitCode::from(BAD_ARGUMENTS),
+    };
+    let mut shelf = FileShelf::new(&rt);
+    let mut out = StdSink::new(rt.stdout());
+    let mut err = StdSink::new(rt.stderr());
+    let status = runboth_words(rt.alloc(), &words, &mut shelf, &mut out, &mut err);
+    ExitCode::from(status)
+}
+
+/// The words after the program's name.
+fn words_of(rt: &HostRuntime) -> io::Result<Words> {
+    let mut words = Words::new(rt.alloc());
+    for word in env::args(rt)?.skip(1) {
+        if words.push(word).is_err() {
+            return Err(io::Error::from(ErrorKind::OutOfMemory));
+        }
+    }
+    Ok(words)
+}
