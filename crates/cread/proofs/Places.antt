@@ -1,9 +1,10 @@
 -- The places of parameters, as the tables have them.
-use Rattle.std.proofs.Common.{◌≡◌, ℕ, suc, ◌+◌, Bool, true, false, List, [], ◌∷◌, refl, sym, ap, ◌∙◌, arith}
-use Rattle.std.specs.Prelude.{Option, Some, None, if◌then◌else◌}
+use Rattle.std.proofs.Common.{◌≡◌, ℕ, suc, ◌+◌, ◌<◌, Bool, true, false, List, [], ◌∷◌, length, refl, sym, ap, ◌∙◌, arith}
+use Rattle.std.specs.Prelude.{Option, Some, None, IfSome, if◌then◌else◌}
 use Rattle.std.specs.Option.{option_map}
 use Rattle.cmeaning.specs.declared.tree.Param.{Param}
 use Rattle.cmeaning.specs.Places.{place}
+use Rattle.cmeaning.proofs.Places.{some_first}
 use Rattle.cread.specs.declared.item.Entry.{Entry}
 use Rattle.cread.specs.Names.{is_entry, place_of}
 
@@ -25,4 +26,8 @@ place_is e ps = by_place (place (is_entry e) ps) ∙ later e 0 ps
   where
     by_place : (o : Option ℕ) → o ≡ option_map (λ m. 0 + m) o
     by_place None = refl
-    by_place (Some m) = refl
+    by_place (Some m) = ap (λ (k : ℕ). Some k) (omega arith)
+
+pub place_within : {A : Type 0} (test : A → Bool) (xs : List A) (o : Option ℕ) → o ≡ place test xs → IfSome o (λ n. n < length xs)
+place_within test xs None is = tt
+place_within test xs (Some n) is = (some_first test n xs (sym is)).0
