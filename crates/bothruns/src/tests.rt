@@ -27,6 +27,63 @@ reg 0x38 05000000
 end
 ";
 
+const DIVIDES: &str = "pcode 1
+space ram ram 8 le
+space register register 4 le
+space unique unique 4 le
+proto c args register:0x38:4 result none pop 0x0 keep
+func d ram:0x1000 c
+at 0x1000 8
+  unique:0x0:4 = INT_DIV const:0x64:4 register:0x38:4
+  STORE const:0x1:8 const:0x2000:8 const:0x1:4
+at 0x1008 1
+  RETURN register:0x288:8
+end
+";
+
+const ITS_DIVISION: &str = "void f_d(u32 p_register_38)
+{
+  u32 v1;
+  v1 = DIV((u32)0x64, p_register_38);
+  *(u32 *)((u64)0x2000) = (u32)0x1;
+  return;
+}
+";
+
+const CALLS: &str = "pcode 1
+space ram ram 8 le
+space register register 4 le
+space unique unique 4 le
+proto c args register:0x38:8 result register:0x0:8 pop 0x8 keep
+func f ram:0x1000 c
+callee g ram:0x2000 c
+at 0x1000 4
+  CALL ram:0x2000:8
+at 0x1004 4
+  register:0x0:8 = LOAD const:0x1:8 register:0x0:8
+at 0x1008 1
+  RETURN register:0x288:8
+end
+";
+
+const ITS_CALL: &str = "u64 f_g(u64); // 0x2000
+u64 f_f(u64 p_register_38)
+{
+  u64 v1;
+  u64 v2;
+  v1 = f_g(p_register_38);
+  v2 = *(u64 *)(v1);
+  return v2;
+}
+";
+
+const ANSWERED: &str = "entry 1
+reg 0x38 07
+ans 0x3000
+amem ram:0x3000 2a
+end
+";
+
 // The status for these files and so many steps, where out takes the text and err the line that are wanted.
 fn status(
     alloc: Global,
@@ -88,5 +145,27 @@ fn runs_both_machines(rt: HostRuntime) -> Result<(), Fail> {
         status(alloc, &files, "010", "", "runboth: bad arguments\n")?,
         Some(2)
     );
+    Ok(())
+}
+
+#[test]
+fn runs_divisions_and_calls(rt: HostRuntime) -> Result<(), Fail> {
+    let ended = "p divzero\nc divzero\nboth: equal\n";
+    let stored =
+        "p store ram:0x2000 01000000\np returned\nc store ram:0x2000 01000000\nc returned\nboth: equal\n";
+    let called =
+        "p call 0x2000 0x7\np returned 0x2a\nc call 0x2000 0x7\nc returned 0x2a\nboth: equal\n";
+    let unanswered = "p call 0x2000 0x7\np noanswer\nc call 0x2000 0x7\nc noanswer\nboth: equal\n";
+    let of_7 = "entry 1\nreg 0x38 07\nend\n";
+    let table = [
+        (DIVIDES, ITS_DIVISION, "entry 1\nend\n", ended),
+        (DIVIDES, ITS_DIVISION, OF_5, stored),
+        (CALLS, ITS_CALL, ANSWERED, called),
+        (CALLS, ITS_CALL, of_7, unanswered),
+    ];
+    for (listing, c_text, entry, told) in table {
+        let files = [("l", listing), ("c", c_text), ("e", entry)];
+        assert_eq!(rt; status(rt.alloc(), &files, "10", told, "")?, Some(0));
+    }
     Ok(())
 }
