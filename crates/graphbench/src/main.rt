@@ -6,6 +6,7 @@ mod array;
 mod edits;
 
 use std::env;
+use std::io::ErrorKind;
 use std::process::ExitCode;
 
 /// Which of the two is timed.
@@ -22,24 +23,34 @@ struct Words {
     count: u32,
 }
 
-fn words_of(rt: &HostRuntime) -> Option<Words> {
-    let mut words = env::args(rt).ok()?.skip(1);
-    let which = words.next()?;
-    let count = words.next()?;
+const BAD_WORDS: u8 = 2;
+
+const NO_MEMORY: u8 = 5;
+
+fn words_of(rt: &HostRuntime) -> Result<Words, u8> {
+    let mut words = match env::args(rt) {
+        Ok(words) => words.skip(1),
+        Err(error) if error.kind() == ErrorKind::OutOfMemory => return Err(NO_MEMORY),
+        Err(_) => return Err(BAD_WORDS),
+    };
+    let (Some(which), Some(count)) = (words.next(), words.next()) else {
+        return Err(BAD_WORDS);
+    };
     let which = match which.as_str() {
         "graph" => Which::Graph,
         "array" => Which::Array,
-        _ => return None,
+        _ => return Err(BAD_WORDS),
     };
-    Some(Words {
-        which,
-        count: count.as_str().parse::<u32>().ok()?,
-    })
+    match count.as_str().parse::<u32>() {
+        Ok(count) => Ok(Words { which, count }),
+        Err(_) => Err(BAD_WORDS),
+    }
 }
 
 fn main(rt: HostRuntime) -> ExitCode {
-    let Some(words) = words_of(&rt) else {
-        return ExitCode::from(2);
+    let words = match words_of(&rt) {
+        Ok(words) => words,
+        Err(status) => return ExitCode::from(status),
     };
     let edits = match words.which {
         Which::Graph => edits::of_graph(rt.alloc(), words.count),
@@ -47,6 +58,6 @@ fn main(rt: HostRuntime) -> ExitCode {
     };
     match edits {
         Ok(count) if println!(rt; "{count} edits").is_ok() => ExitCode::from(0),
-        _ => ExitCode::from(5),
+        _ => ExitCode::from(NO_MEMORY),
     }
 }
