@@ -1,9 +1,9 @@
 -- Memory accesses, calls and divisions are read again.
-use Rattle.std.proofs.Common.{◌≡◌, ℕ, ◌*◌, ◌%◌, ◌^◌, ◌<◌, true, false, cond, eqb, leb, ◌&&◌, List, [], ◌∷◌, ◌++◌, length, Option, Some, None, refl, sym, ap, ◌∙◌, subst, arith, append_assoc, length-append, inl, inr}
+use Rattle.std.proofs.Common.{◌≡◌, ℕ, ◌*◌, ◌%◌, ◌^◌, ◌<◌, true, false, eqb, leb, ◌&&◌, List, [], ◌∷◌, ◌++◌, length, Option, Some, None, refl, sym, ap, ◌∙◌, subst, arith, append_assoc, length-append, inl, inr}
 use Rattle.std.specs.Prelude.{codes, not}
 use Rattle.std.specs.Fmt.{decimal}
 use Rattle.std.proofs.lemmas.Bool.{ltb-true, eqb-true, cases_Bool}
-use Rattle.cmeaning.specs.Valid.{begins_well, all_letters_or_digits, is_long, is_space, is_callee, is_callee_name, result_fits, same_callee_name, are_apart, is_apart_from, are_callees, declared_in}
+use Rattle.cmeaning.specs.Valid.{begins_well, all_letters_or_digits, is_long, is_space, is_callee, is_callee_name, result_fits, same_callee_name, are_apart, is_apart_from, are_callees}
 use Rattle.cmeaning.specs.Do.{same_name}
 use Rattle.cmeaning.specs.declared.tree.CName.{CName}
 use Rattle.cmeaning.specs.declared.tree.CName.TheVariants.{Declared, Bare}
