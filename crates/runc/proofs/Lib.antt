@@ -1,3 +1,4 @@
+mod Lengths
 pub mod Bytes
 pub mod Spaces
 pub mod Rules

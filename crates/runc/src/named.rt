@@ -5,7 +5,7 @@ ghost use Rattle.cmeaning.specs.Do.{same_name as is_same_name, space_named};
 
 use pcode_model::Space;
 
-#[tactic(auto, using(cmeaning::proofs::Lengths::names_of_lengths))]
+#[tactic(auto, using(crate::proofs::Lengths::names_of_lengths))]
 fn same_name(a: &[u8], b: &[u8]) -> bool
     ensures { result ≡ is_same_name a.now b.now }
 {
