@@ -1,5 +1,5 @@
 -- What the tests of a listing give the passes.
-use Rattle.std.proofs.Common.{◌≡◌, ◌≤◌, ◌<◌, ◌+◌, ◌^◌, ℕ, List, [], ◌∷◌, Some, None, length, length-append, refl, inl, inr, sym, subst, arith}
+use Rattle.std.proofs.Common.{◌≡◌, ◌≤◌, ◌<◌, ◌+◌, ◌^◌, ℕ, List, [], ◌∷◌, Option, Some, None, length, length-append, refl, ap, ◌∙◌, inl, inr, sym, subst, arith}
 use Rattle.pcode_model.specs.declared.atoms.Atom.{Atom}
 use Rattle.pcode_model.specs.declared.flow.Block.{Block}
 use Rattle.pcode_model.specs.declared.flow.Exit.{Exit}
@@ -22,7 +22,10 @@ use Rattle.cmeaning.specs.Agree.{AgreesWith}
 use Rattle.cmeaning.specs.Valid.{IsValid}
 use Rattle.pcodetext.specs.Formed.{IsRead}
 use Rattle.plaincode.specs.Form.{IsPlainForm}
-use Rattle.plaincode.specs.Lowered.{plain_function}
+use Rattle.bits_core.specs.declared.word.Width.{Width}
+use Rattle.blockcode.specs.Laid.{laid_out}
+use Rattle.blockcode.specs.declared.code.Code.{Code}
+use Rattle.plaincode.specs.Lowered.{lowered, plain_function, result_width}
 use Rattle.plaincode.proofs.Agrees.{plain_agrees}
 use Rattle.plain_valid.specs.Long.{AreLong, IsLong}
 use Rattle.plain_valid.proofs.Valid.{plain_valid}
@@ -114,6 +117,14 @@ lowers l read good sup blocks flow fine few atoms are f is =
       valid = is_valid l read good sup blocks flow fine few atoms are;
       agrees = agrees l read good sup blocks flow fine few atoms are;
     })
+
+-- the laid out function, by its parts
+pub laid_is : (l : Listing) (blocks : List Block) (atoms : List Atom) (name : List ℕ) (gives : Option Width) (k : Code) (f : CFunction) → f ≡ laid_out name gives k → name ≡ l.func.name → gives ≡ result_width l → k ≡ lowered l blocks atoms → f ≡ plain_function l blocks atoms
+laid_is l blocks atoms name gives k f is named given made =
+    is
+    ∙ ap (λ (x : List ℕ). laid_out x gives k) named
+    ∙ ap (λ (x : Option Width). laid_out l.func.name x k) given
+    ∙ ap (λ (x : Code). laid_out l.func.name (result_width l) x) made
 
 -- ---- faults
 

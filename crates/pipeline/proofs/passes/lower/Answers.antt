@@ -1,6 +1,5 @@
-use Rattle.std.proofs.Common.{◌≡◌, arith}
-use Rattle.plaincode.specs.Lowered.{plain_function}
-use Rattle.pipeline.proofs.Forms.{lowers}
+use Rattle.std.proofs.Common.{◌∙◌, arith}
+use Rattle.pipeline.proofs.Forms.{laid_is, lowers}
 use Rattle.pipeline.proofs.passes.lower.Goals as goal
 
 pub plain-requires-clause-code : goal.plain-requires-clause-code
@@ -11,11 +10,9 @@ plain-requires-clause-spaces c = let few = c.requires.read.limited.spaces in ome
 
 pub returns : goal.returns
 returns c =
-    let passed = c.requires in
-    let f = c.in_ok-function.ensures in
-    let k = c.in_ok-code.ensures in
-    let n = c.in_ok-name.ensures in
-    let w = c.result_width.ensures in
     let l = c.args.accepted.now.listing in
-    let is : c.in_ok-function.function ≡ plain_function l c.args.accepted.now.flow c.args.accepted.now.atoms = cc in
-    lowers l passed.read passed.ops passed.built c.args.accepted.now.flow passed.blocks passed.no_fault passed.few c.args.accepted.now.atoms passed.atoms c.in_ok-function.function is
+    let blocks = c.args.accepted.now.flow in
+    let atoms = c.args.accepted.now.atoms in
+    let passed = c.requires in
+    let is = laid_is l blocks atoms c.in_ok-name.name c.result_width.result c.in_ok-code.code c.in_ok-function.function c.in_ok-function.ensures (c.in_ok-name.ensures ∙ c.as_slice.ensures) c.result_width.ensures c.in_ok-code.ensures in
+    lowers l passed.read passed.ops passed.built blocks passed.blocks passed.no_fault passed.few atoms passed.atoms c.in_ok-function.function is
