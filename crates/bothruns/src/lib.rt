@@ -10,6 +10,3 @@ pub use judging::judge;
 pub use reading::{Parsed, parse};
 pub use refusing::{Wrong, wrong_line};
 pub use top::runboth_words;
-
-#[cfg(test)]
-mod tests;

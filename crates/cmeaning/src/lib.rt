@@ -22,6 +22,3 @@ pub use tree::{
     Expr, Exprs, ExtendOp, Local, Locals, OverflowOp, Param, ShiftOp, SignedCompareOp,
     SignedDivisionOp, StatementDivision, Stmt, UnaryOp, Values, Widths,
 };
-
-#[cfg(test)]
-mod tests;

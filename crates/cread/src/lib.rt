@@ -9,8 +9,6 @@ mod names;
 mod read;
 mod rights;
 mod statements;
-#[cfg(test)]
-mod tests;
 mod words;
 
 pub use item::CFault;

@@ -4,6 +4,3 @@
 mod again;
 
 pub use again::{canonical_text, print_listing};
-
-#[cfg(test)]
-mod tests;

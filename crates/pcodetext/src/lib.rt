@@ -22,6 +22,3 @@ pub use form::{
 pub use listing_print::print_listing;
 pub use reader::read_listing;
 pub use said::Said;
-
-#[cfg(test)]
-mod tests;

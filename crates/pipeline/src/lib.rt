@@ -17,6 +17,3 @@ pub use refusal::Refusal;
 pub use request::{Request, read_words};
 pub use top::decompile_words;
 pub use verdict::{Accepted, accept};
-
-#[cfg(test)]
-mod tests;

@@ -35,3 +35,6 @@ fn words_of(rt: &HostRuntime) -> io::Result<Words> {
     }
     Ok(words)
 }
+
+#[cfg(test)]
+mod tests;

@@ -1,4 +1,4 @@
-use Rattle.std.proofs.Common.{◌≡◌, ◌∙◌, ap, sym}
+use Rattle.std.proofs.Common.{◌∙◌, ap}
 use Rattle.std.specs.Prelude.{vec_items}
 use Rattle.names.specs.Names.{place_in}
 use Rattle.names.proofs.Places.{place_is}

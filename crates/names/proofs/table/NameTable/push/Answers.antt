@@ -1,4 +1,3 @@
-use Rattle.std.proofs.Common.{◌≡◌, ◌∙◌}
 use Rattle.std.specs.Prelude.{vec_items}
 use Rattle.names.proofs.Places.{grown}
 use Rattle.names.proofs.table.NameTable.push.Goals as goal

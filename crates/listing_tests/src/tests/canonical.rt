@@ -1,6 +1,6 @@
 //! Worked listings: printed back, cut, and their ops checked.
 
-use crate::*;
+use listing_again::canonical_text;
 use pcode_model::{OpFault, OpWhy, Place, check_ops};
 use pcodetext::{TextFault, read_listing};
 use std::test::Fail;

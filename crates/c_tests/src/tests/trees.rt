@@ -1,5 +1,10 @@
-use super::*;
+//! Trees that are valid and trees that aren't.
+
 use bits_core::{Width, Word};
+use cmeaning::{
+    ArithmeticOp, Arm, Body, CFunction, CalleeDecls, Expr, Local, Param, ParamDecls, Stmt, checked,
+    valid,
+};
 use pcode_model::ParamStorage;
 use sqlite_items::{Boxed, Items};
 use std::alloc::{AllocError, Global};

@@ -1,5 +1,7 @@
-use crate::decompile_words;
+//! The top call over the forms in memory.
+
 use outside::{Bytes, Fails, Files, MemShelf, MemSink, MemSource, Memory, Words};
+use pipeline::decompile_words;
 use std::alloc::Global;
 use std::process::Abort;
 use std::test::Fail;

@@ -1,4 +1,6 @@
-use crate::*;
+//! Listings and their first faults, and listings printed back.
+
+use pcodetext::{TextFault, print_listing, read_listing};
 use std::test::Fail;
 
 const LEAST: &[u8] = b"pcode 1

@@ -1,9 +1,9 @@
-mod texts;
+//! C texts, read and printed back.
 
-use crate::*;
+use super::rows::{KINDS, NOT_C, WORKED};
+use cread::{CFault, read_c};
 use ctext::print_c;
 use std::test::Fail;
-use texts::{KINDS, NOT_C, WORKED};
 
 // Whether a text is read, and is then printed back byte for byte.
 fn is_c(rt: &HostRuntime, text: &[u8]) -> Result<bool, Fail> {

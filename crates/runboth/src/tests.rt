@@ -1,4 +1,6 @@
-use crate::*;
+//! The top call over the forms in memory.
+
+use bothruns::runboth_words;
 use outside::{Bytes, Fails, File, Files, MemShelf, MemSink, Words};
 use std::alloc::Global;
 use std::test::Fail;
