@@ -1,5 +1,5 @@
 -- Each operation as the code computes it in 128 bits, but for signed division.
-use Rattle.std.proofs.Common.{◌≡◌, ℕ, zero, suc, ◌+◌, ◌-◌, ◌*◌, ◌%◌, ◌/◌, ◌^◌, ◌<◌, ◌≤◌, ◌≢◌, ◌⊎◌, refl, sym, ap, ◌∙◌, arith, bit_and, bit_or, bit_xor, subst, Bool, true, false, not, ltb, inl, inr, ⊎_elim, min}
+use Rattle.std.proofs.Common.{◌≡◌, ℕ, zero, suc, ◌+◌, ◌-◌, ◌*◌, ◌%◌, ◌/◌, ◌^◌, ◌<◌, ◌≤◌, ◌⊎◌, refl, sym, ap, ◌∙◌, arith, bit_and, bit_or, bit_xor, subst, Bool, not, ltb, ⊎_elim, min}
 use Rattle.std.proofs.Math.Nat.{add-mul-mod_self_right, mul-mod_left, mul_assoc, mod-eq_of_lt, mod-le, zero-mod, div-eq_of_lt, div-le_self, pow-le-pow_right}
 use Rattle.std.proofs.lemmas.Nat.{pow-add, pow_pos, and_le_l, or_lt, xor_lt, or_shifted, leading_length, shl_whole}
 use Rattle.std.proofs.lemmas.Bool.{cases_lt}

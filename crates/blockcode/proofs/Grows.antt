@@ -1,5 +1,5 @@
 -- The runs of statements only add to what they have shown.
-use Rattle.std.proofs.Common.{◌≡◌, ℕ, Bool, true, false, List, [], ◌∷◌, refl, sym, ap, ◌∙◌, subst, Option, Some, None}
+use Rattle.std.proofs.Common.{◌≡◌, ℕ, Bool, true, false, List, [], ◌∷◌, refl, Option, Some, None}
 use Rattle.std.specs.Prelude.{◌==◌, ◌%◌, cond, slice_get}
 use Rattle.machine.specs.Trace.{End, Call, Other, Store}
 use Rattle.machine.specs.TwoWay.{IsFront}
@@ -18,9 +18,9 @@ use Rattle.bits_core.specs.Value.{divide_value}
 use Rattle.pcode_model.specs.Spaces.{size_of}
 use Rattle.pcode_model.specs.Step.{bytes_in}
 use Rattle.cmeaning.specs.Value.{width_of, value_of}
-use Rattle.cmeaning.specs.Do.{Local, in_world, ends, with_word, with_words, values_of, assigned, loaded, divide_of, stored, answered, asks, called, divided, do_layer, do_simple, widths_in, accessed}
+use Rattle.cmeaning.specs.Do.{Local, in_world, with_word, with_words, values_of, assigned, loaded, divide_of, stored, answered, asks, called, divided, do_layer, do_simple, widths_in, accessed}
 use Rattle.cmeaning.specs.Flat.{Flat, Do, Test, Jump, Choose, Give, flat_of, found_in, returns_by}
-use Rattle.cmeaning.specs.Step.{CState, tested, goes_by, gives, given, carry_out, c_step, c_machine}
+use Rattle.cmeaning.specs.Step.{CState, tested, goes_by, gives, given, carry_out, c_machine}
 use Rattle.blockcode.specs.declared.code.Arm.{Arm}
 use Rattle.blockcode.specs.declared.code.Block.{Block}
 use Rattle.blockcode.specs.declared.code.Code.{Code}

@@ -1,5 +1,5 @@
 -- A stretch of statements is carried out.
-use Rattle.std.proofs.Common.{◌≡◌, ℕ, zero, suc, ◌+◌, List, [], ◌∷◌, ◌++◌, length, drop, refl, sym, ap, ◌∙◌, subst, Option, Some, None, arith}
+use Rattle.std.proofs.Common.{◌≡◌, ℕ, zero, suc, ◌+◌, List, [], ◌∷◌, ◌++◌, length, drop, refl, sym, ap, ◌∙◌, subst, Option, Some, None}
 use Rattle.std.specs.Prelude.{slice_get}
 use Rattle.machine.specs.Trace.{End}
 use Rattle.machine.specs.Machine.{after}
@@ -9,9 +9,8 @@ use Rattle.pcode_model.specs.World.{unless_over}
 use Rattle.cmeaning.specs.declared.tree.Stmt.{Stmt}
 use Rattle.cmeaning.specs.Do.{Local, do_simple}
 use Rattle.blockcode.specs.declared.code.Block.{Block}
-use Rattle.blockcode.specs.declared.code.Exit.{Exit}
 use Rattle.blockcode.specs.declared.code.Code.{Code}
-use Rattle.blockcode.specs.Run.{CodeState, at, widths, does_return, leave, pass, pass_in, code_step}
+use Rattle.blockcode.specs.Run.{CodeState, at, widths, does_return, pass, pass_in, code_step}
 
 pub get_of_drop : {A : Type 0} (xs : List A) (n : ℕ) (x : A) (rest : List A) → drop n xs ≡ x ∷ rest → slice_get xs n ≡ Some x
 get_of_drop [] zero x rest e = absurd (cc)

@@ -1,14 +1,9 @@
 -- Which codes are laid out so far. This project's own.
-use Rattle.std.specs.Prelude.{◌≡◌, ℕ, Bool, List, [], ◌∷◌, Option, Some, None, slice_get}
+use Rattle.std.specs.Prelude.{List, [], ◌∷◌, Option, Some, None}
 use Rattle.pcode_model.specs.declared.storage.ParamStorage.{ParamStorage}
-use Rattle.pcode_model.specs.declared.listing.Listing.{Listing}
-use Rattle.cmeaning.specs.declared.tree.Stmt.{Stmt}
-use Rattle.cmeaning.specs.Flat.{Do, single, piece_of, returns_by}
 use Rattle.blockcode.specs.declared.code.Variable.{Variable}
 use Rattle.blockcode.specs.declared.code.Exit.{Exit}
 use Rattle.blockcode.specs.declared.code.Exit.TheVariants as X
-use Rattle.blockcode.specs.declared.code.Block.{Block}
-use Rattle.blockcode.specs.declared.code.Code.{Code}
 
 abbrev pub IsParam : Option ParamStorage → Type 0
 IsParam None = ⊥

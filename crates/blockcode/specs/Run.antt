@@ -7,7 +7,6 @@ use Rattle.pcode_model.specs.declared.storage.ParamStorage.{ParamStorage}
 use Rattle.pcode_model.specs.declared.listing.Listing.{Listing}
 use Rattle.pcode_model.specs.World.{Entry, first_world, shown, unless_over}
 use Rattle.pcode_model.specs.Step.{returns, callee_at}
-use Rattle.cmeaning.specs.declared.tree.Expr.{Expr}
 use Rattle.cmeaning.specs.declared.tree.Stmt.{Stmt}
 use Rattle.cmeaning.specs.Value.{value_of}
 use Rattle.cmeaning.specs.Do.{Local, ends, do_simple}

@@ -1,5 +1,5 @@
 -- What the three inputs come to. This project's own.
-use Rattle.std.specs.Prelude.{◌≡◌, ◌⊎◌, ℕ, List, ◌++◌, codes, ⊤}
+use Rattle.std.specs.Prelude.{◌≡◌, ℕ, List, ◌++◌, codes, ⊤}
 use Rattle.machine.specs.Trace.{Trace}
 use Rattle.pcode_model.specs.declared.listing.Listing.{Listing}
 use Rattle.pcode_model.specs.Memory.{no_frame}
@@ -14,7 +14,6 @@ use Rattle.comparison.specs.Says.{Says, comparison_text, within}
 use Rattle.comparison.specs.declared.fronts.Comparison.{Comparison}
 use Rattle.entrytext.specs.Meaning.{reading}
 use Rattle.entrytext.specs.Meaning.Read.{Good, Bad}
-use Rattle.entrytext.specs.declared.fault.EntryFault.{EntryFault}
 use Rattle.entrytext.specs.declared.fault.EntryFault.TheVariants as entry
 use Rattle.runc.specs.Fits.{Fits}
 use Rattle.runnable.specs.Runs.{IsRefused, Runs}

@@ -1,11 +1,11 @@
 -- Where one run agrees with another, the comparison of what both have shown after so many steps never says Apart.
-use Rattle.std.proofs.Common.{◌≡◌, ◌∙◌, ◌⊎◌, inl, inr, ℕ, ◌≤◌, ◌<◌, Bool, true, false, List, [], ◌∷◌, ◌++◌, refl, sym, ap, ap₂, subst, arith}
-use Rattle.std.specs.Prelude.{◌≢◌, nat_le, Option, Some, None}
+use Rattle.std.proofs.Common.{◌≡◌, ◌∙◌, ◌⊎◌, inl, inr, ℕ, Bool, true, false, List, [], ◌∷◌, ◌++◌, refl, sym, ap, ap₂, subst, arith}
+use Rattle.std.specs.Prelude.{nat_le, Option, Some, None}
 use Rattle.std.proofs.lemmas.Bool.Decides.{nat_tests}
 use Rattle.machine.specs.Agree.{Agree}
 use Rattle.machine.specs.Trace.{Event, End, Returned, DivZero, ReadOnlyWrite, NoAnswer, NoReturn, Outside, BadTarget, Undefined, Trace}
 use Rattle.machine.specs.TwoWay.{Grows, IsFront, IsLooseFront, IsPrefix, LooseTwoWay, LooselyGoesOn, NeverEnds, SameEnd}
-use Rattle.machine.proofs.TwoWay.{end_stays, front_of_over, grown, loose_two_way_as, prefix_of_front, prefix_trans}
+use Rattle.machine.proofs.TwoWay.{front_of_over, grown, loose_two_way_as, prefix_of_front, prefix_trans}
 use Rattle.comparison.specs.Says.{Says, left_away, within}
 use Rattle.comparison.specs.declared.fronts.Comparison.TheVariants.{Apart}
 

@@ -1,5 +1,5 @@
 -- The texts of statements with several bodies.
-use Rattle.std.proofs.Common.{◌≡◌, ℕ, List, ◌++◌, map, refl, sym, ap, ◌∙◌}
+use Rattle.std.proofs.Common.{◌≡◌, ℕ, List, ◌++◌, sym, ap, ◌∙◌}
 use Rattle.std.specs.Prelude.{codes}
 use Rattle.cmeaning.specs.declared.tree.Arm.{Arm, fold_out-Arm}
 use Rattle.cmeaning.specs.declared.tree.Expr.{Expr}

@@ -2,8 +2,6 @@
 -- where an expression's value is defined.
 use Rattle.std.specs.Prelude.{ℕ, zero, suc, ◌+◌, ◌*◌, ◌^◌, min, Bool, true, false, nat_lt, if◌then◌else◌, List, [], ◌∷◌, ◌++◌, codes, Option, Some, None}
 use Rattle.std.specs.Fmt.{decimal}
-use Rattle.bits_core.specs.declared.word.Width.{Width}
-use Rattle.bits_core.specs.declared.word.Word.{Word}
 use Rattle.cmeaning.specs.declared.tree.UnaryOp.{UnaryOp}
 use Rattle.cmeaning.specs.declared.tree.UnaryOp.TheVariants as U
 use Rattle.cmeaning.specs.declared.tree.ArithmeticOp.{ArithmeticOp}

@@ -1,33 +1,32 @@
 -- The tests and returns of the laid-out function, and its whole run.
-use Rattle.std.proofs.Common.{◌≡◌, ◌≢◌, ℕ, zero, suc, ◌+◌, ◌-◌, ◌<◌, ◌≤◌, Bool, true, false, List, [], ◌∷◌, ◌++◌, length, drop, refl, sym, ap, ◌∙◌, subst, Option, Some, None, arith, ◌⊎◌, inl, inr, ⊎_elim}
+use Rattle.std.proofs.Common.{◌≡◌, ℕ, zero, suc, ◌+◌, ◌-◌, ◌<◌, Bool, List, [], ◌∷◌, ◌++◌, length, drop, refl, sym, ap, ◌∙◌, subst, Option, Some, None, arith, inl}
 use Rattle.std.specs.Prelude.{slice_get}
 use Rattle.machine.specs.Trace.{End, Returned, Undefined, Trace}
 use Rattle.machine.specs.TwoWay.{TwoWay, IsFront}
 use Rattle.machine.specs.Machine.{after, Machine, seen, IsMonotone, RankedSimulates}
-use Rattle.machine.proofs.Machine.{after_more}
 use Rattle.machine.proofs.Ranked.{two_way_ranked}
 use Rattle.machine.proofs.TwoWay.{front_trans}
 use Rattle.pcode_model.specs.declared.listing.Listing.{Listing}
-use Rattle.pcode_model.specs.World.{shown, unless_over}
+use Rattle.pcode_model.specs.World.{shown}
 use Rattle.cmeaning.specs.declared.tree.Expr.{Expr}
 use Rattle.cmeaning.specs.declared.tree.Stmt.{Stmt}
 use Rattle.cmeaning.specs.declared.tree.Stmt.TheVariants as S
 use Rattle.cmeaning.specs.declared.tree.CFunction.{CFunction}
 use Rattle.cmeaning.specs.Value.{value_of}
 use Rattle.cmeaning.specs.Do.{Local, ends, widths_in}
-use Rattle.cmeaning.specs.Flat.{Flat, Test, Jump, Give, flat_of, returns_by, piece_of, pieces_of}
+use Rattle.cmeaning.specs.Flat.{Test, Jump, Give, flat_of, returns_by, piece_of}
 use Rattle.cmeaning.specs.Step.{CState, tested, goes_by, gives, given, c_step, c_machine}
 use Rattle.cmeaning.proofs.Flat.{piece_of_if, piece_of_goto, piece_of_return}
 use Rattle.blockcode.specs.declared.code.Exit.{Exit}
 use Rattle.blockcode.specs.declared.code.Exit.TheVariants as X
 use Rattle.blockcode.specs.declared.code.Block.{Block}
 use Rattle.blockcode.specs.declared.code.Code.{Code}
-use Rattle.blockcode.specs.Run.{CodeState, widths, enters, enters_by, returns_with, leave, code_step, code_machine, pass_in}
+use Rattle.blockcode.specs.Run.{CodeState, widths, enters, enters_by, returns_with, leave, code_step, code_machine}
 use Rattle.blockcode.specs.Laid.{label_at, goto_line, goto, exit_lines, laid_from}
 use Rattle.blockcode.proofs.Grows.{code_grows, c_grows}
 use Rattle.blockcode.proofs.Straight.{get_of_drop, none_of_drop, rest_of_drop, still, step_in}
 use Rattle.layout_laws.proofs.Pieces.{steps_of, AllSimple}
-use Rattle.layout_laws.proofs.Follows.{Given, StandsFrom, Leads, JumpLeads, IsLaid, At, Related, Went, goes_on, entered, arrives, Arrives, ended_goes, jump_goes, simple_goes, c_is, c_still, front}
+use Rattle.layout_laws.proofs.Follows.{Given, StandsFrom, Leads, JumpLeads, IsLaid, Related, Went, goes_on, entered, arrives, ended_goes, jump_goes, simple_goes, c_is, c_still, front}
 
 -- ---- returns
 

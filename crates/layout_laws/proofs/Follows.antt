@@ -1,37 +1,27 @@
 -- The run of the laid-out function shows what the run of the code shows.
-use Rattle.std.proofs.Common.{◌≡◌, ◌≢◌, ℕ, zero, suc, ◌+◌, ◌-◌, ◌<◌, ◌≤◌, Bool, true, false, List, [], ◌∷◌, ◌++◌, length, drop, refl, sym, ap, ◌∙◌, subst, Option, Some, None, arith, ◌⊎◌, inl, inr, ⊎_elim}
-use Rattle.std.specs.Prelude.{◌==◌, cond, slice_get, if◌then◌else◌}
-use Rattle.std.specs.List.{slice_index_or}
-use Rattle.std.proofs.lemmas.Option.{slice_get_within}
+use Rattle.std.proofs.Common.{◌≡◌, ◌≢◌, ℕ, zero, suc, ◌+◌, ◌-◌, ◌<◌, Bool, true, false, List, [], ◌∷◌, ◌++◌, length, drop, refl, sym, ap, ◌∙◌, subst, Option, Some, None, arith, ◌⊎◌, inl, inr, ⊎_elim}
+use Rattle.std.specs.Prelude.{◌==◌, cond, slice_get}
 use Rattle.std.proofs.lemmas.Bool.Decides.{nat_tests}
 use Rattle.machine.specs.Trace.{End}
-use Rattle.machine.specs.TwoWay.{TwoWay, IsFront}
-use Rattle.machine.specs.Machine.{after, Machine, seen, IsMonotone, GoesRanked, RankedSimulates}
-use Rattle.machine.proofs.Machine.{after_more}
-use Rattle.machine.proofs.Ranked.{two_way_ranked}
-use Rattle.machine.proofs.TwoWay.{front_trans}
+use Rattle.machine.specs.Machine.{after, GoesRanked}
 use Rattle.pcode_model.specs.declared.listing.Listing.{Listing}
-use Rattle.pcode_model.specs.Spaces.{or}
-use Rattle.pcode_model.specs.World.{shown, unless_over}
-use Rattle.cmeaning.specs.declared.tree.Expr.{Expr}
+use Rattle.pcode_model.specs.World.{unless_over}
 use Rattle.cmeaning.specs.declared.tree.Stmt.{Stmt}
 use Rattle.cmeaning.specs.declared.tree.Stmt.TheVariants as S
 use Rattle.cmeaning.specs.declared.tree.CFunction.{CFunction}
-use Rattle.cmeaning.specs.Value.{value_of}
-use Rattle.cmeaning.specs.Do.{Local, ends, do_simple, widths_in}
-use Rattle.cmeaning.specs.Flat.{Flat, Do, Test, Jump, Give, all_steps, flat_of, flat_body, found_in, returns_by, piece_of, piece_step, pieces_of}
-use Rattle.cmeaning.specs.Step.{CState, tested, goes_by, given, carry_out, c_step, c_machine}
-use Rattle.cmeaning.proofs.Flat.{piece_of_if, piece_of_goto, piece_of_return}
+use Rattle.cmeaning.specs.Do.{Local, do_simple, widths_in}
+use Rattle.cmeaning.specs.Flat.{Flat, Do, Test, Jump, flat_of, returns_by, piece_of}
+use Rattle.cmeaning.specs.Step.{CState, carry_out, c_step, c_machine}
+use Rattle.cmeaning.proofs.Flat.{piece_of_goto}
 use Rattle.blockcode.specs.declared.code.Exit.{Exit}
 use Rattle.blockcode.specs.declared.code.Exit.TheVariants as X
 use Rattle.blockcode.specs.declared.code.Block.{Block}
 use Rattle.blockcode.specs.declared.code.Code.{Code}
-use Rattle.blockcode.specs.Run.{CodeState, widths, does_return, enters, enters_by, returns_with, leave, pass, pass_in, code_step, code_machine}
-use Rattle.blockcode.specs.Laid.{label_at, goto_line, goto, exit_lines, laid_from, exit_names, jump_names}
-use Rattle.blockcode.proofs.Grows.{code_grows, c_grows}
-use Rattle.blockcode.proofs.Straight.{get_of_drop, none_of_drop, rest_of_drop, still, step_in}
-use Rattle.layout_laws.proofs.Pieces.{span_of, steps_of, IsSingle, AllSimple}
-use Rattle.layout_laws.proofs.Positions.{AllBlocks, label_steps}
+use Rattle.blockcode.specs.Run.{CodeState, widths, does_return, enters, code_step, code_machine}
+use Rattle.blockcode.specs.Laid.{label_at, goto_line, goto, exit_lines, laid_from}
+use Rattle.blockcode.proofs.Straight.{get_of_drop, rest_of_drop, step_in}
+use Rattle.layout_laws.proofs.Pieces.{steps_of, AllSimple}
+use Rattle.layout_laws.proofs.Positions.{label_steps}
 
 -- from the position p on stand the lines of the blocks from a number on
 abbrev pub StandsFrom : Code → CFunction → List (Option ℕ) → (ℕ → ℕ) → ℕ → ℕ → ℕ → Type 0

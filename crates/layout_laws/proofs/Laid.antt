@@ -1,8 +1,7 @@
 -- The function that is laid out has the blocks' lines one behind another, and its labels lead to them.
-use Rattle.std.proofs.Common.{◌≡◌, ◌≢◌, ℕ, zero, suc, ◌+◌, ◌-◌, ◌<◌, ◌≤◌, Bool, true, false, List, [], ◌∷◌, ◌++◌, length, drop, refl, sym, ap, ◌∙◌, subst, Option, Some, None, arith, ◌⊎◌, inl, inr, ⊎_elim}
-use Rattle.std.specs.Prelude.{◌==◌, cond, slice_get, if◌then◌else◌}
+use Rattle.std.proofs.Common.{◌≡◌, ◌≢◌, ℕ, zero, suc, ◌+◌, ◌-◌, ◌<◌, Bool, true, false, List, [], ◌∷◌, ◌++◌, length, drop, refl, sym, ap, ◌∙◌, subst, Option, Some, None, arith}
+use Rattle.std.specs.Prelude.{◌==◌, cond, slice_get}
 use Rattle.std.specs.List.{slice_index_or}
-use Rattle.std.proofs.lemmas.Option.{slice_get_within}
 use Rattle.std.proofs.lemmas.Bool.Decides.{nat_tests}
 use Rattle.std.proofs.Math.Path.{fun_ext}
 use Rattle.machine.specs.TwoWay.{TwoWay}
@@ -14,29 +13,24 @@ use Rattle.pcode_model.specs.declared.storage.ParamStorage.{ParamStorage}
 use Rattle.pcode_model.specs.declared.listing.Listing.{Listing}
 use Rattle.pcode_model.specs.Spaces.{or}
 use Rattle.pcode_model.specs.World.{Entry, first_world}
-use Rattle.cmeaning.specs.declared.tree.Stmt.{Stmt}
-use Rattle.cmeaning.specs.declared.tree.Stmt.TheVariants as S
 use Rattle.cmeaning.specs.declared.tree.Param.{Param}
 use Rattle.cmeaning.specs.declared.tree.Local as tree
-use Rattle.cmeaning.specs.declared.tree.CFunction.{CFunction}
 use Rattle.cmeaning.specs.Do.{Local, widths_in, variable_width, local_width}
-use Rattle.cmeaning.specs.Flat.{Flat, Jump, flat_of, flat_body, found_in, pieces_of, returns_by, piece_of}
-use Rattle.cmeaning.specs.Step.{CState, c_step, c_machine, start_c, seen_c, first_word as c_first_word}
-use Rattle.cmeaning.proofs.Flat.{piece_of_goto}
+use Rattle.cmeaning.specs.Flat.{Jump, flat_of, found_in, returns_by}
+use Rattle.cmeaning.specs.Step.{c_step, c_machine, start_c, seen_c, first_word as c_first_word}
 use Rattle.blockcode.specs.declared.code.Variable.{Variable}
 use Rattle.blockcode.specs.declared.code.Exit.{Exit}
 use Rattle.blockcode.specs.declared.code.Exit.TheVariants as X
 use Rattle.blockcode.specs.declared.code.Block.{Block}
 use Rattle.blockcode.specs.declared.code.Code.{Code}
-use Rattle.blockcode.specs.Run.{CodeState, width_in, widths, does_return, enters, first_word, word_in, start_code, seen_code, code_machine}
-use Rattle.blockcode.specs.Laid.{jump_names, exit_names, blocks_name, is_named, flags_from, numbered, labels_of, label_at, goto_line, goto, exit_lines, laid_from, laid_body, params_of, param_of, locals_of, laid_out}
+use Rattle.blockcode.specs.Run.{width_in, widths, does_return, first_word, word_in, start_code, seen_code, code_machine}
+use Rattle.blockcode.specs.Laid.{jump_names, exit_names, blocks_name, is_named, flags_from, numbered, labels_of, label_at, goto, laid_from, laid_body, params_of, param_of, locals_of, laid_out}
 use Rattle.blockcode.specs.Numbers.{ExitBelow, ExitsBelow, AreNumbered}
 use Rattle.blockcode.specs.Plain.{IsParam, AreParams, IsDirect}
-use Rattle.blockcode.proofs.Straight.{get_of_drop}
 use Rattle.blockcode.proofs.Grows.{code_grows, c_grows}
-use Rattle.layout_laws.proofs.Pieces.{span_of, labels_in, steps_of, span_append, steps_append, labels_append, AllSimple, drop_past}
-use Rattle.layout_laws.proofs.Positions.{measured_jump, unlabelled_jump, AllBlocks, position, placed, numbered_once, AreOnce, label_leads}
-use Rattle.layout_laws.proofs.Follows.{Given, StandsFrom, Leads, JumpLeads, IsLaid, Related, Arrives, arrives}
+use Rattle.layout_laws.proofs.Pieces.{span_of, labels_in, steps_of, steps_append, labels_append, AllSimple, drop_past}
+use Rattle.layout_laws.proofs.Positions.{measured_jump, unlabelled_jump, AllBlocks, position, placed, numbered_once, label_leads}
+use Rattle.layout_laws.proofs.Follows.{Given, StandsFrom, Leads, JumpLeads, IsLaid, Related, arrives}
 use Rattle.layout_laws.proofs.Ends.{simulates, two_way_after}
 
 -- ---- blocks that a goto names have a label

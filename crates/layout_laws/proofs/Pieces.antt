@@ -1,10 +1,9 @@
 -- The flat code of statements one after another.
-use Rattle.std.proofs.Common.{◌≡◌, ℕ, zero, suc, ◌+◌, Bool, true, false, List, [], ◌∷◌, ◌++◌, length, drop, map, refl, sym, ap, ◌∙◌, subst, Option, Some, None, arith, append_assoc, length-append}
+use Rattle.std.proofs.Common.{◌≡◌, ℕ, zero, suc, ◌+◌, Bool, List, [], ◌∷◌, ◌++◌, length, drop, refl, sym, ap, ◌∙◌, Option, arith, append_assoc, length-append}
 use Rattle.cmeaning.specs.declared.tree.Expr.{Expr}
 use Rattle.cmeaning.specs.declared.tree.Stmt.{Stmt}
 use Rattle.cmeaning.specs.declared.tree.Stmt.TheVariants as S
-use Rattle.cmeaning.specs.declared.tree.Stmt.TheOpen.{Stmt-F}
-use Rattle.cmeaning.specs.Flat.{Flat, Do, Test, Jump, Give, Piece, spans, all_labels, all_steps, single, piece_step, piece_of, pieces_of}
+use Rattle.cmeaning.specs.Flat.{Flat, Do, Test, Jump, spans, all_labels, all_steps, single, piece_of, pieces_of}
 use Rattle.cmeaning.proofs.Flat.{piece_of_if, piece_of_goto, piece_of_label, piece_of_return}
 
 -- by whether callees return: how many steps, the labels from a position on, and the steps

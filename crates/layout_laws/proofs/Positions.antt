@@ -1,18 +1,16 @@
 -- Where the code of each block stands, and where its label leads.
-use Rattle.std.proofs.Common.{◌≡◌, ◌≢◌, ℕ, zero, suc, ◌+◌, ◌<◌, ◌≤◌, Bool, true, false, List, [], ◌∷◌, ◌++◌, length, drop, refl, sym, ap, ◌∙◌, subst, Option, Some, None, arith, ◌⊎◌, inl, inr}
-use Rattle.std.specs.Prelude.{◌==◌, cond, slice_get, if◌then◌else◌}
-use Rattle.std.specs.List.{slice_index_or}
+use Rattle.std.proofs.Common.{◌≡◌, ◌≢◌, ℕ, zero, suc, ◌+◌, ◌<◌, ◌≤◌, Bool, true, false, List, [], ◌∷◌, ◌++◌, length, drop, refl, sym, ap, ◌∙◌, Option, Some, None, arith}
+use Rattle.std.specs.Prelude.{◌==◌, cond}
 use Rattle.std.proofs.lemmas.Bool.Decides.{nat_tests}
-use Rattle.cmeaning.specs.declared.tree.Expr.{Expr}
 use Rattle.cmeaning.specs.declared.tree.Stmt.{Stmt}
 use Rattle.cmeaning.specs.declared.tree.Stmt.TheVariants as S
-use Rattle.cmeaning.specs.Flat.{Flat, all_labels, found_in, piece_of, piece_step, pieces_of}
-use Rattle.cmeaning.proofs.Flat.{piece_of_if, piece_of_goto, piece_of_label, piece_of_return}
+use Rattle.cmeaning.specs.Flat.{found_in, piece_of}
+use Rattle.cmeaning.proofs.Flat.{piece_of_if, piece_of_label, piece_of_return}
 use Rattle.blockcode.specs.declared.code.Exit.{Exit}
 use Rattle.blockcode.specs.declared.code.Exit.TheVariants as X
 use Rattle.blockcode.specs.declared.code.Block.{Block}
 use Rattle.blockcode.specs.Laid.{numbered, label_at, label_line, goto_line, goto, exit_lines, laid_from}
-use Rattle.layout_laws.proofs.Pieces.{span_of, labels_in, steps_of, span_append, steps_append, labels_append, AllSimple, simple_span, simple_labels, IsMeasured, simple_measured, measured_append, drop_past, measured_goto, measured_return, measured_label, measured_if, label_none}
+use Rattle.layout_laws.proofs.Pieces.{span_of, labels_in, steps_of, steps_append, labels_append, AllSimple, simple_labels, IsMeasured, simple_measured, measured_append, drop_past, measured_goto, measured_return, measured_label, measured_if, label_none}
 
 measured_none : (returns : ℕ → Bool) → IsMeasured returns []
 measured_none returns = record { steps = λ place out p. refl }

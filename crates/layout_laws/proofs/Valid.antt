@@ -1,11 +1,9 @@
 -- The laid-out function is a valid tree, where the code's statements and exits obey the rules of one.
-use Rattle.std.proofs.Common.{◌≡◌, ◌≢◌, ℕ, zero, suc, ◌+◌, ◌-◌, ◌^◌, ◌<◌, ◌≤◌, Bool, true, false, List, [], ◌∷◌, ◌++◌, length, map, refl, sym, ap, ◌∙◌, subst, Option, Some, None, arith, append_assoc}
+use Rattle.std.proofs.Common.{◌≡◌, ℕ, zero, suc, ◌+◌, ◌-◌, ◌^◌, ◌<◌, ◌≤◌, Bool, true, false, List, [], ◌∷◌, ◌++◌, length, map, refl, sym, ap, ◌∙◌, subst, Option, Some, None, arith, append_assoc}
 use Rattle.std.specs.Prelude.{IsTrue, ◌==◌, ◌&&◌, nat_lt, cond}
-use Rattle.std.specs.List.{slice_index_or}
 use Rattle.std.proofs.lemmas.Bool.Decides.{nat_tests}
 use Rattle.bits_core.specs.declared.word.Width.{Width}
 use Rattle.cmeaning.specs.declared.numbering.Next.{Next}
-use Rattle.cmeaning.specs.declared.tree.CalleeDecl.{CalleeDecl}
 use Rattle.cmeaning.specs.declared.tree.Expr.{Expr}
 use Rattle.cmeaning.specs.declared.tree.Arm.{Arm}
 use Rattle.cmeaning.specs.declared.tree.Stmt.{Stmt, roll-Stmt, fold-roll-Stmt, map-Stmt}
@@ -15,14 +13,14 @@ use Rattle.cmeaning.specs.declared.tree.Stmt.TheVariants as S
 use Rattle.cmeaning.specs.declared.tree.CFunction.{CFunction}
 use Rattle.cmeaning.specs.Do.{widths_in}
 use Rattle.cmeaning.specs.Shape.{shape_of, is_condition}
-use Rattle.cmeaning.specs.Mentions.{Mention, LabelLine, all, in_expr, in_option, in_stmt, in_arm, in_body, stmt_step, arm_step, met_once, with_label, mentioned, numbered}
-use Rattle.cmeaning.specs.Valid.{Rule, Cased, all_hold, plainly, rule_step, cased_step, rule_of, is_body, is_returned, is_name, are_params, first_next, IsValid}
+use Rattle.cmeaning.specs.Mentions.{Mention, in_expr, in_option, in_stmt, in_body, stmt_step, arm_step, with_label, numbered}
+use Rattle.cmeaning.specs.Valid.{Rule, Cased, all_hold, plainly, rule_step, cased_step, rule_of, is_body, is_returned, is_name, are_params, IsValid}
 use Rattle.cmeaning.proofs.Mentions.{numbered_append, numbered_if}
 use Rattle.blockcode.specs.declared.code.Exit.{Exit}
 use Rattle.blockcode.specs.declared.code.Exit.TheVariants as X
 use Rattle.blockcode.specs.declared.code.Block.{Block}
 use Rattle.blockcode.specs.declared.code.Code.{Code}
-use Rattle.blockcode.specs.Laid.{is_named, flags_from, numbered as label_list, labels_of, label_at, label_line, goto_line, goto, exit_lines, laid_from, laid_body, params_of, locals_of, laid_out}
+use Rattle.blockcode.specs.Laid.{is_named, flags_from, numbered as label_list, labels_of, label_at, label_line, goto_line, goto, exit_lines, laid_from, params_of, laid_out}
 use Rattle.blockcode.specs.Plain.{AreParams}
 use Rattle.blockcode.specs.Numbers.{AreNumbered}
 use Rattle.layout_laws.proofs.Laid.{locals_none}

@@ -6,7 +6,7 @@ use Rattle.std.specs.Option.{is_none}
 use Rattle.listing_lines.specs.Text.{Line, parts_of}
 use Rattle.listing_lines.specs.Tokens.{bytes_of, decimal_of, is_name}
 use Rattle.listing_print.specs.Printed as printed
-use Rattle.listing_print.specs.Printed.{at_line, bytes_line, function_line, hexadecimal, kind_word, name_of, op_line, order_word, output_parts, pairs, place_part, proto_line, range_part, result_part, returns_parts, space_line, spaced, stack_line, storage_part, version_line, word_parts}
+use Rattle.listing_print.specs.Printed.{at_line, bytes_line, function_line, hexadecimal, kind_word, name_of, order_word, pairs, place_part, range_part, returns_parts, space_line, spaced, stack_line, version_line}
 use Rattle.pcode_model.specs.declared.listing.Proto.{Proto}
 use Rattle.pcode_model.specs.declared.listing.Space.{Space}
 use Rattle.pcode_model.specs.declared.listing.SpaceKind.{SpaceKind}

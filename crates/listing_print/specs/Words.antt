@@ -1,5 +1,5 @@
 -- The words of the operations, as the P-Code Reference Manual writes them. Letter case counts.
-use Rattle.std.specs.Prelude.{ℕ, List, ◌++◌, codes}
+use Rattle.std.specs.Prelude.{◌++◌, codes}
 use Rattle.listing_lines.specs.Text.{Line}
 use Rattle.bits_core.specs.declared.ops.Unary.{Unary}
 use Rattle.bits_core.specs.declared.ops.Unary.TheVariants as unary

@@ -11,7 +11,7 @@ use Rattle.lists.specs.Threads.{State, Rep, list_of, detached, attached}
 use Rattle.lists.specs.Nodes.{number, field, next_of, key_of, held_of, of_slot, ends_slot}
 use Rattle.lists.specs.Edits.{links, Edited}
 use Rattle.lists.specs.Families.{list_at, key_at, IsFull, Moved, family_of, list_slot, same_option, inserted}
-use Rattle.lists.proofs.Chains.{follow_is, eqb_not, split, apart_sides}
+use Rattle.lists.proofs.Chains.{follow_is, eqb_not}
 use Rattle.lists.proofs.Detach.{detached_rep, cases_in, in_less, absent, apart_less}
 use Rattle.lists.proofs.Attach.{attached_rep}
 

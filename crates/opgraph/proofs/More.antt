@@ -5,13 +5,13 @@ use Rattle.std.proofs.lemmas.Bool.{cases_eq}
 use Rattle.std.proofs.lemmas.List.{length-set}
 use Rattle.opgraph.specs.declared.code.Code.{Code}
 use Rattle.opgraph.specs.declared.code.Body.{Body}
-use Rattle.lists.specs.Chains.{put_at, put_key}
+use Rattle.lists.specs.Chains.{put_at}
 use Rattle.lists.proofs.Chains.{put_here, put_away, key_here, key_away}
 use Rattle.lists.proofs.Fields.{get_set, get_other}
 use Rattle.lists.specs.Families.{Family, list_at, key_at, MoreSpare, MoreLists}
 use Rattle.opgraph.specs.Graph.{OpRow, op_at, block_at, Same, Rewritten}
 use Rattle.opgraph.specs.Parts.{or_zero, row_slot, inputs_of, row_of, uses_of, slot_of, graph_of, has_value, HasValue, Good, Kept, KeptNodes}
-use Rattle.opgraph.proofs.Tables.{some_same, none_some, some_of, get_low, get_past, below_or, op_at_is, uses_at_is}
+use Rattle.opgraph.proofs.Tables.{some_same, none_some, some_of, below_or, op_at_is, uses_at_is}
 use Rattle.opgraph.proofs.Whole.{whole}
 
 get_more : {X : Type 0} (xs : List X) (y : X) (i : ℕ) → i < length xs → slice_get (xs ++ y ∷ []) i ≡ slice_get xs i

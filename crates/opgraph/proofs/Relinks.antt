@@ -5,7 +5,7 @@ use Rattle.std.proofs.lemmas.Bool.{cases_eq}
 use Rattle.opgraph.specs.declared.code.Body.{Body}
 use Rattle.opgraph.specs.declared.ids.Slot.{Slot}
 use Rattle.lists.specs.Chains.{IsIn, Apart, removed, last_or, same_key}
-use Rattle.lists.proofs.Chains.{put_here, put_away, key_here, key_away, removed_absent, removed_within, apart_sides, same_key_is, cases_key, key_away}
+use Rattle.lists.proofs.Chains.{put_here, put_away, key_here, key_away, removed_absent, removed_within, apart_sides, key_away}
 use Rattle.lists.specs.Families.{Family, list_at, key_at, Moved}
 use Rattle.opgraph.specs.Graph.{OpRow, op_at, uses_at, IsOp, IsValue, Rewritten, Renamed, inputs_in, renamed, renamed_row, front}
 use Rattle.opgraph.specs.Parts.{or_zero, row_slot, inputs_of, slot_of, graph_of, HasValue, Good, moved_key, MovedAll}

@@ -1,10 +1,10 @@
 -- Edits one after another.
-use Rattle.std.proofs.Common.{◌≡◌, ℕ, ◌+◌, ◌≤◌, List, [], ◌∷◌, ◌++◌, length, map, take, drop, ◌⊎◌, inl, inr, Option, Some, None, IsSome, refl, sym, ap, ◌∙◌, subst, arith}
+use Rattle.std.proofs.Common.{◌≡◌, ℕ, List, [], ◌∷◌, inl, inr, Option, Some, None, IsSome, refl, sym, ap, ◌∙◌, subst}
 use Rattle.std.proofs.Math.Path.{fun_ext}
 use Rattle.std.proofs.lemmas.Bool.{cases_eq}
 use Rattle.lists.specs.Chains.{put_at}
 use Rattle.lists.proofs.Chains.{put_here, put_away}
-use Rattle.opgraph.specs.Graph.{OpRow, Graph, op_at, block_at, uses_at, IsOp, IsValue, AreValues, Same, Rewritten, Added, Removed, inputs_in, has_width, front}
+use Rattle.opgraph.specs.Graph.{OpRow, Graph, op_at, block_at, uses_at, IsOp, IsValue, AreValues, Same, Rewritten, Added, Removed, inputs_in, has_width}
 use Rattle.opgraph.proofs.Tables.{some_same}
 
 pub same_refl : (g : Graph) → Same g g

@@ -3,7 +3,7 @@ use Rattle.std.proofs.Common.{◌≡◌, ℕ, zero, suc, ◌<◌, ◌≤◌, Lis
 use Rattle.std.proofs.Math.Path.{fun_ext}
 use native.Mathlib.Nat.{not-suc-le-zero, le_of_suc-le-suc}
 use Rattle.opgraph.specs.declared.code.Body.{Body}
-use Rattle.lists.specs.Families.{Family, list_at, key_at}
+use Rattle.lists.specs.Families.{Family, key_at}
 use Rattle.opgraph.specs.Graph.{op_slot, list_slot, op_at, uses_at}
 use Rattle.opgraph.specs.Parts.{table, row_slot, row_of, uses_of, slot_of, graph_of}
 

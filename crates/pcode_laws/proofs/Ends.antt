@@ -1,7 +1,7 @@
 -- How a run of p-code may end.
-use Rattle.std.proofs.Common.{◌≡◌, ◌≢◌, ℕ, zero, suc, Bool, true, false, List, [], ◌∷◌, ◌++◌, refl, sym, ap, ◌∙◌, subst, Option, Some, None}
-use Rattle.std.specs.Prelude.{Result, Ok, Err, ◌==◌, cond}
-use Rattle.machine.specs.Trace.{Event, End, Returned, DivZero, NoAnswer, NoReturn, BadTarget, Call, Other, Trace}
+use Rattle.std.proofs.Common.{◌≡◌, ℕ, zero, suc, Bool, true, false, List, [], ◌∷◌, refl, sym, subst, Option, Some, None}
+use Rattle.std.specs.Prelude.{Result, Ok, Err}
+use Rattle.machine.specs.Trace.{Event, End, Returned, DivZero, NoAnswer, NoReturn, BadTarget, Call, Other}
 use Rattle.machine.specs.Machine.{after, seen}
 use Rattle.pcode_model.specs.declared.listing.SpaceKind.{SpaceKind}
 use Rattle.pcode_model.specs.declared.listing.SpaceKind.TheVariants.{Constant, Ram, Register, Unique}
@@ -13,12 +13,11 @@ use Rattle.pcode_model.specs.declared.listing.Op.{Op}
 use Rattle.pcode_model.specs.declared.listing.Listing.{Listing}
 use Rattle.pcode_model.specs.declared.opcode.Opcode.{Opcode}
 use Rattle.pcode_model.specs.declared.opcode.Opcode.TheVariants as O
-use Rattle.bits_core.specs.Value.{divide_value}
 use Rattle.pcode_model.specs.Spaces.{kind_of, first_ram}
 use Rattle.pcode_model.specs.Places.{Standing, Nothing, Passes, Does, standing, next_place}
 use Rattle.pcode_model.specs.Memory.{Acts, Frame, Bytes, ByteWrite}
-use Rattle.pcode_model.specs.World.{Answer, World, ended, recorded, stored_as, Taken, Stops, Took, took, take_from, take_answer, write_all, and_then, unless_over}
-use Rattle.pcode_model.specs.Step.{State, Effect, Ends, Goes, Writes, Fetches, Puts, Calls, Asks, Operand, Reads, ReadsStack, moved, in_world, write_varnode, write_out, fetched, put_at, read_at, as_word, read_varnode, read_operand, with_first, read_all, divided, effect_of, effect_at, answered, called, output, asked, gone, apply, operands, step_at, step, machine, proto_of, result_of, stack_address, bytes_in, size_out, varnode_at}
+use Rattle.pcode_model.specs.World.{Answer, World, recorded, stored_as, Taken, Stops, Took, took, take_from, take_answer, write_all, and_then, unless_over}
+use Rattle.pcode_model.specs.Step.{State, Effect, Ends, Goes, Writes, Fetches, Puts, Calls, Asks, Operand, Reads, ReadsStack, moved, in_world, write_varnode, write_out, fetched, put_at, read_at, as_word, read_varnode, read_operand, with_first, read_all, divided, effect_of, effect_at, answered, called, output, asked, gone, apply, operands, step_at, step, machine, proto_of, result_of, stack_address, bytes_in, size_out}
 use Rattle.pcode_laws.proofs.Grows.{world_taken}
 
 -- which ends there may be: those that a step gives by itself, and those that the memory gives

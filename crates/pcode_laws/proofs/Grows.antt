@@ -1,8 +1,8 @@
 -- A run of p-code only adds to what it has shown.
-use Rattle.std.proofs.Common.{◌≡◌, ℕ, Bool, true, false, List, [], ◌∷◌, ◌++◌, refl, sym, ap, ◌∙◌, subst, Option, Some, None, append-nil}
+use Rattle.std.proofs.Common.{◌≡◌, ℕ, Bool, true, false, List, [], ◌∷◌, refl, Option, Some, None}
 use Rattle.std.specs.Prelude.{Result, Ok, Err}
-use Rattle.machine.specs.Trace.{Event, End, NoAnswer, Call, Other}
-use Rattle.machine.specs.TwoWay.{IsPrefix, IsFront, GoesOn}
+use Rattle.machine.specs.Trace.{Event, End, Call, Other}
+use Rattle.machine.specs.TwoWay.{IsPrefix, IsFront}
 use Rattle.machine.specs.Machine.{IsMonotone}
 use Rattle.machine.proofs.TwoWay.{prefix_refl, prefix_trans, front_of_going, front_refl}
 use Rattle.pcode_model.specs.declared.listing.SpaceKind.{SpaceKind}
@@ -14,8 +14,8 @@ use Rattle.pcode_model.specs.declared.listing.Listing.{Listing}
 use Rattle.pcode_model.specs.Spaces.{kind_of}
 use Rattle.pcode_model.specs.Places.{Standing, Nothing, Passes, Does, standing}
 use Rattle.pcode_model.specs.Memory.{Acts, Frame}
-use Rattle.pcode_model.specs.World.{Answer, World, ended, recorded, with_memory, stored_as, store, Taken, Stops, Took, took, take_from, take_answer, write_all, shown, unless_over}
-use Rattle.pcode_model.specs.Step.{State, Effect, Ends, Goes, Writes, Fetches, Puts, Calls, Asks, moved, in_world, write_varnode, write_out, fetched, put_at, answered, called, output, asked, gone, apply, step_at, step, machine}
+use Rattle.pcode_model.specs.World.{Answer, World, recorded, stored_as, Taken, Stops, Took, took, take_from, take_answer, write_all, shown, unless_over}
+use Rattle.pcode_model.specs.Step.{State, Effect, Ends, Goes, Writes, Fetches, Puts, Calls, Asks, moved, in_world, write_varnode, write_out, fetched, put_at, answered, called, output, asked, gone, apply, step_at, machine}
 
 abbrev pub Adds : {M : Type 0} → World M → World M → Type 0
 Adds w v = IsPrefix w.events v.events

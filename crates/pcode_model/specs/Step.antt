@@ -1,7 +1,7 @@
 -- The step of the p-code run, after the P-Code Reference Manual; ends, answers, hidden bytes and the order of effects
 -- are this project's own. One step carries out one op, or passes an instruction without ops: it reads all operands,
 -- then writes. The step is defined over any memory, so that the p-code run and the frame run are two instances.
-use Rattle.std.specs.Prelude.{ℕ, suc, ◌+◌, ◌-◌, ◌*◌, ◌%◌, ◌^◌, ◌==◌, ◌&&◌, nat_le, nat_lt, Bool, true, false, if◌then◌else◌, List, [], ◌∷◌, slice_get, slice_index, Option, Some, None, Result, Ok, Err}
+use Rattle.std.specs.Prelude.{ℕ, suc, ◌+◌, ◌*◌, ◌%◌, ◌==◌, ◌&&◌, nat_le, nat_lt, Bool, true, false, if◌then◌else◌, List, [], ◌∷◌, slice_get, slice_index, Option, Some, None, Result, Ok, Err}
 use Rattle.machine.specs.Trace.{End, Returned, DivZero, NoReturn, BadTarget, Trace, Call, Other}
 use Rattle.machine.specs.Machine.{Machine, seen}
 use Rattle.bits_core.specs.Value.{limit, unary_value, binary_value, divide_value}

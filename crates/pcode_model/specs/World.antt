@@ -1,10 +1,10 @@
 -- The world that all runs of a listing share, its few effects, and what a run begins with. This project's own.
-use Rattle.std.specs.Prelude.{◌≡◌, ℕ, ◌+◌, ◌%◌, ◌^◌, ◌<◌, Bool, List, [], ◌∷◌, ◌++◌, length, Option, Some, None, Result, Ok, Err}
-use Rattle.machine.specs.Trace.{Event, Call, Other, Store, End, NoAnswer, Trace}
+use Rattle.std.specs.Prelude.{◌≡◌, ℕ, ◌+◌, ◌<◌, List, [], ◌∷◌, ◌++◌, Option, Some, None, Result, Ok, Err}
+use Rattle.machine.specs.Trace.{Event, Store, End, NoAnswer, Trace}
 use Rattle.pcode_model.specs.declared.listing.SpaceKind.TheVariants.{Ram}
 use Rattle.pcode_model.specs.declared.listing.Listing.{Listing}
 use Rattle.pcode_model.specs.Spaces.{size_of, kind_of, first_ram, fixed_byte}
-use Rattle.pcode_model.specs.Memory.{ByteWrite, HiddenWrite, Acts, Whole, Bytes}
+use Rattle.pcode_model.specs.Memory.{ByteWrite, HiddenWrite, Acts, Bytes}
 
 -- What a callee does, as far as a run sees it: its result word, the bytes of the register space after it, the bytes of
 -- ram spaces that it writes, in order, and the bytes of the first ram space that it hides, in order.

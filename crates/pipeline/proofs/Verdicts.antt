@@ -1,5 +1,5 @@
 -- No input is both accepted and refused.
-use Rattle.std.proofs.Common.{◌≡◌, ◌∙◌, ◌≤◌, ◌<◌, ℕ, List, [], Option, Some, None, length, ap, inl, inr, refl, sym, subst, arith}
+use Rattle.std.proofs.Common.{◌≡◌, ◌∙◌, ℕ, List, [], Some, None, length, ap, sym, subst, arith}
 use Rattle.pcode_model.specs.declared.atoms.Atom.{Atom}
 use Rattle.pcode_model.specs.declared.flow.FlowWhy.TheVariants as W
 use Rattle.pcode_model.specs.declared.listing.Listing.{Listing}
@@ -8,19 +8,18 @@ use Rattle.pcode_model.specs.declared.listing.Varnode.{Varnode}
 use Rattle.pcode_model.specs.declared.rules.OpFault.{OpFault}
 use Rattle.pcode_model.specs.declared.storage.ParamStorage.{ParamStorage}
 use Rattle.pcode_model.specs.declared.storage.ParamStorage.TheVariants as P
-use Rattle.pcode_model.specs.Flow.{AreStarts, IsIn, NoFault}
+use Rattle.pcode_model.specs.Flow.{AreStarts, IsIn}
 use Rattle.pcode_model.specs.Rules.{first_bad}
 use Rattle.pcodetext.specs.declared.fault.TextFault.{TextFault}
-use Rattle.pcodetext.specs.Meaning.{Good, Bad, reading}
+use Rattle.pcodetext.specs.Meaning.{Good, Bad}
 use Rattle.pcodetext.proofs.Whole.{is_read}
-use Rattle.flow.specs.Answer.{IsFlowFault}
 use Rattle.flow.specs.declared.answer.FlowFault.TheVariants as F
 use Rattle.stackvars.specs.Accessed as listed
 use Rattle.stackvars.specs.Accessed.{AccessesSoMany, ListsAccessed}
 use Rattle.stackvars.specs.declared.accessed.AtomFault.TheVariants as A
 use Rattle.plain_laws.proofs.Form.{spaces_differ}
 use Rattle.plain_laws.proofs.Formed.{IsFormed}
-use Rattle.pipeline.specs.Verdict.{Accepts, Bytes, IsAccepted, IsGood, IsRefused, RefusedBy}
+use Rattle.pipeline.specs.Verdict.{Accepts, Bytes, IsAccepted, IsRefused, RefusedBy}
 use Rattle.pipeline.specs.declared.refusal.Refusal.{Refusal}
 use Rattle.pipeline.specs.declared.refusal.Refusal.TheVariants as R
 use Rattle.pipeline.proofs.Formed.{formed_is}

@@ -1,29 +1,25 @@
 -- Each range that a supported listing accesses is one of those that it names, so it has 1 to 16 bytes, lies inside its
 -- space, and is equal to or apart from every other.
-use Rattle.std.proofs.Common.{◌≡◌, ◌≢◌, ◌⊎◌, ◌≤◌, ◌<◌, ◌+◌, ◌^◌, ℕ, suc, Bool, true, false, List, [], ◌∷◌, ◌++◌, Option, Some, None, refl, inl, inr, sym, subst, ap, ◌∙◌, arith}
-use Rattle.std.specs.Prelude.{◌&&◌, ◌==◌, if◌then◌else◌, nat_le, nat_lt, not}
-use Rattle.std.proofs.lemmas.Bool.Decides.{nat_tests}
+use Rattle.std.proofs.Common.{◌≡◌, ◌⊎◌, ◌+◌, ℕ, Bool, true, false, List, [], ◌∷◌, ◌++◌, Option, Some, None, refl, inl, inr, sym, subst}
+use Rattle.std.specs.Prelude.{if◌then◌else◌}
 use Rattle.pcode_model.specs.declared.opcode.Opcode.{Opcode}
 use Rattle.pcode_model.specs.declared.opcode.Opcode.TheVariants as O
 use Rattle.pcode_model.specs.declared.listing.SpaceKind.{SpaceKind}
-use Rattle.pcode_model.specs.declared.listing.SpaceKind.TheVariants.{Constant, Ram, Register, Unique}
+use Rattle.pcode_model.specs.declared.listing.SpaceKind.TheVariants.{Register, Unique}
 use Rattle.pcode_model.specs.declared.listing.Op.{Op}
 use Rattle.pcode_model.specs.declared.listing.Place.{Place}
 use Rattle.pcode_model.specs.declared.listing.Varnode.{Varnode}
-use Rattle.pcode_model.specs.declared.listing.Storage.{Storage}
 use Rattle.pcode_model.specs.declared.listing.Instruction.{Instruction}
-use Rattle.pcode_model.specs.declared.listing.Proto.{Proto}
 use Rattle.pcode_model.specs.declared.listing.Listing.{Listing}
 use Rattle.pcode_model.specs.Flow.{IsIn}
-use Rattle.pcode_model.specs.Spaces.{kind_of, or, register_space, size_of, unique_space}
-use Rattle.pcode_model.specs.Ranges.{leaves}
+use Rattle.pcode_model.specs.Spaces.{kind_of, register_space, unique_space}
 use Rattle.pcode_model.specs.Places.{Standing, Nothing, Passes, Does, standing}
-use Rattle.pcode_model.specs.Step.{Operand, Reads, all_but_first, all_read, operands, proto_of}
+use Rattle.pcode_model.specs.Step.{all_but_first, all_read, operands, proto_of}
 use Rattle.pcode_model.specs.Atoms.{Accesses, IsLocal, further_ranges, one_range, op_ranges, ranges_in, ranges_read}
 use Rattle.supported.specs.Ranges as named
 use Rattle.supported.specs.Ranges.{code_ranges, is_local, is_local_kind, local_of, locals_of, named_ranges, ops_ranges, output_of, result_range, storage_ranges}
-use Rattle.supported.specs.Supported.{IsSupported, is_supported_code, is_supported_op}
-use Rattle.plain_laws.proofs.Rules.{both, either}
+use Rattle.supported.specs.Supported.{IsSupported, is_supported_code}
+use Rattle.plain_laws.proofs.Rules.{both}
 use Rattle.plain_laws.proofs.Standing.{StandsIn, stands_in, supported_in}
 use Rattle.plain_laws.proofs.Formed.{Inside, IsFormed}
 

@@ -1,8 +1,6 @@
 -- A supported listing with its blocks and its atoms has all that the plain lowering's theorem asks for.
-use Rattle.std.proofs.Common.{◌≡◌, ◌≢◌, ◌⊎◌, ◌≤◌, ◌<◌, ◌+◌, ◌-◌, ◌^◌, ℕ, zero, suc, Bool, true, false, List, [], ◌∷◌, ◌++◌, Option, Some, None, length, map, refl, inl, inr, sym, subst, ap, ◌∙◌, arith}
-use Rattle.std.specs.Prelude.{◌&&◌, ◌==◌, nat_le, nat_lt, not, slice_get}
-use Rattle.std.specs.Option.{option_map}
-use Rattle.std.proofs.lemmas.Option.{slice_get-map}
+use Rattle.std.proofs.Common.{◌≡◌, ◌≢◌, ◌⊎◌, ◌≤◌, ◌<◌, ℕ, zero, suc, true, false, List, [], ◌∷◌, Some, None, length, refl, inl, inr, sym, subst, ap, ◌∙◌, arith}
+use Rattle.std.specs.Prelude.{◌==◌, slice_get}
 use Rattle.std.proofs.lemmas.Bool.Decides.{nat_tests}
 use Rattle.pcode_model.specs.declared.storage.ParamStorage.{ParamStorage}
 use Rattle.pcode_model.specs.declared.storage.ParamStorage.TheVariants as P
@@ -10,9 +8,7 @@ use Rattle.pcode_model.specs.declared.atoms.Atom.{Atom}
 use Rattle.pcode_model.specs.declared.flow.Block.{Block}
 use Rattle.pcode_model.specs.declared.listing.Varnode.{Varnode}
 use Rattle.pcode_model.specs.declared.listing.Listing.{Listing}
-use Rattle.pcode_model.specs.declared.listing.Place.{Place}
-use Rattle.pcode_model.specs.declared.listing.Instruction.{Instruction}
-use Rattle.pcode_model.specs.Flow.{IsFlow, IsIn, NoFault, Reached}
+use Rattle.pcode_model.specs.Flow.{IsFlow, IsIn, NoFault}
 use Rattle.pcode_model.specs.declared.listing.SpaceKind.TheVariants.{Register, Unique}
 use Rattle.pcode_model.specs.Spaces.{kind_of, register_space, unique_space}
 use Rattle.pcode_model.specs.Atoms.{Accesses, InOrder, StandsBefore}
@@ -25,8 +21,7 @@ use Rattle.ranges.specs.Ranges.{IsInside, IsTable}
 use Rattle.ranges.specs.Ranges as table
 use Rattle.plaincode.specs.Form.{AreNarrow, IsLocalStorage, IsPlainForm}
 use Rattle.plaincode.specs.Lowered.{range_at, range_of, ranges_of}
-use Rattle.plain_laws.proofs.Rules.{both}
-use Rattle.plain_laws.proofs.Formed.{Inside, IsFormed}
+use Rattle.plain_laws.proofs.Formed.{IsFormed}
 use Rattle.plain_laws.proofs.Accessed.{accessed_apart, accessed_inside}
 use Rattle.plain_laws.proofs.Plain.{plain_at}
 

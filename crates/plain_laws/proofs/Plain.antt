@@ -1,5 +1,5 @@
 -- What stands at a reached place of a supported listing has the form that the plain lowering asks for.
-use Rattle.std.proofs.Common.{◌≡◌, ◌⊎◌, ◌≤◌, ◌<◌, ◌+◌, ◌^◌, ℕ, zero, suc, Bool, true, false, List, [], ◌∷◌, ◌++◌, Option, Some, None, length, refl, inl, inr, sym, subst, ap, ◌∙◌, arith}
+use Rattle.std.proofs.Common.{◌≡◌, ◌≤◌, ◌<◌, ◌+◌, ℕ, suc, Bool, true, false, List, [], ◌∷◌, Option, Some, None, length, refl, inl, inr, sym, subst, arith}
 use Rattle.std.specs.Prelude.{◌&&◌, ◌==◌, if◌then◌else◌, nat_le, nat_lt, not}
 use Rattle.std.proofs.lemmas.Bool.Decides.{nat_tests}
 use Rattle.bits_core.specs.Value.{limit, IsUnarySized, IsBinarySized}
@@ -18,19 +18,18 @@ use Rattle.pcode_model.specs.declared.listing.Instruction.{Instruction}
 use Rattle.pcode_model.specs.declared.listing.Listing.{Listing}
 use Rattle.pcode_model.specs.declared.rules.OpWhy.{OpWhy}
 use Rattle.pcode_model.specs.declared.rules.OpWhy.TheVariants.{Arity, TooWide, SizeRule}
-use Rattle.pcode_model.specs.declared.rules.Output.{Output}
 use Rattle.pcode_model.specs.declared.rules.Output.TheVariants as output
-use Rattle.pcode_model.specs.Flow.{IsIn, Reached, Way, Fails, NoFault, standing_ways}
+use Rattle.pcode_model.specs.Flow.{IsIn, Reached, Fails, NoFault, standing_ways}
 use Rattle.pcode_model.specs.declared.flow.FlowWhy.TheVariants.{NoTarget}
-use Rattle.pcode_model.specs.Spaces.{kind_of, or, register_space, same_kind, unique_space}
+use Rattle.pcode_model.specs.Spaces.{kind_of, same_kind}
 use Rattle.pcode_model.specs.Places.{Standing, Nothing, Passes, Does, standing}
-use Rattle.pcode_model.specs.Step.{all_but_first, all_read, operands, proto_of, size_out, varnode_at}
-use Rattle.pcode_model.specs.Atoms.{Accesses, IsLocal, further_ranges, one_range, op_ranges, ranges_at, ranges_in, ranges_read}
-use Rattle.pcode_model.specs.Rules.{any_wide, binary_sized, breaks, first_bad, has_operands, has_output, input_ranges, is_too_wide, is_wide, names_address, operands_of, output_wide, past_first, rules, sizes_fit, unary_sized}
+use Rattle.pcode_model.specs.Step.{all_but_first, all_read, operands, proto_of, size_out}
+use Rattle.pcode_model.specs.Atoms.{Accesses, further_ranges, one_range, op_ranges, ranges_in, ranges_read}
+use Rattle.pcode_model.specs.Rules.{any_wide, binary_sized, breaks, first_bad, has_operands, has_output, input_ranges, is_too_wide, names_address, operands_of, output_wide, past_first, rules, sizes_fit, unary_sized}
 use Rattle.supported.specs.Ranges.{code_ranges, is_local, is_local_kind, named_ranges, result_range, storage_ranges}
 use Rattle.supported.specs.Supported.{IsSupported, is_ram, is_supported_binary, is_supported_code, none_in_ram, output_off_ram, read_inputs, rest_of}
-use Rattle.plaincode.specs.Form.{HasNode, IsNarrow, IsOperand, IsOperandBy, IsOutput, IsOutputBy, IsPlain, IsPlainOp, IsResult}
-use Rattle.plain_laws.proofs.Rules.{both, breaks_none, either, neither}
+use Rattle.plaincode.specs.Form.{HasNode, IsOperand, IsOperandBy, IsOutput, IsOutputBy, IsPlain, IsPlainOp, IsResult}
+use Rattle.plain_laws.proofs.Rules.{both, breaks_none, neither}
 use Rattle.plain_laws.proofs.Standing.{StandsIn, stands_in, supported_in}
 use Rattle.plain_laws.proofs.Formed.{IsFormed, IsInput}
 use Rattle.plain_laws.proofs.Accessed.{behind, in_front, named_op}

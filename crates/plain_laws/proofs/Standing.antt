@@ -1,12 +1,12 @@
 -- What stands at a place is an op of an instruction of the code, and what holds of each op holds of it.
-use Rattle.std.proofs.Common.{◌≡◌, ◌⊎◌, ℕ, zero, suc, Bool, true, false, List, [], ◌∷◌, Option, Some, None, refl, inl, inr, sym, subst, ap, ◌∙◌}
-use Rattle.std.specs.Prelude.{◌&&◌, ◌==◌, if◌then◌else◌, slice_get}
+use Rattle.std.proofs.Common.{◌≡◌, ◌⊎◌, ℕ, zero, suc, Bool, true, false, List, [], ◌∷◌, Option, Some, None, refl, inl, inr, sym, subst, ap}
+use Rattle.std.specs.Prelude.{◌==◌, if◌then◌else◌, slice_get}
 use Rattle.pcode_model.specs.declared.listing.Op.{Op}
 use Rattle.pcode_model.specs.declared.listing.Place.{Place}
 use Rattle.pcode_model.specs.declared.listing.Instruction.{Instruction}
 use Rattle.pcode_model.specs.declared.listing.Listing.{Listing}
 use Rattle.pcode_model.specs.Flow.{IsIn}
-use Rattle.pcode_model.specs.Places.{Standing, Nothing, Passes, Does, instruction_in, op_in, standing, standing_in, standing_of}
+use Rattle.pcode_model.specs.Places.{Does, instruction_in, op_in, standing, standing_in, standing_of}
 use Rattle.supported.specs.Supported.{are_supported_ops, is_supported_code_of, is_supported_op}
 use Rattle.plain_laws.proofs.Rules.{both}
 

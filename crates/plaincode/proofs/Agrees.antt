@@ -1,12 +1,11 @@
 -- The C function of the plain lowering agrees with the listing.
-use Rattle.std.proofs.Common.{◌≡◌, ◌≢◌, ℕ, zero, suc, ◌+◌, ◌%◌, ◌<◌, ◌≤◌, Bool, true, false, List, [], ◌∷◌, length, map, Option, Some, None, refl, sym, ap, ◌∙◌, subst, arith}
-use Rattle.std.specs.Prelude.{slice_get, Result, Ok, Err, cond}
+use Rattle.std.proofs.Common.{◌≡◌, ◌≢◌, ℕ, zero, suc, ◌<◌, ◌≤◌, Bool, true, false, List, [], ◌∷◌, length, map, Option, Some, None, refl, sym, ap, ◌∙◌, subst}
+use Rattle.std.specs.Prelude.{slice_get, Result, Ok, Err}
 use Rattle.std.specs.Option.{option_map}
 use Rattle.std.proofs.lemmas.Option.{slice_get-map}
-use Rattle.machine.specs.Trace.{End, Returned, DivZero, ReadOnlyWrite, Outside, Undefined, Trace}
-use Rattle.machine.specs.TwoWay.{TwoWay, NeverEnds, IsPrefix, bare, bare_end, seen_as}
-use Rattle.machine.specs.Machine.{Machine, seen}
-use Rattle.machine.specs.Agree.{Agree}
+use Rattle.machine.specs.Trace.{End, Returned, ReadOnlyWrite, Outside, Undefined, Trace}
+use Rattle.machine.specs.TwoWay.{TwoWay, NeverEnds, bare, bare_end, seen_as}
+use Rattle.machine.specs.Machine.{seen}
 use Rattle.machine.proofs.TwoWay.{two_way_trans, two_way_as, never_ends_along, events_along}
 use Rattle.pcode_model.specs.declared.listing.Varnode.{Varnode}
 use Rattle.pcode_model.specs.declared.listing.Listing.{Listing}
@@ -16,22 +15,20 @@ use Rattle.pcode_model.specs.declared.tables.TableAt.{TableAt}
 use Rattle.pcode_model.specs.declared.atoms.Atom.{Atom}
 use Rattle.pcode_model.specs.declared.flow.Block as flow_block
 use Rattle.pcode_model.specs.Spaces.{size_of, any_at, is_fixed, is_some, or}
-use Rattle.pcode_model.specs.Memory.{Acts, Frame, Layout, Bytes, ByteWrite, Whole, whole, unless, is_framed, is_hidden}
-use Rattle.pcode_model.specs.World.{Entry, IsEntry, World, first_world}
-use Rattle.pcode_model.specs.Step.{State, word_in_bytes, local_word, machine, layout, first_whole, start, seen_p, proto_of, result_of}
+use Rattle.pcode_model.specs.Memory.{Acts, Frame, Layout, Bytes, whole, unless, is_framed, is_hidden}
+use Rattle.pcode_model.specs.World.{Entry, IsEntry, first_world}
+use Rattle.pcode_model.specs.Step.{local_word, machine, layout, first_whole, start, seen_p, proto_of, result_of}
 use Rattle.pcode_model.specs.Flow.{starts_of}
 use Rattle.pcode_laws.proofs.Ends.{Allows, ends_within}
 use Rattle.ranges.specs.Ranges.{Holds}
 use Rattle.cmeaning.specs.Agree.{AgreesWith}
 use Rattle.cmeaning.specs.Step.{seen_c, word_at}
-use Rattle.blockcode.specs.declared.code.Variable.{Variable}
-use Rattle.blockcode.specs.Run.{CodeState, widths, width_in, first_word, first_local, start_code, seen_code, code_machine}
+use Rattle.blockcode.specs.Run.{widths, width_in, first_word, first_local, start_code, seen_code}
 use Rattle.layout_laws.proofs.Laid.{laid_shows}
-use Rattle.plaincode.specs.Nodes.{nearest}
 use Rattle.plaincode.specs.Lowered.{range_at, range_of, ranges_of, variable_for, width_of_result, result_width, lowered, plain_function}
 use Rattle.plaincode.specs.Form.{IsNarrow, IsLocalStorage, AreNarrow, IsPlainForm}
 use Rattle.plaincode.proofs.Nodes.{nearest_is}
-use Rattle.plaincode.proofs.Operands.{over, Sees, Setting}
+use Rattle.plaincode.proofs.Operands.{over}
 use Rattle.plaincode.proofs.Exits.{Left}
 use Rattle.plaincode.proofs.Follows.{Given, follows}
 use Rattle.plaincode.proofs.Laying.{entry_found, can_lay}

@@ -1,6 +1,6 @@
 -- What stands for the last op of a block goes where the op goes.
-use Rattle.std.proofs.Common.{◌≡◌, ℕ, zero, suc, ◌<◌, ◌≤◌, Bool, true, false, List, [], ◌∷◌, Option, Some, None, refl, sym, ap, ◌∙◌, subst, arith}
-use Rattle.std.specs.Prelude.{Result, Ok, Err, slice_get, ◌==◌, cond, if◌then◌else◌}
+use Rattle.std.proofs.Common.{◌≡◌, ℕ, zero, suc, Bool, true, false, List, [], ◌∷◌, Option, Some, None, refl, sym, ap, ◌∙◌, subst, arith}
+use Rattle.std.specs.Prelude.{Ok, slice_get, ◌==◌, cond, if◌then◌else◌}
 use Rattle.std.proofs.lemmas.Bool.Decides.{nat_tests}
 use Rattle.machine.specs.Trace.{End, Returned}
 use Rattle.pcode_model.specs.declared.listing.SpaceKind.{SpaceKind}
@@ -16,13 +16,12 @@ use Rattle.pcode_model.specs.declared.flow.Turn.TheVariants.{GoesOn}
 use Rattle.pcode_model.specs.declared.flow.Exit as flow_exit
 use Rattle.pcode_model.specs.declared.flow.Exit.TheVariants as F
 use Rattle.pcode_model.specs.Spaces.{kind_of}
-use Rattle.pcode_model.specs.Places.{Standing, Nothing, Passes, Does, next_place, branch_place, next_instruction}
+use Rattle.pcode_model.specs.Places.{Standing, Nothing, Passes, Does, next_place, branch_place}
 use Rattle.pcode_model.specs.Memory.{Acts, Frame, Bytes}
 use Rattle.pcode_model.specs.World.{ended}
-use Rattle.pcode_model.specs.Step.{State, moved, in_world, local_word, with_first, effect_at, apply, gone, operands, read_all, read_varnode, step_at, proto_of, result_of}
+use Rattle.pcode_model.specs.Step.{State, moved, in_world, local_word, with_first, effect_at, apply, gone, step_at, proto_of, result_of}
 use Rattle.pcode_model.specs.Flow.{turn_of, turn_in, next_in, IsStart, JumpsTo, TestsTo, LeavesBy}
 use Rattle.cmeaning.specs.declared.tree.Expr.{Expr}
-use Rattle.cmeaning.specs.declared.tree.Stmt.{Stmt}
 use Rattle.cmeaning.specs.Do.{Local, ends}
 use Rattle.cmeaning.specs.Step.{tested}
 use Rattle.cmeaning.specs.Value.{value_of}
@@ -30,10 +29,10 @@ use Rattle.blockcode.specs.declared.code.Exit.{Exit}
 use Rattle.blockcode.specs.declared.code.Exit.TheVariants as X
 use Rattle.blockcode.specs.Run.{CodeState, at, enters, enters_by, returns_with, leave}
 use Rattle.blockcode.proofs.Straight.{run_all}
-use Rattle.plaincode.specs.Lowered.{operand, operand_by, variable_of, statements_in, result, result_in, exit_by}
-use Rattle.plaincode.specs.Form.{IsNarrow, IsOutput, IsOutputBy, IsResult, IsPlainOp, IsPlain}
+use Rattle.plaincode.specs.Lowered.{operand, operand_by, statements_in, result, result_in, exit_by}
+use Rattle.plaincode.specs.Form.{IsNarrow, IsOutputBy, IsResult, IsPlainOp, IsPlain}
 use Rattle.plaincode.proofs.Nodes.{Means}
-use Rattle.plaincode.proofs.Operands.{over, Sees, Setting, Reading, reading, variable_means}
+use Rattle.plaincode.proofs.Operands.{over, Sees, Setting, reading, variable_means}
 use Rattle.plaincode.proofs.Ops.{Meets, op_of, op_meets}
 
 -- Both have left the block: they go together, and the code stands at the beginning of the block that begins at the place.

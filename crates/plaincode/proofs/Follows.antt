@@ -1,10 +1,10 @@
 -- The run of the lowered code shows what the run of the listing shows, place by place.
-use Rattle.std.proofs.Common.{◌≡◌, ℕ, zero, suc, ◌+◌, ◌<◌, ◌≤◌, List, [], ◌∷◌, ◌++◌, length, drop, map, Option, Some, None, refl, sym, ap, ◌∙◌, subst, arith, ◌⊎◌, inl, inr, append-nil}
+use Rattle.std.proofs.Common.{◌≡◌, ℕ, zero, suc, ◌+◌, ◌<◌, List, [], ◌∷◌, ◌++◌, length, drop, map, Option, Some, None, refl, sym, ap, ◌∙◌, subst, arith, ◌⊎◌, inl, inr}
 use Rattle.std.specs.Prelude.{slice_get}
 use Rattle.std.specs.Option.{option_map}
 use Rattle.std.proofs.lemmas.Option.{slice_get-map}
 use Rattle.machine.specs.Trace.{End}
-use Rattle.machine.specs.Machine.{after, Machine, seen, Goes, GoesRanked, RankedSimulates}
+use Rattle.machine.specs.Machine.{after, seen, GoesRanked, RankedSimulates}
 use Rattle.machine.specs.TwoWay.{TwoWay}
 use Rattle.machine.proofs.Machine.{after_more}
 use Rattle.machine.proofs.Ranked.{two_way_ranked}
@@ -20,18 +20,16 @@ use Rattle.pcode_model.specs.World.{shown, unless_over}
 use Rattle.pcode_model.specs.Step.{State, step_at, step, machine}
 use Rattle.pcode_model.specs.Flow.{IsIn, IsFlow, Reached, RunsBlock, AllRun, starts_of, places_of, first_in}
 use Rattle.pcode_laws.proofs.Grows.{pcode_grows}
-use Rattle.cmeaning.specs.declared.tree.Stmt.{Stmt}
 use Rattle.cmeaning.specs.Do.{Local}
 use Rattle.blockcode.specs.declared.code.Block.{Block}
 use Rattle.blockcode.specs.declared.code.Exit.{Exit}
 use Rattle.blockcode.specs.declared.code.Code.{Code}
 use Rattle.blockcode.specs.Run.{CodeState, at, widths, leave, code_step, code_machine}
 use Rattle.blockcode.proofs.Grows.{code_grows}
-use Rattle.blockcode.proofs.Straight.{run_all, none_of_drop, step_in, still, Stands, Arrived, arrives}
-use Rattle.plaincode.specs.Lowered.{statements, statements_in, body_of, exit_by, exit_of, block_of}
+use Rattle.blockcode.proofs.Straight.{none_of_drop, step_in, still, Stands, arrives}
+use Rattle.plaincode.specs.Lowered.{statements, body_of, exit_by, exit_of, block_of}
 use Rattle.plaincode.specs.Form.{IsPlain}
 use Rattle.plaincode.proofs.Operands.{over, Sees, Setting}
-use Rattle.plaincode.proofs.Ops.{Meets}
 use Rattle.plaincode.proofs.Exits.{Left, Leaving, goes_to, leaves}
 
 -- ---- blocks of the flow

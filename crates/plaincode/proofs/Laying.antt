@@ -1,8 +1,7 @@
 -- The lowered code can be laid out.
-use Rattle.std.proofs.Common.{◌≡◌, ℕ, zero, suc, ◌+◌, ◌-◌, ◌^◌, ◌<◌, ◌≤◌, Bool, true, false, List, [], ◌∷◌, ◌++◌, length, map, Option, Some, None, refl, sym, ap, ◌∙◌, subst, arith, ◌⊎◌, inl, inr, ⊎_elim}
-use Rattle.std.specs.Prelude.{slice_get, ◌==◌, ◌&&◌, cond}
-use Rattle.std.specs.Option.{option_map}
-use Rattle.std.proofs.lemmas.Option.{slice_get-map, slice_get_within}
+use Rattle.std.proofs.Common.{◌≡◌, ℕ, zero, suc, ◌+◌, ◌<◌, Bool, true, false, List, [], ◌∷◌, ◌++◌, length, map, Option, Some, None, refl, sym, ap, ◌∙◌, subst, arith, ◌⊎◌, inl, inr, ⊎_elim}
+use Rattle.std.specs.Prelude.{slice_get, ◌==◌, cond}
+use Rattle.std.proofs.lemmas.Option.{slice_get_within}
 use Rattle.std.proofs.lemmas.Bool.Decides.{nat_tests}
 use Rattle.std.proofs.Math.Path.{fun_ext}
 use Rattle.pcode_model.specs.declared.listing.Varnode.{Varnode}
@@ -14,32 +13,28 @@ use Rattle.pcode_model.specs.declared.opcode.Opcode.{Opcode}
 use Rattle.pcode_model.specs.declared.opcode.Opcode.TheVariants as O
 use Rattle.pcode_model.specs.declared.tables.TableAt.{TableAt}
 use Rattle.pcode_model.specs.declared.atoms.Atom.{Atom}
-use Rattle.pcode_model.specs.declared.flow.Turn.{Turn}
-use Rattle.pcode_model.specs.declared.flow.Turn.TheVariants.{GoesOn}
 use Rattle.pcode_model.specs.declared.flow.Exit as flow_exit
 use Rattle.pcode_model.specs.declared.flow.Exit.TheVariants as F
 use Rattle.pcode_model.specs.declared.flow.Block as flow_block
 use Rattle.pcode_model.specs.Places.{Standing, Nothing, Passes, Does, standing}
-use Rattle.pcode_model.specs.Step.{first_place, callee_in, callee_at, returns}
-use Rattle.pcode_model.specs.Flow.{IsIn, IsFlow, Reached, turn_of, turn_in, turn_at, next_in, IsStart, JumpsTo, TestsTo, LeavesBy, RunsBlock, AllRun, starts_of, places_of, first_in, AreStarts, Entry}
+use Rattle.pcode_model.specs.Step.{first_place, callee_in, returns}
+use Rattle.pcode_model.specs.Flow.{IsIn, IsFlow, turn_of, turn_in, next_in, IsStart, JumpsTo, TestsTo, LeavesBy, RunsBlock, AllRun, starts_of, places_of, first_in, Entry}
 use Rattle.cmeaning.specs.declared.tree.Expr.{Expr}
 use Rattle.cmeaning.specs.declared.tree.Stmt.{Stmt}
-use Rattle.cmeaning.specs.declared.tree.Stmt.TheVariants as S
-use Rattle.cmeaning.specs.Flat.{Do, returns_by}
+use Rattle.cmeaning.specs.Flat.{returns_by}
 use Rattle.cmeaning.proofs.Flat.{piece_of_assign}
 use Rattle.blockcode.specs.declared.code.Exit.{Exit}
 use Rattle.blockcode.specs.declared.code.Exit.TheVariants as X
 use Rattle.blockcode.specs.declared.code.Block.{Block}
-use Rattle.blockcode.specs.declared.code.Code.{Code}
 use Rattle.blockcode.specs.Run.{does_return}
-use Rattle.blockcode.specs.Numbers.{ExitBelow, ExitsBelow, AreNumbered}
+use Rattle.blockcode.specs.Numbers.{ExitBelow, ExitsBelow}
 use Rattle.blockcode.specs.Plain.{AreParams, IsDirect}
-use Rattle.layout_laws.proofs.Pieces.{IsSingle, AllSimple}
+use Rattle.layout_laws.proofs.Pieces.{AllSimple}
 use Rattle.layout_laws.proofs.Positions.{AllBlocks}
 use Rattle.layout_laws.proofs.Laid.{CanLay}
 use Rattle.plaincode.specs.Lowered.{ranges_of, variable_for, variable_of, assigns, op_statements, statements_in, statements, body_of, exit_by, exit_of, block_of, same_place, place_number, lowered}
 use Rattle.plaincode.specs.Form.{IsPlainOp, IsPlain, IsPlainForm}
-use Rattle.plaincode.proofs.Follows.{Begins, begins, in_block}
+use Rattle.plaincode.proofs.Follows.{in_block}
 
 -- ---- statements are assignments
 

@@ -1,9 +1,8 @@
 -- Operands and outputs of ops, and the variables of their ranges.
-use Rattle.std.proofs.Common.{◌≡◌, ℕ, zero, suc, ◌<◌, ◌≤◌, Bool, true, false, List, [], ◌∷◌, Option, Some, None, refl, sym, ap, ◌∙◌, subst, arith, ◌⊎◌, inl, inr, ⊎_elim}
-use Rattle.std.specs.Prelude.{Result, Ok, Err, slice_get, ◌==◌, ◌&&◌, cond}
+use Rattle.std.proofs.Common.{◌≡◌, ℕ, suc, ◌<◌, Bool, true, false, List, [], ◌∷◌, Some, refl, sym, ap, ◌∙◌, arith, ◌⊎◌, ⊎_elim}
+use Rattle.std.specs.Prelude.{Ok, slice_get, cond}
 use Rattle.std.proofs.lemmas.Bool.Decides.{nat_tests}
 use Rattle.bits_core.specs.Value.{limit}
-use Rattle.machine.specs.Trace.{End}
 use Rattle.pcode_model.specs.declared.listing.SpaceKind.{SpaceKind}
 use Rattle.pcode_model.specs.declared.listing.SpaceKind.TheVariants.{Constant, Ram, Register, Unique}
 use Rattle.pcode_model.specs.declared.listing.Varnode.{Varnode}
@@ -18,7 +17,6 @@ use Rattle.ranges.proofs.Variables.{local_word_below}
 use Rattle.cmeaning.specs.declared.tree.Expr.TheVariants as E
 use Rattle.cmeaning.specs.Do.{Local}
 use Rattle.cmeaning.proofs.Value.{width_of_var, value_of_var}
-use Rattle.plaincode.specs.Nodes.{constant}
 use Rattle.plaincode.specs.Lowered.{same_range, variable_of, operand_by, operand}
 use Rattle.plaincode.specs.Form.{IsNarrow, IsOperandBy, IsOperand, IsOutputBy, IsOutput}
 use Rattle.plaincode.proofs.Nodes.{Means, constant_means}

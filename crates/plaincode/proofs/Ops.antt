@@ -1,9 +1,9 @@
 -- What stands for an op does what the op does. A further operation adds its cases here.
-use Rattle.std.proofs.Common.{◌≡◌, ℕ, zero, suc, ◌<◌, ◌≤◌, Bool, true, false, List, [], ◌∷◌, Option, Some, None, refl, sym, ap, ◌∙◌, subst, arith}
-use Rattle.std.specs.Prelude.{Result, Ok, Err, slice_get}
+use Rattle.std.proofs.Common.{◌≡◌, ℕ, ◌<◌, List, [], ◌∷◌, Option, Some, None, refl, sym, ap, ◌∙◌, subst}
+use Rattle.std.specs.Prelude.{Result, Ok}
 use Rattle.bits_core.specs.declared.ops.Unary.{Unary}
 use Rattle.bits_core.specs.declared.ops.Binary.{Binary}
-use Rattle.bits_core.specs.Value.{limit, unary_value, binary_value, IsUnarySized}
+use Rattle.bits_core.specs.Value.{limit, unary_value, binary_value}
 use Rattle.laws.proofs.Words.{unary_word, binary_word}
 use Rattle.machine.specs.Trace.{End}
 use Rattle.pcode_model.specs.declared.listing.Varnode.{Varnode}
@@ -13,15 +13,13 @@ use Rattle.pcode_model.specs.declared.listing.Op.{Op}
 use Rattle.pcode_model.specs.declared.listing.Listing.{Listing}
 use Rattle.pcode_model.specs.declared.opcode.Opcode.{Opcode}
 use Rattle.pcode_model.specs.declared.opcode.Opcode.TheVariants as O
-use Rattle.pcode_model.specs.declared.flow.Turn.{Turn}
 use Rattle.pcode_model.specs.declared.flow.Turn.TheVariants.{GoesOn}
-use Rattle.pcode_model.specs.Spaces.{kind_of, put}
+use Rattle.pcode_model.specs.Spaces.{kind_of}
 use Rattle.pcode_model.specs.Places.{Does, next_place}
 use Rattle.pcode_model.specs.Memory.{Acts, Frame, Bytes}
 use Rattle.pcode_model.specs.World.{unless_over}
-use Rattle.pcode_model.specs.Step.{State, moved, write_varnode, read_varnode, with_first, effect_at, apply, operands, read_all, step_at}
+use Rattle.pcode_model.specs.Step.{State, moved, write_varnode, read_varnode, with_first, effect_at, apply, step_at}
 use Rattle.pcode_model.specs.Flow.{turn_of}
-use Rattle.ranges.specs.Ranges.{Holds}
 use Rattle.ranges.proofs.Variables.{holds_written, bytes_written}
 use Rattle.cmeaning.specs.declared.tree.Expr.{Expr}
 use Rattle.cmeaning.specs.declared.tree.Stmt.TheVariants as S
@@ -32,9 +30,9 @@ use Rattle.blockcode.specs.Run.{does_return}
 use Rattle.blockcode.proofs.Straight.{run_all}
 use Rattle.plaincode.specs.Nodes.{unary_node, binary_node}
 use Rattle.plaincode.specs.Lowered.{variable_of, operand, assigns, op_statements}
-use Rattle.plaincode.specs.Form.{IsNarrow, IsOutput, IsPlainOp}
+use Rattle.plaincode.specs.Form.{IsOutput, IsPlainOp}
 use Rattle.plaincode.proofs.Nodes.{Means, unary_means, binary_means}
-use Rattle.plaincode.proofs.Operands.{over, Sees, Setting, Reading, reading, written, writing, output_found}
+use Rattle.plaincode.proofs.Operands.{over, Sees, Setting, reading, written, writing, output_found}
 
 -- The op's state and the code's go together, and the op has gone on to this place.
 pub record Meets {M : Type 0} (l : Listing) (ranges : List Varnode) (look : M → Bytes) (next : Place) (s : State M) (x : Local) : Type 0 where

@@ -9,7 +9,6 @@ use Rattle.std.proofs.lemmas.Bool.{cases_eq}
 use Rattle.std.proofs.lemmas.Bool.Decides.{nat_tests}
 use Rattle.bits_core.specs.Value.{limit}
 use Rattle.bits_core.specs.Bytes.{number, bytes, word_bytes, word_of}
-use Rattle.bits_core.proofs.Limits.{limit_pos, limit_is}
 use Rattle.laws.proofs.Bytes.{number_below}
 use Rattle.pcode_model.specs.declared.listing.Varnode.{Varnode}
 use Rattle.pcode_model.specs.declared.listing.Listing.{Listing}

@@ -1,9 +1,8 @@
 -- The registers after a call.
-use Rattle.std.proofs.Common.{◌≡◌, ℕ, zero, suc, ◌+◌, ◌<◌, ◌≤◌, ◌==◌, ◌&&◌, ◌⊎◌, inl, inr, Bool, true, false, cond, List, [], ◌∷◌, ◌++◌, length, take, drop, get_or, Option, Some, None, refl, sym, ap, ◌∙◌, subst, arith, add-one}
-use Rattle.std.specs.Prelude.{not, nat_lt, nat_le, if◌then◌else◌}
+use Rattle.std.proofs.Common.{◌≡◌, ℕ, zero, suc, ◌+◌, ◌<◌, ◌≤◌, ◌==◌, ◌&&◌, Bool, true, false, List, [], ◌∷◌, length, take, get_or, Option, Some, None, refl, ap, ◌∙◌, arith, add-one}
+use Rattle.std.specs.Prelude.{not, nat_lt, if◌then◌else◌}
 use Rattle.std.specs.List.{AllByRecursion}
 use Rattle.std.proofs.Math.Path.{fun_ext}
-use Rattle.std.proofs.lemmas.Bool.{cases_eq, cases_lt}
 use Rattle.std.proofs.lemmas.Bool.Decides.{nat_tests}
 use Rattle.pcode_model.specs.declared.listing.Listing.{Listing}
 use Rattle.pcode_model.specs.declared.listing.Proto.{Proto}
@@ -15,7 +14,7 @@ use Rattle.pcode_model.specs.World as W
 use Rattle.worlds.specs.declared.entry.Byte.{Byte}
 use Rattle.worlds.specs.declared.entry.Answer.{Answer}
 use Rattle.worlds.specs.Meaning.{answer_of, with_offsets}
-use Rattle.runp.specs.Calls.{Ends, HoldsTo, is_held, mixed, forgotten}
+use Rattle.runp.specs.Calls.{is_held, mixed, forgotten}
 
 -- ---- lists
 

@@ -1,5 +1,5 @@
 -- What an op reads.
-use Rattle.std.proofs.Common.{◌≡◌, ℕ, zero, suc, ◌+◌, ◌-◌, ◌<◌, ◌≤◌, Bool, true, false, List, [], ◌∷◌, ◌++◌, length, drop, get_or, map, Option, Some, None, Result, Ok, Err, refl, sym, ap, ◌∙◌, arith, append_assoc, append-nil, subst, add-one}
+use Rattle.std.proofs.Common.{◌≡◌, ℕ, zero, suc, ◌+◌, ◌-◌, ◌<◌, Bool, true, false, List, [], ◌∷◌, ◌++◌, length, drop, get_or, map, Option, Some, None, Result, Ok, Err, refl, sym, ap, ◌∙◌, append_assoc, append-nil, add-one}
 use Rattle.std.proofs.lemmas.List.{drop_more, map-append}
 use Rattle.bits_core.specs.Bytes.{word_of}
 use Rattle.bits_core.specs.declared.word.Word.{Word}
@@ -8,7 +8,7 @@ use Rattle.pcode_model.specs.declared.listing.Listing.{Listing}
 use Rattle.pcode_model.specs.declared.listing.Storage.{Storage}
 use Rattle.pcode_model.specs.declared.listing.Varnode.{Varnode}
 use Rattle.pcode_model.specs.Memory.{Acts, Frame, Bytes, Layout, Whole, whole, unless}
-use Rattle.pcode_model.specs.Spaces.{bytes_at, next, kind_of, size_of, is_big}
+use Rattle.pcode_model.specs.Spaces.{bytes_at, next, kind_of, size_of}
 use Rattle.pcode_model.specs.Step.{State, local_word, read_varnode, read_operand, read_all, with_first, all_read, argument, arguments, as_word, read_at}
 use Rattle.worlds.specs.declared.shape.Shape.{Shape}
 use Rattle.worlds.specs.Meaning.{value_of}

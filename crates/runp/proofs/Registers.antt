@@ -1,5 +1,5 @@
 -- The spaces and the stack pointer of a listing that can run.
-use Rattle.std.proofs.Common.{◌≡◌, ℕ, zero, suc, ◌+◌, ◌<◌, ◌≤◌, ◌^◌, Bool, true, false, cond, List, [], ◌∷◌, Option, Some, None, IsSome, refl, sym, ap, ◌∙◌, subst, arith}
+use Rattle.std.proofs.Common.{◌≡◌, suc, ◌+◌, ◌≤◌, ◌^◌, Bool, true, false, cond, List, [], ◌∷◌, Option, Some, refl, sym, subst, arith}
 use Rattle.std.specs.Prelude.{nat_lt, slice_get, IfSome}
 use Rattle.std.proofs.lemmas.Bool.Decides.{nat_tests}
 use Rattle.pcode_model.specs.declared.listing.Listing.{Listing}
@@ -7,12 +7,11 @@ use Rattle.pcode_model.specs.declared.listing.Space.{Space}
 use Rattle.pcode_model.specs.declared.listing.SpaceKind.{SpaceKind}
 use Rattle.pcode_model.specs.declared.listing.SpaceKind.TheVariants.{Constant, Ram, Register, Unique}
 use Rattle.pcode_model.specs.declared.listing.Varnode.{Varnode}
-use Rattle.pcode_model.specs.Ranges.{is_kind, leaves}
-use Rattle.pcode_model.specs.Spaces.{kind_in, kind_of, size_in, size_of, same_kind, number_of, first_ram}
+use Rattle.pcode_model.specs.Spaces.{kind_in, size_in, size_of, same_kind, number_of, first_ram}
 use Rattle.pcode_model.specs.WellFormed.{AreSpaces, IsRegister, how_many}
 use Rattle.worlds.proofs.Declared.{size_most, ram_not_constant}
 use Rattle.whole_memory.specs.Course.{CanRun}
-use Rattle.runp.specs.Used.{IsInside, IsLocal, IsStack}
+use Rattle.runp.specs.Used.{IsInside, IsStack}
 
 -- the space with the number of the first one of a kind is of that kind
 pub kind_at : (k : SpaceKind) (ss : List Space) → 1 ≤ how_many k ss → same_kind k (kind_in (slice_get ss (number_of k ss))) ≡ true

@@ -1,10 +1,10 @@
 -- Writing a word to a register or unique range.
-use Rattle.std.proofs.Common.{◌≡◌, ℕ, Bool, List, ap, sym, ◌∙◌}
+use Rattle.std.proofs.Common.{◌≡◌, ℕ, Bool, List, ap, ◌∙◌}
 use Rattle.bits_core.specs.Bytes.{word_bytes}
 use Rattle.pcode_model.specs.declared.listing.Listing.{Listing}
 use Rattle.pcode_model.specs.declared.listing.Varnode.{Varnode}
 use Rattle.pcode_model.specs.Memory.{Bytes}
-use Rattle.pcode_model.specs.Spaces.{each_at, put_in, size_of, is_big}
+use Rattle.pcode_model.specs.Spaces.{each_at, put_in, size_of}
 use Rattle.pcode_model.specs.Step.{with_word}
 use Rattle.worlds.specs.declared.shape.Shape.{Shape}
 use Rattle.worlds.specs.Setting.{HasShape, size}

@@ -1,5 +1,5 @@
 -- What was read. This project's own.
-use Rattle.std.specs.Prelude.{ℕ, List, [], ◌++◌, map, Option, Some, None, Result, Ok, Err}
+use Rattle.std.specs.Prelude.{ℕ, List, ◌++◌, map, Option, Some, None, Result, Ok, Err}
 use Rattle.bits_core.specs.declared.word.Word.{Word}
 use Rattle.machine.specs.Trace.{End, Outside}
 use Rattle.worlds.specs.Meaning.{value_of}

@@ -1,15 +1,15 @@
 -- Which status comes where no fault was counted and the shelf's files are told.
-use Rattle.std.proofs.Common.{◌≡◌, ◌∙◌, ◌⊎◌, ◌≤◌, ◌<◌, ◌+◌, ◌-◌, ◌^◌, ℕ, ◌++◌, Bool, true, false, List, Option, Some, None, Result, Ok, Err, length, length-append, append-nil, refl, sym, ap, subst, inl, inr, arith}
+use Rattle.std.proofs.Common.{◌≡◌, ◌∙◌, ◌⊎◌, ◌≤◌, ◌+◌, ◌-◌, ℕ, ◌++◌, Bool, true, false, Option, Some, None, Result, Ok, Err, length, length-append, append-nil, refl, sym, ap, subst, inl, inr, arith}
 use Rattle.std.specs.Prelude.{nat_lt, if◌then◌else◌}
 use Rattle.std.specs.Io.KnownBytes.{Consumes, IsAtEnd}
 use Rattle.std.proofs.lemmas.Bool.Decides.{nat_tests}
 use Rattle.outside.specs.Causes.{Rose}
-use Rattle.outside.specs.Files.{IsFile, IsMissing, file_of}
+use Rattle.outside.specs.Files.{IsFile, IsMissing}
 use Rattle.outside.specs.Reading.{TookExactly}
 use Rattle.outside.specs.Told.{Folder, Held, Told}
 use Rattle.outside.specs.declared.reading.ReadEnd.{ReadEnd}
 use Rattle.outside.specs.declared.reading.ReadEnd.TheVariants.{Fault, TooLong, Memory}
-use Rattle.runwords.specs.Fetched.{AllFetched, Fetched, Passed, all_in, in_folder, limit, whole, with_c_text, with_entry, with_listing}
+use Rattle.runwords.specs.Fetched.{AllFetched, Fetched, all_in, in_folder, limit, whole, with_c_text, with_entry, with_listing}
 use Rattle.runwords.specs.Request.{Asked}
 use Rattle.runwords.specs.Table.{Because, Due, BadArguments, Ends, IsGathered, IsJudged, Missing, TooManyBytes, Showing, Faulty, Quiet, Table}
 use Rattle.runwords.specs.Told.{Bytes, Delivers, WritesLine, WritesText}

@@ -5,7 +5,7 @@ use Rattle.outside.specs.Files.{IsFile, IsMissing, file_of}
 use Rattle.outside.specs.Reading.{Gave}
 use Rattle.outside.specs.Told.{Folder, Told}
 use Rattle.outside.specs.declared.reading.ReadEnd.{ReadEnd}
-use Rattle.outside.specs.declared.reading.ReadEnd.TheVariants.{Fault, TooLong, Memory}
+use Rattle.outside.specs.declared.reading.ReadEnd.TheVariants.{Fault, TooLong}
 use Rattle.runwords.specs.Request.{Asked}
 use Rattle.runwords.specs.declared.files.Inputs.{Inputs}
 

@@ -4,7 +4,6 @@ use Rattle.bits_core.specs.declared.ops.Binary.{Binary}
 use Rattle.bits_core.specs.declared.ops.Binary.TheVariants as B
 use Rattle.pcode_model.specs.declared.opcode.Opcode.{Opcode}
 use Rattle.pcode_model.specs.declared.opcode.Opcode.TheVariants as O
-use Rattle.pcode_model.specs.declared.listing.SpaceKind.{SpaceKind}
 use Rattle.pcode_model.specs.declared.listing.SpaceKind.TheVariants.{Ram}
 use Rattle.pcode_model.specs.declared.listing.Varnode.{Varnode}
 use Rattle.pcode_model.specs.declared.listing.Op.{Op}

@@ -1,4 +1,4 @@
-use Rattle.std.proofs.Common.{ℕ, ◌+◌, ◌-◌, ◌<◌, ◌≤◌, length, ◌/◌, ◌≡◌, List, sym, subst, ap, ◌∙◌, refl, arith, Option, Some}
+use Rattle.std.proofs.Common.{ℕ, ◌+◌, ◌-◌, ◌<◌, length, ◌/◌, ◌≡◌, List, sym, subst, ap, ◌∙◌, refl, arith, Some}
 use Rattle.std.proofs.lemmas.Option.{slice_get_read}
 use Rattle.std.specs.Prelude.{slice_get}
 use Rattle.pcode_model.specs.declared.listing.Instruction.{Instruction}

@@ -1,4 +1,4 @@
-use Rattle.std.proofs.Common.{◌≡◌, ℕ, ◌<◌, ◌≤◌, ◌-◌, length}
+use Rattle.std.proofs.Common.{◌-◌}
 use Rattle.instructions.proofs.Apart.{Searching}
 use Rattle.instructions.proofs.instruction.Given as goal
 

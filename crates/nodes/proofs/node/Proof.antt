@@ -5,7 +5,7 @@ use mir.Syntax.{a_type, dcons, dnil}
 use mir.Val.{Val, vptr}
 use mir.MapTy.{inst_fn}
 use native.Mathlib.Nat.{not-suc-le-zero, le_of_suc-le-suc}
-use base.Logic.{SProp, ent, never, emp, via, fst∗, snd∗, id⊢}
+use base.Logic.{SProp, ent, never, emp, via, fst∗, snd∗}
 use base.Fml.{Lft, Fml, ftrue, flft}
 use prog.Wp.{WpFn}
 use types.Logic.{Logic, sem}

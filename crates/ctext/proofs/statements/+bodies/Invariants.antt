@@ -1,6 +1,6 @@
 use Rattle.std.proofs.Common.{◌≡◌, ◌++◌, drop, ℕ, ◌+◌, ◌*◌, max, List}
 use denote.Param.Weighed.{most}
-use Rattle.cmeaning.specs.declared.tree.Arm.{Arm, size-Arm}
+use Rattle.cmeaning.specs.declared.tree.Arm.{size-Arm}
 use Rattle.cmeaning.specs.declared.tree.Stmt.{Stmt, size-Stmt}
 use Rattle.ctext.specs.Names.{scope_of}
 use Rattle.ctext.specs.Statements.{body_text, arms_text}

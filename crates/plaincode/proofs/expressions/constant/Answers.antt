@@ -1,9 +1,8 @@
-use Rattle.std.proofs.Common.{◌≡◌, ℕ, ◌%◌, ◌<◌, subst, ap, ◌∙◌}
+use Rattle.std.proofs.Common.{◌≡◌, ◌%◌, ap, ◌∙◌}
 use Rattle.bits_core.specs.declared.word.Width.{Width}
-use Rattle.bits_core.specs.declared.word.Word.{Word}
 use Rattle.bits_core.specs.Value.{limit}
 use Rattle.cmeaning.specs.declared.tree.Expr.TheVariants as E
-use Rattle.plaincode.specs.Nodes.{nearest, width_by, word_by}
+use Rattle.plaincode.specs.Nodes.{width_by, word_by}
 use Rattle.plaincode.proofs.Words.{same_word}
 use Rattle.plaincode.proofs.expressions.constant.Goals as goal
 

@@ -1,5 +1,5 @@
-use Rattle.std.proofs.Common.{◌≡◌, ◌++◌, drop, map}
-use Rattle.plaincode.specs.Lowered.{range_of, ranges_of}
+use Rattle.std.proofs.Common.{◌≡◌, ◌++◌, drop}
+use Rattle.plaincode.specs.Lowered.{ranges_of}
 use Rattle.plaincode.proofs.variables.ranges.Given as goal
 
 abbrev pub invariant-loop-atom : goal.invariant-loop-atom

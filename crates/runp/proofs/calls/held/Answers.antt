@@ -1,6 +1,3 @@
-use Rattle.std.proofs.Common.{◌≡◌, get_or}
-use Rattle.pcode_model.specs.Step.{in_range}
-use Rattle.runp.specs.Calls.{HoldsTo}
 use Rattle.runp.proofs.Calling.{held_by, some_at, none_more}
 use Rattle.runp.proofs.calls.held.Goals as goal
 

@@ -1,6 +1,6 @@
-use Rattle.std.proofs.Common.{◌≡◌, ◌≤◌, ◌∙◌, ap, Some, arith}
+use Rattle.std.proofs.Common.{◌∙◌, ap, Some, arith}
 use Rattle.pcode_model.specs.Spaces.{put_in}
-use Rattle.runp.specs.Calls.{is_held, mixed}
+use Rattle.runp.specs.Calls.{is_held}
 use Rattle.runp.proofs.Calling.{mixes_one, mixes_held}
 use Rattle.runp.proofs.calls.take_byte.Goals as goal
 

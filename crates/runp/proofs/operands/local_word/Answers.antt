@@ -1,4 +1,4 @@
-use Rattle.std.proofs.Common.{◌≡◌, ◌∙◌, ℕ, List, ap, length}
+use Rattle.std.proofs.Common.{◌∙◌, ℕ, List, ap, length}
 use Rattle.worlds.specs.Maps.{bytes_of}
 use Rattle.worlds.specs.Setting.{size}
 use Rattle.runp.proofs.Reading.{length_bytes_at}

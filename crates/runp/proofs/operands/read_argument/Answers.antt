@@ -1,4 +1,4 @@
-use Rattle.std.proofs.Common.{◌≡◌, ◌≤◌, ◌^◌, ℕ, subst, sym}
+use Rattle.std.proofs.Common.{◌≤◌, ◌^◌, ℕ, subst, sym}
 use Rattle.pcode_model.specs.Spaces.{size_of}
 use Rattle.runp.proofs.Registers.{ram_size}
 use Rattle.runp.proofs.operands.read_argument.Goals as goal

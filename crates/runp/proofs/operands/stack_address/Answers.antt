@@ -1,4 +1,4 @@
-use Rattle.std.proofs.Common.{◌≡◌, ◌<◌, ◌≤◌, ◌^◌, arith, subst}
+use Rattle.std.proofs.Common.{◌<◌, ◌^◌, arith}
 use Rattle.runp.proofs.Raising.{narrow_small}
 use Rattle.runp.proofs.Registers.{stack_is}
 use Rattle.runp.proofs.operands.stack_address.Goals as goal

@@ -1,4 +1,4 @@
-use Rattle.std.proofs.Common.{◌≡◌, ◌∙◌, ℕ, List, ap, sym, length}
+use Rattle.std.proofs.Common.{◌∙◌, ℕ, List, ap, sym, length}
 use Rattle.whole_memory.specs.Course.{got, layout_of, whole_of}
 use Rattle.runp.proofs.Reading.{read_length}
 use Rattle.runp.proofs.operands.word_at.Goals as goal

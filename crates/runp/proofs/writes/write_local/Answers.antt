@@ -1,7 +1,5 @@
-use Rattle.std.proofs.Common.{◌≡◌, ◌∙◌, ℕ, List, ap}
-use Rattle.pcode_model.specs.Spaces.{each_at, put_in}
+use Rattle.std.proofs.Common.{◌∙◌}
 use Rattle.worlds.specs.Maps.{bytes_of}
-use Rattle.worlds.specs.Setting.{size}
 use Rattle.runp.proofs.Writing.{write_is}
 use Rattle.runp.proofs.writes.write_local.Goals as goal
 

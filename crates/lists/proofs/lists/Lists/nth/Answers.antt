@@ -1,4 +1,4 @@
-use Rattle.std.proofs.Common.{◌≡◌, ◌+◌, ℕ, List, Option, Some, None, sym, ap, ◌∙◌, arith, slice_get, refl}
+use Rattle.std.proofs.Common.{◌≡◌, ◌+◌, Option, sym, ap, ◌∙◌, arith, slice_get}
 use Rattle.lists.specs.Nodes.{number}
 use Rattle.lists.specs.Families.{Family, list_at}
 use Rattle.lists.proofs.Families.{list_at_is}

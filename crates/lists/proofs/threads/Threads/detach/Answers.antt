@@ -1,4 +1,4 @@
-use Rattle.std.proofs.Common.{◌≡◌, ◌<◌, ◌-◌, Option, sym, ap, ◌∙◌, subst, arith}
+use Rattle.std.proofs.Common.{◌≡◌, ◌<◌, ◌-◌, Option, ap, ◌∙◌, subst, arith}
 use Rattle.lists.specs.Threads.{Ends}
 use Rattle.lists.specs.Nodes.{number, of_slot, prev_of, next_of, key_of, ends_of}
 use Rattle.lists.specs.Edits.{links}

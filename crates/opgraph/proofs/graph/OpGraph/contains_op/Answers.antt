@@ -1,4 +1,4 @@
-use Rattle.std.proofs.Common.{◌≡◌, ℕ, Option, IsTrue, IsSome, sym, ap, ◌∙◌, subst, arith}
+use Rattle.std.proofs.Common.{Option, IsTrue, sym, ap, ◌∙◌, subst, arith}
 use Rattle.opgraph.specs.Graph.{Graph, IsOp}
 use Rattle.opgraph.proofs.SlotEdits.{op_low}
 use Rattle.opgraph.proofs.Members.{op_there}

@@ -1,4 +1,4 @@
-use Rattle.std.proofs.Common.{◌≡◌, ℕ, Option, IsTrue, sym, subst, true≢false}
+use Rattle.std.proofs.Common.{IsTrue, sym, subst, true≢false}
 use Rattle.opgraph.specs.Graph.{op_at}
 use Rattle.opgraph.proofs.Members.{width_there, has_op}
 use Rattle.opgraph.proofs.graph.OpGraph.contains_value.Goals as goal

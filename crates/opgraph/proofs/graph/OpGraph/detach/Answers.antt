@@ -1,9 +1,8 @@
-use Rattle.std.proofs.Common.{[], ◌≡◌, ◌<◌, ◌+◌, ℕ, List, ◌∷◌, length, map, Option, Some, None, IsSome, sym, ap, ◌∙◌, subst, arith}
-use Rattle.lists.specs.Chains.{last_or}
+use Rattle.std.proofs.Common.{[], ◌<◌, ◌+◌, ◌∷◌, length, Some, sym, ap, ◌∙◌, subst}
 use Rattle.lists.specs.Families.{list_at, key_at}
 use Rattle.opgraph.specs.Graph.{Graph, op_at, IsOp, Rewritten, inputs_in, front}
 use Rattle.opgraph.specs.Parts.{graph_of}
-use Rattle.opgraph.proofs.Tables.{op_at_is, none_some, value_of}
+use Rattle.opgraph.proofs.Tables.{value_of}
 use Rattle.opgraph.proofs.SlotEdits.{op_list}
 use Rattle.opgraph.proofs.Relinks.{last_split, detached_good, detached_row, detached_spares, last_some}
 use Rattle.opgraph.proofs.graph.OpGraph.detach.Goals as goal

@@ -1,4 +1,4 @@
-use Rattle.std.proofs.Common.{◌≡◌, ◌<◌, ℕ, List, length, map, Option, Some, None, sym, ap, ◌∙◌, subst, slice_get, unwrap_or}
+use Rattle.std.proofs.Common.{◌≡◌, ◌<◌, ℕ, List, length, Option, Some, None, sym, ap, ◌∙◌, subst, slice_get, unwrap_or}
 use Rattle.lists.specs.Families.{list_at, key_at}
 use Rattle.opgraph.specs.Graph.{OpRow, Graph, op_at, IsOp, IsWhole, inputs_in}
 use Rattle.opgraph.specs.Parts.{or_zero}

@@ -1,4 +1,4 @@
-use Rattle.std.proofs.Common.{[], ◌≡◌, ◌+◌, ◌<◌, ℕ, List, length, Option, Some, sym, ap, ◌∙◌, subst}
+use Rattle.std.proofs.Common.{◌+◌, ℕ, List, Option, sym, ap, ◌∙◌, subst}
 use Rattle.opgraph.specs.declared.ids.Slot.{Slot}
 use Rattle.opgraph.specs.Graph.{OpRow, Graph, op_at, uses_at, inputs_in, IsOp, Removed}
 use Rattle.opgraph.specs.Parts.{graph_of, row_of}
