@@ -9,10 +9,7 @@ pub mod graph;
 pub mod growth;
 pub mod ids;
 pub mod reads;
-pub mod slots;
-#[cfg(test)]
-mod tests;
-pub mod walks;
+pub mod slots;pub mod walks;
 
 pub use code::{Body, Code};
 pub use graph::OpGraph;

@@ -1,7 +1,7 @@
 ghost use Rattle.std.specs.Prelude.{◌≡◌};
 
-use crate::{BlockId, Code, OpGraph, OpId, ValueId};
 use bits_core::{Memory, Width};
+use opgraph::{BlockId, Code, OpGraph, OpId, ValueId};
 use std::alloc::Global;
 use std::process::Abort;
 use std::test::Fail;

@@ -1,0 +1,5 @@
+//! Tests of the operation graph.
+#![tactic(auto)]
+
+#[cfg(test)]
+mod tests;
