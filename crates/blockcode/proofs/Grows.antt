@@ -1,4 +1,4 @@
--- The runs of statements only add to what they have shown.
+-- The run of code on blocks only adds to what it has shown.
 use Rattle.std.proofs.Common.{◌≡◌, ℕ, Bool, true, false, List, [], ◌∷◌, refl, Option, Some, None}
 use Rattle.std.specs.Prelude.{◌==◌, ◌%◌, cond, slice_get}
 use Rattle.machine.specs.Trace.{End, Call, Other, Store}
@@ -9,18 +9,16 @@ use Rattle.pcode_model.specs.declared.listing.Listing.{Listing}
 use Rattle.pcode_model.specs.Memory.{Bytes, plain}
 use Rattle.pcode_model.specs.World.{World, recorded, Taken, Stops, Took, take_answer, shown, unless_over}
 use Rattle.pcode_laws.proofs.Grows.{Adds, adds_none, adds_more, adds_event, adds_store, world_taken, adds_from}
-use Rattle.cmeaning.specs.declared.tree.Expr.{Expr}
 use Rattle.cmeaning.specs.declared.tree.Arm.{Arm as CArm}
 use Rattle.cmeaning.specs.declared.tree.Stmt.{Stmt, out-Stmt}
 use Rattle.cmeaning.specs.declared.tree.Stmt.TheOpen.{Stmt-F}
-use Rattle.cmeaning.specs.declared.tree.CFunction.{CFunction}
 use Rattle.bits_core.specs.Value.{divide_value}
 use Rattle.pcode_model.specs.Spaces.{size_of}
 use Rattle.pcode_model.specs.Step.{bytes_in}
 use Rattle.cmeaning.specs.Value.{width_of, value_of}
-use Rattle.cmeaning.specs.Do.{Local, in_world, with_word, with_words, values_of, assigned, loaded, divide_of, stored, answered, asks, called, divided, do_layer, do_simple, widths_in, accessed}
-use Rattle.cmeaning.specs.Flat.{Flat, Do, Test, Jump, Choose, Give, flat_of, found_in, returns_by}
-use Rattle.cmeaning.specs.Step.{CState, tested, goes_by, gives, given, carry_out, c_machine}
+use Rattle.cmeaning.specs.Do.{Local, in_world, with_word, with_words, values_of, assigned, loaded, divide_of, stored, answered, asks, called, divided, do_layer, do_simple, accessed}
+use Rattle.cmeaning.specs.Flat.{Test, Jump}
+use Rattle.cmeaning.specs.Step.{tested}
 use Rattle.blockcode.specs.declared.code.Arm.{Arm}
 use Rattle.blockcode.specs.declared.code.Block.{Block}
 use Rattle.blockcode.specs.declared.code.Code.{Code}
@@ -125,37 +123,3 @@ code_at (Some x) s t e h = front_refl (shown s.local.world)
 
 pub code_grows : (l : Listing) (k : Code) → IsMonotone (code_machine l k)
 code_grows l k s = code_at s.local.world.over s (pass_in l (widths k.variables) (slice_get k.blocks s.block) s) refl (adds_in l (widths k.variables) (slice_get k.blocks s.block) s)
-
--- ---- the C run
-
-abbrev Moves : CState → CState → Type 0
-Moves s t = Adds s.local.world t.local.world
-
-adds_goes_by : (o : Option ℕ) (s : CState) (to : ℕ → ℕ) → Moves s (goes_by o s to)
-adds_goes_by None s to = adds_none s.local.world
-adds_goes_by (Some n) s to = adds_none s.local.world
-
-adds_gives : (o : Option ℕ) (s : CState) → Moves s (gives o s)
-adds_gives None s = adds_none s.local.world
-adds_gives (Some n) s = adds_none s.local.world
-
-adds_given : (ws : ℕ → ℕ) (e : Option Expr) (s : CState) → Moves s (given ws e s)
-adds_given ws None s = adds_none s.local.world
-adds_given ws (Some e) s = adds_gives (value_of ws s.local.env e) s
-
-adds_out : (l : Listing) (ws : ℕ → ℕ) (returns : ℕ → Bool) (o : Option Flat) (s : CState) → Moves s (carry_out l ws returns o s)
-adds_out l ws returns None s = adds_none s.local.world
-adds_out l ws returns (Some (Do x)) s = adds_simple l ws returns x s.local
-adds_out l ws returns (Some (Test e p q)) s = adds_goes_by (value_of ws s.local.env e) s (tested p q)
-adds_out l ws returns (Some (Jump to)) s = adds_none s.local.world
-adds_out l ws returns (Some (Choose e cases other)) s = adds_goes_by (value_of ws s.local.env e) s (found_in cases other)
-adds_out l ws returns (Some (Give e)) s = adds_given ws e s
-
-c_at : (over : Option End) (s t : CState) → s.local.world.over ≡ over → Moves s t → IsFront (shown s.local.world) (shown (unless_over over s t).local.world)
-c_at None s t e h = front_of_going (shown s.local.world) (shown t.local.world) e h
-c_at (Some x) s t e h = front_refl (shown s.local.world)
-
-pub c_grows : (l : Listing) (f : CFunction) → IsMonotone (c_machine l f)
-c_grows l f s =
-    let t = carry_out l (widths_in f) (returns_by f.callees) (slice_get (flat_of f) s.position) s in
-    c_at s.local.world.over s t refl (adds_out l (widths_in f) (returns_by f.callees) (slice_get (flat_of f) s.position) s)

@@ -12,6 +12,11 @@ use Rattle.blockcode.specs.declared.code.Block.{Block}
 use Rattle.blockcode.specs.declared.code.Code.{Code}
 use Rattle.blockcode.specs.Run.{CodeState, at, widths, does_return, pass, pass_in, code_step}
 
+pub dropped : {A : Type 0} (xs : List A) (n : ℕ) (x : A) → slice_get xs n ≡ Some x → drop n xs ≡ x ∷ drop (suc n) xs
+dropped [] n x e = absurd (cc)
+dropped (y ∷ ys) zero x e = cc
+dropped (y ∷ ys) (suc n) x e = dropped ys n x e
+
 pub get_of_drop : {A : Type 0} (xs : List A) (n : ℕ) (x : A) (rest : List A) → drop n xs ≡ x ∷ rest → slice_get xs n ≡ Some x
 get_of_drop [] zero x rest e = absurd (cc)
 get_of_drop [] (suc n) x rest e = absurd (cc)

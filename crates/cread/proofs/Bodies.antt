@@ -1,7 +1,7 @@
 -- Statements with bodies are read again, where the statements inside them are.
 use Rattle.std.proofs.Common.{◌≡◌, ℕ, zero, suc, ◌-◌, ◌^◌, ◌<◌, ◌≤◌, Bool, true, false, eqb, ltb, ◌&&◌, List, [], ◌∷◌, ◌++◌, length, Some, None, refl, ◌∙◌, subst, arith, append_assoc, length-append}
 use Rattle.std.specs.Prelude.{codes, map}
-use Rattle.std.proofs.lemmas.Bool.{ltb-true}
+use Rattle.std.proofs.lemmas.Bool.{ltb-true, and_parts}
 use Rattle.cmeaning.specs.declared.tree.CFunction.{CFunction}
 use Rattle.cmeaning.specs.declared.tree.Expr.{Expr}
 use Rattle.cmeaning.specs.declared.tree.Stmt.{Stmt}
@@ -16,7 +16,7 @@ use Rattle.cread.specs.Words.{after, run_of, past_spaces, many_by}
 use Rattle.cread.specs.Expressions.{expr_at}
 use Rattle.cread.specs.Statements.{line_at, plain_line_at, right_at, division_at, effect_at, target_at, not_own, spaced_by, body_by, closed_by, head_at, if_by, while_by, loop_by, do_by, line_by, statement_by, statement_at}
 use Rattle.cread.proofs.Naming.{IsEnd, at_close}
-use Rattle.cread.proofs.Fronts.{and_both, AllSpaces, spaces_again, no_spaces}
+use Rattle.cread.proofs.Fronts.{AllSpaces, spaces_again, no_spaces}
 use Rattle.cread.proofs.Law.{Context}
 use Rattle.cread.proofs.Parts.{Written, Starts, own_of, LineAt}
 
@@ -90,8 +90,8 @@ pub record First (f : CFunction) (labels : ℕ) (x : Stmt) (xs : List Stmt) (in_
 
 pub first_ok : (f : CFunction) (labels : ℕ) (x : Stmt) (xs : List Stmt) (after_call in_loop : Bool) (room : ℕ) (d : List ℕ) → LineOk f labels x → AllSpaces d → Holds f labels after_call (x ∷ xs) in_loop room → First f labels x xs in_loop room d
 first_ok f labels x xs after_call in_loop room d ok sd h =
-    let three = and_both (ltb 0 room) ((rule_of f labels x).holds after_call in_loop (room - 1) && all_hold (rule_of f labels x).calls (map (rule_of f labels) xs) in_loop room) h in
-    let two = and_both ((rule_of f labels x).holds after_call in_loop (room - 1)) (all_hold (rule_of f labels x).calls (map (rule_of f labels) xs) in_loop room) three.1 in
+    let three = and_parts (ltb 0 room) ((rule_of f labels x).holds after_call in_loop (room - 1) && all_hold (rule_of f labels x).calls (map (rule_of f labels) xs) in_loop room) h in
+    let two = and_parts ((rule_of f labels x).holds after_call in_loop (room - 1)) (all_hold (rule_of f labels x).calls (map (rule_of f labels) xs) in_loop room) three.1 in
     let some : 0 < room = ltb-true _ _ three.0 in
     record {
       line = moved_line (scope_of f) (suc (room - 1)) room in_loop x ((lines (scope_of f) x).text d) (omega arith) (ok after_call in_loop (room - 1) d sd two.0);

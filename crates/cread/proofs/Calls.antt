@@ -2,7 +2,7 @@
 use Rattle.std.proofs.Common.{◌≡◌, ℕ, ◌*◌, ◌%◌, ◌^◌, ◌<◌, true, false, eqb, leb, ◌&&◌, List, [], ◌∷◌, ◌++◌, length, Option, Some, None, refl, sym, ap, ◌∙◌, subst, arith, append_assoc, length-append, inl, inr}
 use Rattle.std.specs.Prelude.{codes, not}
 use Rattle.std.specs.Fmt.{decimal}
-use Rattle.std.proofs.lemmas.Bool.{ltb-true, eqb-true, cases_Bool}
+use Rattle.std.proofs.lemmas.Bool.{ltb-true, eqb-true, cases_Bool, and_parts}
 use Rattle.cmeaning.specs.Valid.{begins_well, all_letters_or_digits, is_long, is_space, is_callee, is_callee_name, result_fits, same_callee_name, are_apart, is_apart_from, are_callees}
 use Rattle.cmeaning.specs.Do.{same_name}
 use Rattle.cmeaning.specs.declared.tree.CName.{CName}
@@ -21,7 +21,7 @@ use Rattle.cread.specs.Words.{after, run_of, past_spaces, hex_at}
 use Rattle.cread.specs.Names.{type_at, is_whole, is_named, address_of}
 use Rattle.cread.specs.Statements.{line_at, plain_line_at, right_at, division_at, access_of, pointed_at, memory_at, with_args, named_call, bare_call, indirect_call, other_call, extra_at, divide_at, loaded, right_by}
 use Rattle.cread.proofs.Naming.{at_close, at_comma}
-use Rattle.cread.proofs.Fronts.{and_both, hex_again, decimal_again, name_again}
+use Rattle.cread.proofs.Fronts.{hex_again, decimal_again, name_again}
 use Rattle.cread.proofs.Parts.{Written, value_again, AllWritten, before_others, further_again, args_again, Plainly, RightText}
 
 -- ---- memory
@@ -55,8 +55,8 @@ access_right sc v t None w a last small fits x ends = record {
   long = omega arith;
 }
 access_right sc v t (Some name) w a last small fits x ends =
-    let form_ok = and_both (begins_well name) (all_letters_or_digits name && leb (length name) 64) fits in
-    let letters = (and_both (all_letters_or_digits name) (leb (length name) 64) form_ok.1).0 in
+    let form_ok = and_parts (begins_well name) (all_letters_or_digits name && leb (length name) 64) fits in
+    let letters = (and_parts (all_letters_or_digits name) (leb (length name) 64) form_ok.1).0 in
     record {
       word = R.Memory;
       behind = λ rest. decimal w ++ (codes "(" ++ (name ++ (codes ", " ++ ((form sc a).plain ++ 41 ∷ (last ++ rest)))));
@@ -132,7 +132,7 @@ other_name c d n apart is =
     elim (cases_Bool (is_named n c.name)) [
       | inl same ↦
           let name = named_is n c.name same in
-          let gap = (and_both (not (eqb c.address d.address)) (not (same_callee_name c.name d.name)) apart).1 in
+          let gap = (and_parts (not (eqb c.address d.address)) (not (same_callee_name c.name d.name)) apart).1 in
           let one : same_callee_name c.name d.name ≡ true = ap (λ (x : CName). same_callee_name x d.name) name ∙ ap (same_callee_name (Declared n)) is ∙ same_name_self n in
           absurd (let never : false ≡ true = ap not (sym one) ∙ gap in cc)
       | inr other ↦ other
@@ -142,7 +142,7 @@ other_name c d n apart is =
 apart_at : (c : CalleeDecl) (cs : List CalleeDecl) (address : ℕ) (d : CalleeDecl) → is_apart_from c cs ≡ true → callee_at cs address ≡ Some d → are_apart c d ≡ true
 apart_at c [] address d h at = absurd cc
 apart_at c (x ∷ xs) address d h at =
-    let both = and_both (are_apart c x) (is_apart_from c xs) h in
+    let both = and_parts (are_apart c x) (is_apart_from c xs) h in
     elim (cases_Bool (eqb x.address address)) [
       | inl here ↦ let same = first_is x xs address d here at in ap (are_apart c) (sym same) ∙ both.0
       | inr past ↦ apart_at c xs address d both.1 (rest_is x xs address d past at)
@@ -151,8 +151,8 @@ apart_at c (x ∷ xs) address d h at =
 pub callee_found : (cs : List CalleeDecl) (address : ℕ) (d : CalleeDecl) (n : List ℕ) → are_callees cs ≡ true → callee_at cs address ≡ Some d → d.name ≡ Declared n → address_of n cs ≡ Some address
 callee_found [] address d n ok at is = absurd cc
 callee_found (c ∷ cs) address d n ok at is =
-    let three = and_both (is_callee c) (is_apart_from c cs && are_callees cs) ok in
-    let two = and_both (is_apart_from c cs) (are_callees cs) three.1 in
+    let three = and_parts (is_callee c) (is_apart_from c cs && are_callees cs) ok in
+    let two = and_parts (is_apart_from c cs) (are_callees cs) three.1 in
     elim (cases_Bool (eqb c.address address)) [
       | inl here ↦
           let same = first_is c cs address d here at in
@@ -169,8 +169,8 @@ callee_found (c ∷ cs) address d n ok at is =
 pub callee_long : (cs : List CalleeDecl) (address : ℕ) (d : CalleeDecl) → are_callees cs ≡ true → callee_at cs address ≡ Some d → (is_callee d ≡ true) × (d.address ≡ address)
 callee_long [] address d ok at = absurd cc
 callee_long (c ∷ cs) address d ok at =
-    let three = and_both (is_callee c) (is_apart_from c cs && are_callees cs) ok in
-    let two = and_both (is_apart_from c cs) (are_callees cs) three.1 in
+    let three = and_parts (is_callee c) (is_apart_from c cs && are_callees cs) ok in
+    let two = and_parts (is_apart_from c cs) (are_callees cs) three.1 in
     elim (cases_Bool (eqb c.address address)) [
       | inl here ↦
           let same = first_is c cs address d here at in
@@ -224,18 +224,18 @@ call_bare sc v address ts low all =
 call_by_name : (sc : Scope) (v : Option ℕ) (address : ℕ) (d : CalleeDecl) (name : CName) (ts : List Expr) → are_callees sc.callees ≡ true → callee_at sc.callees address ≡ Some d → d.name ≡ name → is_callee_name name ≡ true → d.address ≡ address → address < 2 ^ 64 → AllWritten sc ts
     → RightText sc v (s.Call v address ts) (callee_name name address ++ (codes "(" ++ (separated (plain_texts sc ts) ++ codes ");\n")))
 call_by_name sc v address d (Declared n) ts ok at is good same low all =
-    let form_ok = and_both (begins_well n) (all_letters_or_digits n && leb (length n) 64) good in
-    call_named sc v address d n ts ok at is (and_both (all_letters_or_digits n) (leb (length n) 64) form_ok.1).0 all
+    let form_ok = and_parts (begins_well n) (all_letters_or_digits n && leb (length n) 64) good in
+    call_named sc v address d n ts ok at is (and_parts (all_letters_or_digits n) (leb (length n) 64) form_ok.1).0 all
 call_by_name sc v address d Bare ts ok at is good same low all = call_bare sc v address ts low all
 
 pub call_right : (sc : Scope) (v : Option ℕ) (address : ℕ) (d : CalleeDecl) (ts : List Expr) → are_callees sc.callees ≡ true → callee_at sc.callees address ≡ Some d → AllWritten sc ts
     → RightText sc v (s.Call v address ts) (name_of (callee_at sc.callees address) ++ (codes "(" ++ (separated (plain_texts sc ts) ++ codes ");\n")))
 call_right sc v address d ts ok at all =
     let l = callee_long sc.callees address d ok at in
-    let good = and_both (is_long d.address) (is_callee_name d.name && result_fits d.returns d.gives) l.0 in
+    let good = and_parts (is_long d.address) (is_callee_name d.name && result_fits d.returns d.gives) l.0 in
     let low : d.address < 2 ^ 64 = ltb-true _ _ good.0 in
     let same = l.1 in
-    let name = (and_both (is_callee_name d.name) (result_fits d.returns d.gives) good.1).0 in
+    let name = (and_parts (is_callee_name d.name) (result_fits d.returns d.gives) good.1).0 in
     let r = call_by_name sc v address d d.name ts ok at refl name same (omega arith) all in
     let text : name_of (callee_at sc.callees address) ≡ callee_name d.name address = ap name_of at ∙ ap (callee_name d.name) same in
     subst (λ (x : List ℕ). RightText sc v (s.Call v address ts) (x ++ (codes "(" ++ (separated (plain_texts sc ts) ++ codes ");\n")))) (sym text) r

@@ -2,7 +2,7 @@
 use Rattle.std.proofs.Common.{◌≡◌, ℕ, suc, ◌%◌, ◌^◌, ◌<◌, Bool, true, false, eqb, ltb, ◌&&◌, List, [], ◌∷◌, ◌++◌, Option, Some, None, refl, sym, ap, ◌∙◌, subst, arith, append_assoc, lit<}
 use Rattle.std.specs.Prelude.{codes, map}
 use Rattle.std.specs.Fmt.{decimal}
-use Rattle.std.proofs.lemmas.Bool.{ltb-true}
+use Rattle.std.proofs.lemmas.Bool.{ltb-true, and_parts}
 use Rattle.bits_core.specs.declared.word.Width.{Width}
 use Rattle.cmeaning.specs.declared.shape.Shape.{Shape}
 use Rattle.cmeaning.specs.declared.tree.CFunction.{CFunction}
@@ -23,7 +23,7 @@ use Rattle.ctext.specs.Statements.{Lines, lines, lines_step, arm_step, all_arms,
 use Rattle.cread.specs.Words.{after, run_of, past_spaces}
 use Rattle.cread.specs.Names.{type_at}
 use Rattle.cread.specs.Statements.{line_at, plain_line_at, line_by, not_own, target_at, statement_by, statement_at}
-use Rattle.cread.proofs.Fronts.{and_both, decimal_again, AllSpaces}
+use Rattle.cread.proofs.Fronts.{decimal_again, AllSpaces}
 use Rattle.cread.proofs.Naming.{Named, space}
 use Rattle.cread.proofs.Law.{Context, reads}
 use Rattle.cread.proofs.Parts.{Written, written, written_right, written_width, written_test, value_again, all_right, all_wide, LineAt, target_line, IsNamed, RightText, behind_target, right_line, alone_line, target_named, variable_is_named}
@@ -129,7 +129,7 @@ target_fits sc ws ok (Some v) = ok.fits v
 taken : (sc : Scope) (ws : ℕ → ℕ) → Context sc ws → (v : Option ℕ) (gives : Option Width) → takes ws v gives ≡ true → IsNamed sc v
 taken sc ws ok None gives h = tt
 taken sc ws ok (Some v) None h = absurd cc
-taken sc ws ok (Some v) (Some w) h = variable_is_named sc ws v ok (and_both (is_variable ws v) (eqb (ws v) w.bytes) h).0
+taken sc ws ok (Some v) (Some w) h = variable_is_named sc ws v ok (and_parts (is_variable ws v) (eqb (ws v) w.bytes) h).0
 
 assign_case : (f : CFunction) (labels : ℕ) → Setting f labels → (v : ℕ) (e : Expr) → LineOk f labels (s.Assign v e)
 unfolding lines rule_of
@@ -140,7 +140,7 @@ assign_case f labels k v e =
     (ap (lines sc) (sym (s.rolls-Assign v e)) ∙ fold-roll-Stmt Lines Texts (lines_step sc) arm_step (Stmt-F.Assign v e))
     (ap (rule_of f labels) (sym (s.rolls-Assign v e)) ∙ fold-roll-Stmt Rule Cased (rule_step f labels) cased_step (Stmt-F.Assign v e))
     (λ after_call in_loop room d sd h.
-    let both = and_both (is_variable ws v) (has_width (ws v) (shape_of ws e)) h in
+    let both = and_parts (is_variable ws v) (has_width (ws v) (shape_of ws e)) h in
     assign_line sc v e room in_loop (variable_is_named sc ws v k.context both.0) (written_width sc ws k.context (ws v) e both.1))
 
 load_case : (f : CFunction) (labels : ℕ) → Setting f labels → (v : ℕ) (name : Option (List ℕ)) (a : Expr) → LineOk f labels (s.Load v name a)
@@ -152,8 +152,8 @@ load_case f labels k v name a =
     (ap (lines sc) (sym (s.rolls-Load v name a)) ∙ fold-roll-Stmt Lines Texts (lines_step sc) arm_step (Stmt-F.Load v name a))
     (ap (rule_of f labels) (sym (s.rolls-Load v name a)) ∙ fold-roll-Stmt Rule Cased (rule_step f labels) cased_step (Stmt-F.Load v name a))
     (λ after_call in_loop room d sd h.
-    let three = and_both (is_variable ws v) (is_space name && is_right (shape_of ws a)) h in
-    let two = and_both (is_space name) (is_right (shape_of ws a)) three.1 in
+    let three = and_parts (is_variable ws v) (is_space name && is_right (shape_of ws a)) h in
+    let two = and_parts (is_space name) (is_right (shape_of ws a)) three.1 in
     targeted sc room in_loop v (s.Load v name a) _ (variable_is_named sc ws v k.context three.0)
     (load_right sc v name (variable sc v).width a (k.context.fits v) two.0 (written_right sc ws k.context a two.1)))
 
@@ -166,8 +166,8 @@ store_case f labels k name a e =
     (ap (lines sc) (sym (s.rolls-Store name a e)) ∙ fold-roll-Stmt Lines Texts (lines_step sc) arm_step (Stmt-F.Store name a e))
     (ap (rule_of f labels) (sym (s.rolls-Store name a e)) ∙ fold-roll-Stmt Rule Cased (rule_step f labels) cased_step (Stmt-F.Store name a e))
     (λ after_call in_loop room d sd h.
-    let three = and_both (is_space name) (is_right (shape_of ws a) && is_right (shape_of ws e)) h in
-    let two = and_both (is_right (shape_of ws a)) (is_right (shape_of ws e)) three.1 in
+    let three = and_parts (is_space name) (is_right (shape_of ws a) && is_right (shape_of ws e)) h in
+    let two = and_parts (is_right (shape_of ws a)) (is_right (shape_of ws e)) three.1 in
     let y = written_right sc ws k.context e two.1 in
     alone_line sc room in_loop (s.Store name a e) _ (store_right sc name (form sc e).width a e y.width three.0 (written_right sc ws k.context a two.0) y))
 
@@ -177,7 +177,7 @@ called f labels k v address es None room loop at h = absurd cc
 called f labels k v address es (Some c) room loop at h =
     let sc = scope_of f in
     let ws = widths_in f in
-    let both = and_both (have_widths ws es c.args) (takes ws v c.gives) h in
+    let both = and_parts (have_widths ws es c.args) (takes ws v c.gives) h in
     right_line sc room loop v (s.Call v address es) _ (taken sc ws k.context v c.gives both.1) (call_right sc v address c es k.callees at (all_wide sc ws k.context es c.args both.0))
 
 call_case : (f : CFunction) (labels : ℕ) → Setting f labels → (v : Option ℕ) (address : ℕ) (es : List Expr) → LineOk f labels (s.Call v address es)
@@ -200,8 +200,8 @@ call_ind_case f labels k v e es =
     (ap (lines sc) (sym (s.rolls-CallInd v e es)) ∙ fold-roll-Stmt Lines Texts (lines_step sc) arm_step (Stmt-F.CallInd v e es))
     (ap (rule_of f labels) (sym (s.rolls-CallInd v e es)) ∙ fold-roll-Stmt Rule Cased (rule_step f labels) cased_step (Stmt-F.CallInd v e es))
     (λ after_call in_loop room d sd h.
-    let three = and_both (is_target ws v) (is_right (shape_of ws e) && are_right ws es) h in
-    let two = and_both (is_right (shape_of ws e)) (are_right ws es) three.1 in
+    let three = and_parts (is_target ws v) (is_right (shape_of ws e) && are_right ws es) h in
+    let two = and_parts (is_right (shape_of ws e)) (are_right ws es) three.1 in
     right_line sc room in_loop v (s.CallInd v e es) _ (target_named sc ws v k.context three.0)
     (indirect_right sc v (target_width sc v) e es (target_fits sc ws k.context v) (written_right sc ws k.context e two.0) (all_right sc ws k.context es two.1)))
 
@@ -214,8 +214,8 @@ other_case f labels k v index es =
     (ap (lines sc) (sym (s.rolls-Other v index es)) ∙ fold-roll-Stmt Lines Texts (lines_step sc) arm_step (Stmt-F.Other v index es))
     (ap (rule_of f labels) (sym (s.rolls-Other v index es)) ∙ fold-roll-Stmt Rule Cased (rule_step f labels) cased_step (Stmt-F.Other v index es))
     (λ after_call in_loop room d sd h.
-    let three = and_both (is_target ws v) (is_long index && are_right ws es) h in
-    let two = and_both (is_long index) (are_right ws es) three.1 in
+    let three = and_parts (is_target ws v) (is_long index && are_right ws es) h in
+    let two = and_parts (is_long index) (are_right ws es) three.1 in
     right_line sc room in_loop v (s.Other v index es) _ (target_named sc ws v k.context three.0)
     (other_right sc v (target_width sc v) index es (target_fits sc ws k.context v) (ltb-true _ _ two.0) (all_right sc ws k.context es two.1)))
 
@@ -228,8 +228,8 @@ extra_case f labels k v offset =
     (ap (lines sc) (sym (s.rolls-Extra v offset)) ∙ fold-roll-Stmt Lines Texts (lines_step sc) arm_step (Stmt-F.Extra v offset))
     (ap (rule_of f labels) (sym (s.rolls-Extra v offset)) ∙ fold-roll-Stmt Rule Cased (rule_step f labels) cased_step (Stmt-F.Extra v offset))
     (λ after_call in_loop room d sd h.
-    let three = and_both after_call (is_variable ws v && is_long offset) h in
-    let two = and_both (is_variable ws v) (is_long offset) three.1 in
+    let three = and_parts after_call (is_variable ws v && is_long offset) h in
+    let two = and_parts (is_variable ws v) (is_long offset) three.1 in
     right_line sc room in_loop (Some v) (s.Extra v offset) _ (variable_is_named sc ws v k.context two.0)
     (extra_right sc v (variable sc v).width offset (k.context.fits v) (ltb-true _ _ two.1)))
 
@@ -242,8 +242,8 @@ divide_case f labels k v op a b =
     (ap (lines sc) (sym (s.rolls-Divide v op a b)) ∙ fold-roll-Stmt Lines Texts (lines_step sc) arm_step (Stmt-F.Divide v op a b))
     (ap (rule_of f labels) (sym (s.rolls-Divide v op a b)) ∙ fold-roll-Stmt Rule Cased (rule_step f labels) cased_step (Stmt-F.Divide v op a b))
     (λ after_call in_loop room d sd h.
-    let two = and_both (is_assigned ws v (shape_of ws a)) (has_width (ws v) (shape_of ws b)) h in
-    let left = and_both (is_variable ws v) (has_width (ws v) (shape_of ws a)) two.0 in
+    let two = and_parts (is_assigned ws v (shape_of ws a)) (has_width (ws v) (shape_of ws b)) h in
+    let left = and_parts (is_variable ws v) (has_width (ws v) (shape_of ws a)) two.0 in
     right_line sc room in_loop (Some v) (s.Divide v op a b) _ (variable_is_named sc ws v k.context left.0)
     (divide_right sc v op a b (written_width sc ws k.context (ws v) a left.1) (written_width sc ws k.context (ws v) b two.1)))
 
@@ -258,7 +258,7 @@ if_case f labels k e xs all =
     (ap (lines sc) (sym (s.rolls-If e xs)) ∙ fold-roll-Stmt Lines Texts (lines_step sc) arm_step (Stmt-F.If e xs))
     (ap (rule_of f labels) (sym (s.rolls-If e xs)) ∙ fold-roll-Stmt Rule Cased (rule_step f labels) cased_step (Stmt-F.If e xs))
     (λ after_call in_loop room d sd h.
-    let both = and_both (is_condition (shape_of ws e)) (all_hold false (map (rule_of f labels) xs) in_loop room) h in
+    let both = and_parts (is_condition (shape_of ws e)) (all_hold false (map (rule_of f labels) xs) in_loop room) h in
     if_line f labels e xs (written_test sc ws k.context e both.0) all in_loop room d sd both.1)
 
 else_case : (f : CFunction) (labels : ℕ) → Setting f labels → (e : Expr) (xs ys : List Stmt) → AllOk f labels xs → AllOk f labels ys → LineOk f labels (s.IfElse e xs ys)
@@ -271,8 +271,8 @@ else_case f labels k e xs ys all also =
     (ap (lines sc) (sym (s.rolls-IfElse e xs ys)) ∙ fold-roll-Stmt Lines Texts (lines_step sc) arm_step (Stmt-F.IfElse e xs ys))
     (ap (rule_of f labels) (sym (s.rolls-IfElse e xs ys)) ∙ fold-roll-Stmt Rule Cased (rule_step f labels) cased_step (Stmt-F.IfElse e xs ys))
     (λ after_call in_loop room d sd h.
-    let three = and_both (is_condition (shape_of ws e)) (all_hold false (map r xs) in_loop room && all_hold false (map r ys) in_loop room) h in
-    let two = and_both (all_hold false (map r xs) in_loop room) (all_hold false (map r ys) in_loop room) three.1 in
+    let three = and_parts (is_condition (shape_of ws e)) (all_hold false (map r xs) in_loop room && all_hold false (map r ys) in_loop room) h in
+    let two = and_parts (all_hold false (map r xs) in_loop room) (all_hold false (map r ys) in_loop room) three.1 in
     else_line f labels e xs ys (written_test sc ws k.context e three.0) all also in_loop room d sd two.0 two.1)
 
 while_case : (f : CFunction) (labels : ℕ) → Setting f labels → (e : Expr) (xs : List Stmt) → AllOk f labels xs → LineOk f labels (s.While e xs)
@@ -284,7 +284,7 @@ while_case f labels k e xs all =
     (ap (lines sc) (sym (s.rolls-While e xs)) ∙ fold-roll-Stmt Lines Texts (lines_step sc) arm_step (Stmt-F.While e xs))
     (ap (rule_of f labels) (sym (s.rolls-While e xs)) ∙ fold-roll-Stmt Rule Cased (rule_step f labels) cased_step (Stmt-F.While e xs))
     (λ after_call in_loop room d sd h.
-    let both = and_both (is_condition (shape_of ws e)) (all_hold false (map (rule_of f labels) xs) true room) h in
+    let both = and_parts (is_condition (shape_of ws e)) (all_hold false (map (rule_of f labels) xs) true room) h in
     while_line f labels e xs (written_test sc ws k.context e both.0) all in_loop room d sd both.1)
 
 do_case : (f : CFunction) (labels : ℕ) → Setting f labels → (xs : List Stmt) (e : Expr) → AllOk f labels xs → LineOk f labels (s.DoWhile xs e)
@@ -296,7 +296,7 @@ do_case f labels k xs e all =
     (ap (lines sc) (sym (s.rolls-DoWhile xs e)) ∙ fold-roll-Stmt Lines Texts (lines_step sc) arm_step (Stmt-F.DoWhile xs e))
     (ap (rule_of f labels) (sym (s.rolls-DoWhile xs e)) ∙ fold-roll-Stmt Rule Cased (rule_step f labels) cased_step (Stmt-F.DoWhile xs e))
     (λ after_call in_loop room d sd h.
-    let both = and_both (is_condition (shape_of ws e)) (all_hold false (map (rule_of f labels) xs) true room) h in
+    let both = and_parts (is_condition (shape_of ws e)) (all_hold false (map (rule_of f labels) xs) true room) h in
     do_line f labels xs e all (written_test sc ws k.context e both.0) in_loop room d sd both.1)
 
 loop_case : (f : CFunction) (labels : ℕ) → (xs : List Stmt) → AllOk f labels xs → LineOk f labels (s.Loop xs)
@@ -315,7 +315,7 @@ switched f labels k e arms (Some o) all loop room d sd is h g =
     let sc = scope_of f in
     let ws = widths_in f in
     let values = all_cases (map (cased_of f labels) arms) in
-    let both = and_both (are_distinct values) (are_words o.width values) h in
+    let both = and_parts (are_distinct values) (are_words o.width values) h in
     let z = (reads sc ws k.context e o is).size in
     let fits = z.fits in
     switch_line f labels o.width e arms (written sc ws k.context e o is) all loop room d sd (omega arith) both.1 g
@@ -329,7 +329,7 @@ switch_case f labels k e arms all =
     (ap (lines sc) (sym (s.rolls-Switch e arms)) ∙ fold-roll-Stmt Lines Texts (lines_step sc) arm_step (Stmt-F.Switch e arms))
     (ap (rule_of f labels) (sym (s.rolls-Switch e arms)) ∙ fold-roll-Stmt Rule Cased (rule_step f labels) cased_step (Stmt-F.Switch e arms))
     (λ after_call in_loop room d sd h.
-    let both = and_both (are_cases_of (all_cases (map (cased_of f labels) arms)) (shape_of ws e)) (arms_hold (map (cased_of f labels) arms) room) h in
+    let both = and_parts (are_cases_of (all_cases (map (cased_of f labels) arms)) (shape_of ws e)) (arms_hold (map (cased_of f labels) arms) room) h in
     switched f labels k e arms (shape_of ws e) all in_loop room d sd refl both.0 both.1)
 
 -- ---- the others
@@ -351,7 +351,7 @@ goto_case f labels k n =
     (ap (lines sc) (sym (s.rolls-Goto n)) ∙ fold-roll-Stmt Lines Texts (lines_step sc) arm_step (Stmt-F.Goto n))
     (ap (rule_of f labels) (sym (s.rolls-Goto n)) ∙ fold-roll-Stmt Rule Cased (rule_step f labels) cased_step (Stmt-F.Goto n))
     (λ after_call in_loop room d sd h.
-    let both = and_both (ltb 0 n) (ltb n labels) h in
+    let both = and_parts (ltb 0 n) (ltb n labels) h in
     let low : n < labels = ltb-true _ _ both.1 in
     let few = k.few in
     goto_line sc n room in_loop (omega arith))

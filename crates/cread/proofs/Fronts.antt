@@ -1,5 +1,5 @@
 -- Words, numbers and names at the front: how the loops read them, and that they are read again.
-use Rattle.std.proofs.Common.{◌≡◌, ℕ, suc, ◌+◌, ◌-◌, ◌*◌, ◌%◌, ◌^◌, ◌<◌, ◌≤◌, Bool, true, false, eqb, ◌&&◌, List, [], ◌∷◌, ◌++◌, length, Option, Some, None, refl, sym, ap, ◌∙◌, arith, lit<, lit≤, ◌≢◌, get_or, take, drop, inl, inr, length-drop}
+use Rattle.std.proofs.Common.{◌≡◌, ℕ, suc, ◌+◌, ◌-◌, ◌*◌, ◌%◌, ◌^◌, ◌<◌, ◌≤◌, Bool, true, false, eqb, List, [], ◌∷◌, ◌++◌, length, Option, Some, None, refl, sym, ap, ◌∙◌, arith, lit<, lit≤, ◌≢◌, get_or, take, drop, inl, inr, length-drop}
 use Rattle.std.proofs.lemmas.List.{take_all, get_or-drop, drop-drop, nil_from_length}
 use Rattle.std.proofs.Math.Nat.{mul-le-mul_left}
 use Rattle.std.specs.Prelude.{MatchOption}
@@ -8,16 +8,11 @@ use Rattle.std.specs.Borrow.{Bor}
 use Rattle.std.specs.Char.{digit_value, is_digit}
 use Rattle.std.specs.Fmt.{decimal, digits}
 use Rattle.std.specs.Str.Parse.{digits_value_after, AllDigits}
-use Rattle.std.proofs.lemmas.Bool.{lt-ltb, le-ltb, eqb-true, cases_Bool}
+use Rattle.std.proofs.lemmas.Bool.{lt-ltb, le-ltb, eqb-true, cases_Bool, and_parts}
 use Rattle.std.proofs.lemmas.Fmt.{digits_is_IsNumeral, decimal_is_IsNumeral}
 use Rattle.cmeaning.specs.Valid.{is_letter_or_digit, all_letters_or_digits}
 use Rattle.ctext.specs.Names.{hex}
 use Rattle.cread.specs.Words.{after, run_of, past_spaces, name_at, number_from, decimal_at, hex_at}
-
-pub and_both : (a b : Bool) → (a && b) ≡ true → (a ≡ true) × (b ≡ true)
-and_both true true h = (refl, refl)
-and_both true false h = absurd cc
-and_both false b h = absurd cc
 
 abbrev pub AllSpaces : List ℕ → Type 0
 AllSpaces [] = Unit {0}
@@ -179,7 +174,7 @@ pub name_again : (name : List ℕ) (c : ℕ) (rest : List ℕ) → all_letters_o
 unfolding name_at run_of
 name_again [] c rest all stop = rw stop refl
 name_again (b ∷ bs) c rest all stop =
-    let both = and_both (is_letter_or_digit b) (all_letters_or_digits bs) all in
+    let both = and_parts (is_letter_or_digit b) (all_letters_or_digits bs) all in
     let more = name_again bs c rest both.1 stop in
     let here = both.0 in
     let front : take (run_of is_letter_or_digit (bs ++ c ∷ rest)) (bs ++ c ∷ rest) ≡ bs = ap (λ (x : List ℕ × List ℕ). x.0) more in

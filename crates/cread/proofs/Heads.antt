@@ -5,7 +5,7 @@ use Rattle.std.specs.Char.{is_digit, digit_value}
 use Rattle.std.specs.Fmt.{decimal, digits, digits_onto, digit_glyph}
 use Rattle.std.specs.Str.Parse.{AllDigits}
 use Rattle.std.proofs.lemmas.Fmt.{decimal_is_IsNumeral}
-use Rattle.std.proofs.lemmas.Bool.{lt-ltb, ltb-true, cases_Bool}
+use Rattle.std.proofs.lemmas.Bool.{lt-ltb, ltb-true, cases_Bool, and_parts}
 use Rattle.bits_core.specs.declared.word.Width.{Width}
 use Rattle.cmeaning.specs.declared.tree.CName.{CName}
 use Rattle.cmeaning.specs.declared.tree.CName.TheVariants.{Declared, Bare}
@@ -18,7 +18,7 @@ use Rattle.ctext.specs.Text.{width_types, returns_mark, callee_head, address_tex
 use Rattle.cread.specs.Words.{◌>>=◌, after, number_from, decimal_at, many_by}
 use Rattle.cread.specs.Names.{type_at}
 use Rattle.cread.specs.Functions.{result_at, callee_name_at, marked_by, no_return_mark, head_at, width_at, further_width, widths_at, callee_at, callees_at, param_at, further_param, params_at, local_at, locals_at}
-use Rattle.cread.proofs.Fronts.{and_both, hex_again, name_again}
+use Rattle.cread.proofs.Fronts.{hex_again, name_again}
 use Rattle.cread.proofs.Naming.{IsEnd, stop_of, stop_decimal, entry_again}
 use Rattle.cread.proofs.Widths.{type_again, width_again}
 use Rattle.cread.proofs.Rows.{AllOf, comma_first, comma_again}
@@ -48,8 +48,8 @@ result_again (Some w) rest = let t = typed w 32 rest a_space in rw t refl
 name_read : (name : CName) (address : ℕ) (rest : List ℕ) → is_callee_name name ≡ true → address < 2 ^ 128 → callee_name_at (callee_name name address ++ 40 ∷ rest) ≡ Some (name, 40 ∷ rest)
 unfolding after
 name_read (Declared n) address rest good low =
-    let form_ok = and_both (begins_well n) (all_letters_or_digits n && leb (length n) 64) good in
-    let letters = (and_both (all_letters_or_digits n) (leb (length n) 64) form_ok.1).0 in
+    let form_ok = and_parts (begins_well n) (all_letters_or_digits n && leb (length n) 64) good in
+    let letters = (and_parts (all_letters_or_digits n) (leb (length n) 64) form_ok.1).0 in
     let one = name_again n 40 rest letters refl in
     rw one refl
 name_read Bare address rest good low = let one = hex_again address 40 rest low refl in rw one refl
@@ -107,9 +107,9 @@ widths_again (w ∷ ws) rest =
 pub callee_again : (c : CalleeDecl) (rest : List ℕ) → is_callee c ≡ true → callee_at (callee_line c ++ rest) ≡ Some (c, rest)
 unfolding callee_at after
 callee_again c rest ok =
-    let good = and_both (is_long c.address) (is_callee_name c.name && result_fits c.returns c.gives) ok in
+    let good = and_parts (is_long c.address) (is_callee_name c.name && result_fits c.returns c.gives) ok in
     let low : c.address < 2 ^ 64 = ltb-true _ _ good.0 in
-    let name = (and_both (is_callee_name c.name) (result_fits c.returns c.gives) good.1).0 in
+    let name = (and_parts (is_callee_name c.name) (result_fits c.returns c.gives) good.1).0 in
     let args = separated_or_void (width_types c.args) in
     let last = args ++ 41 ∷ (codes "; // 0x" ++ (hex c.address ++ 10 ∷ rest)) in
     let grouped : callee_line c ++ rest ≡ returns_mark c.returns ++ (result_type c.gives ++ 32 ∷ (callee_name c.name c.address ++ 40 ∷ last)) = simp append_assoc in
@@ -125,8 +125,8 @@ callees_row [] zero rest ok ends le = refl
 callees_row [] (suc k) rest ok ends le = rw ends refl
 callees_row (c ∷ cs) zero rest ok ends le = absurd (omega arith)
 callees_row (c ∷ cs) (suc k) rest ok ends le =
-    let three = and_both (is_callee c) (is_apart_from c cs && are_callees cs) ok in
-    let two = and_both (is_apart_from c cs) (are_callees cs) three.1 in
+    let three = and_parts (is_callee c) (is_apart_from c cs && are_callees cs) ok in
+    let two = and_parts (is_apart_from c cs) (are_callees cs) three.1 in
     let grouped : (callee_line c ++ callee_lines cs) ++ rest ≡ callee_line c ++ (callee_lines cs ++ rest) = append_assoc (callee_line c) (callee_lines cs) rest in
     let one = callee_again c (callee_lines cs ++ rest) three.0 in
     let more = callees_row cs k rest two.1 ends (omega arith) in
@@ -165,8 +165,8 @@ Stored p = is_storage p.storage ≡ true
 all_stored : (ps : List Param) → are_params ps ≡ true → AllOf Stored ps
 all_stored [] ok = tt
 all_stored (p ∷ ps) ok =
-    let three = and_both (is_storage p.storage) (precedes_all p ps && are_params ps) ok in
-    (three.0, all_stored ps (and_both (precedes_all p ps) (are_params ps) three.1).1)
+    let three = and_parts (is_storage p.storage) (precedes_all p ps && are_params ps) ok in
+    (three.0, all_stored ps (and_parts (precedes_all p ps) (are_params ps) three.1).1)
 
 type_not_void : (signed : Bool) (w : ℕ) (rest : List ℕ) → after (codes "void") (type_text signed w ++ rest) ≡ None
 unfolding after

@@ -1,13 +1,14 @@
 -- The labels of a valid tree have numbers of 32 bits.
 use Rattle.std.proofs.Common.{◌≡◌, ℕ, suc, ◌-◌, ◌^◌, ◌<◌, ◌≤◌, Bool, true, false, cond, eqb, ltb, ◌&&◌, List, [], ◌∷◌, ◌++◌, Option, Some, None, refl, sym, ap, ◌∙◌, subst, arith}
 use Rattle.std.specs.Prelude.{map}
-use Rattle.std.proofs.lemmas.Bool.{ltb-true, eqb-true}
+use Rattle.std.proofs.lemmas.Bool.{ltb-true, eqb-true, and_parts}
+use Rattle.std.proofs.lemmas.List.{map-id}
 use Rattle.cmeaning.specs.declared.numbering.Next.{Next}
 use Rattle.cmeaning.specs.declared.tree.CFunction.{CFunction}
 use Rattle.cmeaning.specs.declared.tree.CalleeDecl.{CalleeDecl}
 use Rattle.cmeaning.specs.declared.tree.Expr.{Expr, fold-roll-Expr, ind-Expr, roll-Expr, map-Expr}
 use Rattle.cmeaning.specs.declared.tree.Expr.TheOpen.{Expr-F}
-use Rattle.cmeaning.specs.declared.tree.Arm.{Arm, fold_out-Arm, roll-Arm, map-Arm}
+use Rattle.cmeaning.specs.declared.tree.Arm.{Arm, roll-Arm, map-Arm}
 use Rattle.cmeaning.specs.declared.tree.Stmt.{Stmt, fold-roll-Stmt, roll-Stmt, map-Stmt}
 use Rattle.cmeaning.specs.declared.tree.Stmt.TheFolds.{ind-Stmt}
 use Rattle.cmeaning.specs.declared.tree.Stmt.TheOpen.{Stmt-F, Arm-F}
@@ -15,8 +16,8 @@ use Rattle.cmeaning.specs.Mentions.{Mention, Variable, Callee, LabelLine, expr_s
 use Rattle.cmeaning.specs.Shape.{shape_of, is_condition}
 use Rattle.cmeaning.specs.Do.{widths_in}
 use Rattle.cmeaning.specs.Valid.{Rule, Cased, rule_step, cased_step, rule_of, cased_of, all_hold, arms_hold, all_cases, are_cases_of}
-use Rattle.cread.proofs.Fronts.{and_both}
 use Rattle.cread.proofs.Switches.{arms_right}
+use Rattle.cmeaning.proofs.Mentions.{in_arm_body}
 
 -- ---- mentions
 
@@ -87,19 +88,15 @@ body_low f labels g h [] after_call in_loop room ok = tt
 body_low f labels g h (x ∷ xs) after_call in_loop room ok =
     let r = rule_of f labels (g x) in
     let others = all_hold r.calls (map (rule_of f labels) (map g xs)) in_loop room in
-    let three = and_both (ltb 0 room) (r.holds after_call in_loop (room - 1) && others) ok in
-    let two = and_both (r.holds after_call in_loop (room - 1)) others three.1 in
+    let three = and_parts (ltb 0 room) (r.holds after_call in_loop (room - 1) && others) ok in
+    let two = and_parts (r.holds after_call in_loop (room - 1)) others three.1 in
     low_append (in_stmt (g x)) (in_body (map g xs)) (h x after_call in_loop (room - 1) two.0) (body_low f labels g h xs r.calls in_loop room two.1)
-
-arm_mentions : (a : Arm) → in_arm a ≡ in_body a.body
-unfolding in_arm in_stmt
-arm_mentions a = fold_out-Arm (List Mention) (List Mention) stmt_step arm_step a
 
 arms_low : (f : CFunction) (labels : ℕ) {B : Type 0} (o : B → Arm) → ((b : B) → ArmLow f labels (o b)) → (arms : List B) (room : ℕ) → arms_hold (map (cased_of f labels) (map o arms)) room ≡ true → AllLow (in_arms (map o arms))
 arms_low f labels o q [] room ok = tt
 arms_low f labels o q (a ∷ arms) room ok =
     let r = arms_right f labels (o a) (map o arms) room ok in
-    low_append (in_arm (o a)) (in_arms (map o arms)) (subst AllLow (sym (arm_mentions (o a))) (q a false false room r.body)) (arms_low f labels o q arms room r.others)
+    low_append (in_arm (o a)) (in_arms (map o arms)) (subst AllLow (sym (in_arm_body (o a))) (q a false false room r.body)) (arms_low f labels o q arms room r.others)
 
 abbrev Holding : CFunction → ℕ → Stmt-F Rule Cased → Bool → Bool → ℕ → Type 0
 Holding f labels l after_call in_loop room = (rule_step f labels l).holds after_call in_loop room ≡ true
@@ -115,25 +112,25 @@ stmt_layer f labels g o h q (Stmt-F.Other v index es) after_call in_loop room ok
 stmt_layer f labels g o h q (Stmt-F.Extra v offset) after_call in_loop room ok = (tt, tt)
 stmt_layer f labels g o h q (Stmt-F.Divide v op a b) after_call in_loop room ok = (tt, low_append (in_expr a) (in_expr b) (low_expr a) (low_expr b))
 stmt_layer f labels g o h q (Stmt-F.If c xs) after_call in_loop room ok =
-    let both = and_both (is_condition (shape_of (widths_in f) c)) (all_hold false (map (rule_of f labels) (map g xs)) in_loop room) ok in
+    let both = and_parts (is_condition (shape_of (widths_in f) c)) (all_hold false (map (rule_of f labels) (map g xs)) in_loop room) ok in
     low_append (in_expr c) (in_body (map g xs)) (low_expr c) (body_low f labels g h xs false in_loop room both.1)
 stmt_layer f labels g o h q (Stmt-F.IfElse c xs ys) after_call in_loop room ok =
     let one = all_hold false (map (rule_of f labels) (map g xs)) in_loop room in
     let two = all_hold false (map (rule_of f labels) (map g ys)) in_loop room in
-    let three = and_both (is_condition (shape_of (widths_in f) c)) (one && two) ok in
-    let both = and_both one two three.1 in
+    let three = and_parts (is_condition (shape_of (widths_in f) c)) (one && two) ok in
+    let both = and_parts one two three.1 in
     low_append (in_expr c) (in_body (map g xs) ++ in_body (map g ys)) (low_expr c) (low_append (in_body (map g xs)) (in_body (map g ys)) (body_low f labels g h xs false in_loop room both.0) (body_low f labels g h ys false in_loop room both.1))
 stmt_layer f labels g o h q (Stmt-F.While c xs) after_call in_loop room ok =
-    let both = and_both (is_condition (shape_of (widths_in f) c)) (all_hold false (map (rule_of f labels) (map g xs)) true room) ok in
+    let both = and_parts (is_condition (shape_of (widths_in f) c)) (all_hold false (map (rule_of f labels) (map g xs)) true room) ok in
     low_append (in_expr c) (in_body (map g xs)) (low_expr c) (body_low f labels g h xs false true room both.1)
 stmt_layer f labels g o h q (Stmt-F.DoWhile xs c) after_call in_loop room ok =
-    let both = and_both (is_condition (shape_of (widths_in f) c)) (all_hold false (map (rule_of f labels) (map g xs)) true room) ok in
+    let both = and_parts (is_condition (shape_of (widths_in f) c)) (all_hold false (map (rule_of f labels) (map g xs)) true room) ok in
     low_append (in_body (map g xs)) (in_expr c) (body_low f labels g h xs false true room both.1) (low_expr c)
 stmt_layer f labels g o h q (Stmt-F.Loop xs) after_call in_loop room ok = body_low f labels g h xs false true room ok
 stmt_layer f labels g o h q Stmt-F.Break after_call in_loop room ok = tt
 stmt_layer f labels g o h q (Stmt-F.Switch e arms) after_call in_loop room ok =
     let cased = map (cased_of f labels) (map o arms) in
-    let both = and_both (are_cases_of (all_cases cased) (shape_of (widths_in f) e)) (arms_hold cased room) ok in
+    let both = and_parts (are_cases_of (all_cases cased) (shape_of (widths_in f) e)) (arms_hold cased room) ok in
     low_append (in_expr e) (in_arms (map o arms)) (low_expr e) (arms_low f labels o q arms room both.1)
 stmt_layer f labels g o h q (Stmt-F.Goto n) after_call in_loop room ok = tt
 stmt_layer f labels g o h q (Stmt-F.Label n) after_call in_loop room ok = (ltb-true _ _ ok, tt)
@@ -154,12 +151,8 @@ low_stmt f labels t = ind-Stmt (StmtLow f labels) (ArmLow f labels)
     (λ l y is. subst (λ (z : Stmt-F Stmt Arm). StmtLow f labels (roll-Stmt z)) is (stmt_rolled f labels (λ p. p.0) (λ p. p.0) (λ p. p.1) (λ p. p.1) y))
     (λ l y is. subst (λ (z : Arm-F Stmt Arm). ArmLow f labels (roll-Arm z)) is (arm_rolled f labels (λ p. p.0) (λ p. p.0) (λ p. p.1) y)) t
 
-map_same : {A : Type 0} (xs : List A) → map (λ x. x) xs ≡ xs
-map_same [] = refl
-map_same (x ∷ xs) = ap (λ (l : List _). x ∷ l) (map_same xs)
-
 pub low_body : (f : CFunction) (labels : ℕ) (xs : List Stmt) → BodyLow f labels xs
-low_body f labels xs = subst (BodyLow f labels) (map_same xs) (body_low f labels (λ x. x) (low_stmt f labels) xs)
+low_body f labels xs = subst (BodyLow f labels) (map-id xs) (body_low f labels (λ x. x) (low_stmt f labels) xs)
 
 -- ---- numbers by first appearance
 

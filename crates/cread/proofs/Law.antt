@@ -2,7 +2,7 @@
 use Rattle.std.proofs.Common.{◌≡◌, ℕ, zero, suc, ◌+◌, ◌*◌, ◌%◌, ◌^◌, ◌<◌, ◌≤◌, min, max, Bool, true, false, cond, ltb, leb, ◌&&◌, List, [], ◌∷◌, ◌++◌, Option, Some, None, refl, sym, ap, ◌∙◌, subst, arith, append_assoc, lit<, lit≤}
 use Rattle.std.specs.Prelude.{codes}
 use Rattle.std.specs.Fmt.{decimal}
-use Rattle.std.proofs.lemmas.Bool.{ltb-true, leb-true}
+use Rattle.std.proofs.lemmas.Bool.{ltb-true, leb-true, and_parts}
 use Rattle.bits_core.specs.declared.word.Width.{Width}
 use Rattle.bits_core.specs.declared.word.Word.{Word}
 use Rattle.cmeaning.specs.declared.shape.Shape.{Shape}
@@ -38,7 +38,7 @@ use Rattle.cread.specs.Words.{after, or_else, hex_at}
 use Rattle.cread.specs.Names.{width_by, type_at}
 use Rattle.cread.specs.Expressions.{unary_at, pair_at, count_at, item, as_signed, joined, paired, constant_by, cast_by, paren_by, part_by, inner_by, named_at, atom_by, operand_by, operand_at}
 use Rattle.cread.specs.Statements.{right_at, division_at}
-use Rattle.cread.proofs.Fronts.{and_both, hex_again, decimal_again}
+use Rattle.cread.proofs.Fronts.{hex_again, decimal_again}
 use Rattle.cread.proofs.Naming.{IsStop, space, close, comma, semi, stop_digit, NameHead, of_local_name, of_model, of_entry, Named, variable_named, at_comma, stop_of}
 use Rattle.cread.proofs.Widths.{type_again, width_again, word_again, word_small}
 use Rattle.cread.proofs.Again.{Headed, headed_paren, Sized, Again, Inner, Operand, AllHeaded, cast_of, resize_same, in_cast, alone_of, simple_again, compound_again, comparison_again}
@@ -311,7 +311,7 @@ part_case sc ws k w a ra s h =
     let t = e.Part k w a in
     let i = one_is (is_part k w.bytes) (λ v. w.bytes) (shape_of ws a) s (sym (shape_roll ws (Expr-F.Part k w a) t (e.rolls-Part k w a)) ∙ h) in
     let x = ra i.at i.is in
-    let both = and_both (leb (k + w.bytes) i.at.width) (ltb w.bytes i.at.width) i.deep.holds in
+    let both = and_parts (leb (k + w.bytes) i.at.width) (ltb w.bytes i.at.width) i.deep.holds in
     let all : k + w.bytes ≤ i.at.width = leb-true _ _ both.0 in
     let less : w.bytes < i.at.width = ltb-true _ _ both.1 in
     let most = w.to in
@@ -465,7 +465,7 @@ pub record Numbered (sc : Scope) (ws : ℕ → ℕ) (v : ℕ) : Type 0 where
   pub some : 0 < ws v
 
 pub number_is : (ws : ℕ → ℕ) (sc : Scope) (v : ℕ) → (ltb v (2 ^ 32) && ltb 0 (ws v)) ≡ true → Numbered sc ws v
-number_is ws sc v h = let both = and_both (ltb v (2 ^ 32)) (ltb 0 (ws v)) h in record { low = ltb-true _ _ both.0; some = ltb-true _ _ both.1 }
+number_is ws sc v h = let both = and_parts (ltb v (2 ^ 32)) (ltb 0 (ws v)) h in record { low = ltb-true _ _ both.0; some = ltb-true _ _ both.1 }
 
 var_shape : (b : Bool) (w : ℕ) (s : Shape) → cond b (leaf w None) None ≡ Some s → (b ≡ true) × (leaf w None ≡ Some s)
 var_shape true w s h = (refl, h)

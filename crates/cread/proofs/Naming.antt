@@ -4,7 +4,7 @@ use Rattle.std.specs.Prelude.{codes, slice_get, ℤ, pos, negsuc, neg_ℤ, not}
 use Rattle.std.specs.Ordering.{int_eq}
 use Rattle.std.specs.Int.Signed.{lt_z, le_z}
 use Rattle.std.specs.Char.{is_digit}
-use Rattle.std.proofs.lemmas.Bool.{lt-ltb, le-ltb, ltb-true, leb-true, le-leb, eqb-true, cases_Bool}
+use Rattle.std.proofs.lemmas.Bool.{lt-ltb, le-ltb, ltb-true, leb-true, le-leb, eqb-true, cases_Bool, and_parts, and_from}
 use Rattle.std.proofs.lemmas.Bool.Decides.{Decides-int_eq}
 use Rattle.std.proofs.lemmas.Option.{slice_get_cases}
 use Rattle.pcode_model.specs.declared.storage.ParamStorage.{ParamStorage}
@@ -17,7 +17,7 @@ use Rattle.cread.specs.declared.item.Entry.{Entry}
 use Rattle.cread.specs.Words.{after}
 use Rattle.cmeaning.specs.Entries.{same_flag, same_storage}
 use Rattle.cread.specs.Names.{storage_at, entry_at, is_entry, place_of, variable_at}
-use Rattle.cread.proofs.Fronts.{and_both, hex_again, decimal_again, hex_begins}
+use Rattle.cread.proofs.Fronts.{hex_again, decimal_again, hex_begins}
 
 -- what may stand behind an operand, and behind a whole expression
 pub data IsStop : ℕ → Type 0 where
@@ -75,14 +75,14 @@ storage_again (Unique o) c rest fits stop =
     let same : o % 2 ^ 64 ≡ o = omega arith in
     rw (n, same) refl
 storage_again (Stack (pos k)) c rest fits stop =
-    let both = and_both (le_z (negsuc 2147483647) (pos k)) (lt_z (pos k) (pos 2147483648)) fits in
+    let both = and_parts (le_z (negsuc 2147483647) (pos k)) (lt_z (pos k) (pos 2147483648)) fits in
     let low : k < 2 ^ 31 = ltb-true _ _ both.1 in
     let n = hex_again k c rest (omega arith) (stop_digit stop) in
     let not_m = hex_begins 109 k c rest (omega arith) refl (stop_not_m stop) in
     let test : ltb k (2 ^ 31) ≡ true = lt-ltb _ _ low in
     rw (not_m, n, test) refl
 storage_again (Stack (negsuc k)) c rest fits stop =
-    let both = and_both (le_z (negsuc 2147483647) (negsuc k)) (lt_z (negsuc k) (pos 2147483648)) fits in
+    let both = and_parts (le_z (negsuc 2147483647) (negsuc k)) (lt_z (negsuc k) (pos 2147483648)) fits in
     let low : k < 2 ^ 31 = below_least k both.0 in
     let n = hex_again (k + 1) c rest (omega arith) (stop_digit stop) in
     let test : leb (k + 1) (2 ^ 31) ≡ true = le-leb _ _ (omega arith) in
@@ -102,9 +102,6 @@ entry_again p c rest fits stop = entry_flag p.model p.storage c rest (storage_ag
 
 abbrev pub entry_of : Param → Entry
 entry_of p = record { model = p.model; storage = p.storage }
-
-both_true : (a b : Bool) → a ≡ true → b ≡ true → (a && b) ≡ true
-both_true a b p q = rw (p, q) refl
 
 same_flags : (a : Bool) → same_flag a a ≡ true
 same_flags true = refl
@@ -164,7 +161,7 @@ apart : (x p : Param) → may_precede x p ≡ true → is_entry (entry_of p) x �
 apart x p h =
     elim (cases_Bool (is_entry (entry_of p) x)) [
       | inl same ↦
-          let both = and_both (same_flag x.model p.model) (same_storage x.storage p.storage) same in
+          let both = and_parts (same_flag x.model p.model) (same_storage x.storage p.storage) same in
           let gap = not_follow x p (flag_is x.model p.model both.0) (storage_is x.storage p.storage both.1) in
           absurd (let never : true ≡ false = sym h ∙ gap in cc)
       | inr other ↦ other
@@ -172,19 +169,19 @@ apart x p h =
 
 precedes : (x : Param) (ps : List Param) (i : ℕ) (p : Param) → precedes_all x ps ≡ true → slice_get ps i ≡ Some p → may_precede x p ≡ true
 precedes x [] i p h at = absurd cc
-precedes x (q ∷ ps) zero p h at = let same : q ≡ p = cc in ap (may_precede x) (sym same) ∙ (and_both (may_precede x q) (precedes_all x ps) h).0
-precedes x (q ∷ ps) (suc i) p h at = precedes x ps i p (and_both (may_precede x q) (precedes_all x ps) h).1 at
+precedes x (q ∷ ps) zero p h at = let same : q ≡ p = cc in ap (may_precede x) (sym same) ∙ (and_parts (may_precede x q) (precedes_all x ps) h).0
+precedes x (q ∷ ps) (suc i) p h at = precedes x ps i p (and_parts (may_precede x q) (precedes_all x ps) h).1 at
 
 pub places : (ps : List Param) (n i : ℕ) (p : Param) → are_params ps ≡ true → slice_get ps i ≡ Some p → (place_of (entry_of p) n ps ≡ Some (n + i)) × (is_storage p.storage ≡ true)
 places [] n i p ok at = absurd cc
 places (x ∷ xs) n zero p ok at =
-    let three = and_both (is_storage x.storage) (precedes_all x xs && are_params xs) ok in
+    let three = and_parts (is_storage x.storage) (precedes_all x xs && are_params xs) ok in
     let same : x ≡ p = cc in
-    let yes : is_entry (entry_of p) x ≡ true = ap (λ (q : Param). is_entry (entry_of p) q) same ∙ both_true (same_flag p.model p.model) (same_storage p.storage p.storage) (same_flags p.model) (storage_same p.storage) in
+    let yes : is_entry (entry_of p) x ≡ true = ap (λ (q : Param). is_entry (entry_of p) q) same ∙ and_from (same_flag p.model p.model) (same_storage p.storage p.storage) (same_flags p.model) (storage_same p.storage) in
     (rw yes (ap (λ (k : ℕ). Some k) (omega arith)), ap (λ (q : Param). is_storage q.storage) (sym same) ∙ three.0)
 places (x ∷ xs) n (suc i) p ok at =
-    let three = and_both (is_storage x.storage) (precedes_all x xs && are_params xs) ok in
-    let rest = and_both (precedes_all x xs) (are_params xs) three.1 in
+    let three = and_parts (is_storage x.storage) (precedes_all x xs && are_params xs) ok in
+    let rest = and_parts (precedes_all x xs) (are_params xs) three.1 in
     let more = places xs (n + 1) i p rest.1 at in
     let gap = apart x p (precedes x xs i p rest.0 at) in
     let found = more.0 in

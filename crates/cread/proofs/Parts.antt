@@ -1,6 +1,7 @@
 -- The parts of statements are read again: expressions, arguments, memory accesses and calls.
 use Rattle.std.proofs.Common.{◌≡◌, ℕ, zero, suc, ◌<◌, ◌≤◌, Bool, true, false, ◌&&◌, List, [], ◌∷◌, ◌++◌, length, Option, Some, None, refl, sym, subst, arith, append_assoc, length-append}
 use Rattle.std.specs.Prelude.{codes}
+use Rattle.std.proofs.lemmas.Bool.{and_parts}
 use Rattle.bits_core.specs.declared.word.Width.{Width}
 use Rattle.cmeaning.specs.declared.shape.Shape.{Shape}
 use Rattle.cmeaning.specs.Shape.{shape_of, is_right, has_width, is_condition}
@@ -15,7 +16,6 @@ use Rattle.cread.specs.Words.{◌>>=◌, after, run_of, past_spaces, many_by}
 use Rattle.cread.specs.Names.{type_at}
 use Rattle.cread.specs.Expressions.{item, as_signed, inner_by, operand_at, expr_at}
 use Rattle.cread.specs.Statements.{line_at, plain_line_at, right_at, further_item, further_at, args_at, right_by, effect_at, target_at, not_own, statement_by, statement_at, value_at}
-use Rattle.cread.proofs.Fronts.{and_both}
 use Rattle.cread.proofs.Naming.{space, NameHead, of_local_name, of_model, of_entry, Named, IsEnd, at_close, at_comma, at_semi, stop_of}
 use Rattle.cread.proofs.Again.{AllBegun, inner_of}
 use Rattle.cread.proofs.Law.{Context, number_is, named_by, reads, name_headed}
@@ -84,12 +84,12 @@ AllWritten sc (t ∷ ts) = Written sc t × AllWritten sc ts
 
 pub all_right : (sc : Scope) (ws : ℕ → ℕ) → Context sc ws → (ts : List Expr) → are_right ws ts ≡ true → AllWritten sc ts
 all_right sc ws ok [] h = tt
-all_right sc ws ok (t ∷ ts) h = let both = and_both (is_right (shape_of ws t)) (are_right ws ts) h in (written_right sc ws ok t both.0, all_right sc ws ok ts both.1)
+all_right sc ws ok (t ∷ ts) h = let both = and_parts (is_right (shape_of ws t)) (are_right ws ts) h in (written_right sc ws ok t both.0, all_right sc ws ok ts both.1)
 
 pub all_wide : (sc : Scope) (ws : ℕ → ℕ) → Context sc ws → (ts : List Expr) (widths : List Width) → have_widths ws ts widths ≡ true → AllWritten sc ts
 all_wide sc ws ok [] widths h = tt
 all_wide sc ws ok (t ∷ ts) [] h = absurd cc
-all_wide sc ws ok (t ∷ ts) (w ∷ widths) h = let both = and_both (has_width w.bytes (shape_of ws t)) (have_widths ws ts widths) h in (written_width sc ws ok w.bytes t both.0, all_wide sc ws ok ts widths both.1)
+all_wide sc ws ok (t ∷ ts) (w ∷ widths) h = let both = and_parts (has_width w.bytes (shape_of ws t)) (have_widths ws ts widths) h in (written_width sc ws ok w.bytes t both.0, all_wide sc ws ok ts widths both.1)
 
 abbrev texts : Scope → List Expr → List ℕ
 texts sc ts = further (plain_texts sc ts)

@@ -1,7 +1,7 @@
 -- Switches are read again, where the statements inside them are.
 use Rattle.std.proofs.Common.{◌≡◌, ℕ, zero, suc, ◌^◌, ◌<◌, ◌≤◌, Bool, true, false, ltb, ◌&&◌, List, [], ◌∷◌, ◌++◌, length, Some, None, refl, sym, ap, ◌∙◌, subst, arith, append_assoc, length-append}
 use Rattle.std.specs.Prelude.{codes, map}
-use Rattle.std.proofs.lemmas.Bool.{ltb-true}
+use Rattle.std.proofs.lemmas.Bool.{ltb-true, and_parts, and_from}
 use Rattle.bits_core.specs.Value.{limit}
 use Rattle.bits_core.proofs.Machine.{limit_most}
 use Rattle.cmeaning.specs.declared.tree.CFunction.{CFunction}
@@ -17,7 +17,7 @@ use Rattle.ctext.proofs.Nested.{arm_lines}
 use Rattle.cread.specs.Words.{after, run_of, past_spaces, number_from, decimal_at, many_by}
 use Rattle.cread.specs.Names.{type_at}
 use Rattle.cread.specs.Statements.{line_at, plain_line_at, spaced_by, case_at, cases_at, past_break, arm_by, switch_by, line_by, statement_by, statement_at}
-use Rattle.cread.proofs.Fronts.{and_both, hex_again, AllSpaces, spaces_again}
+use Rattle.cread.proofs.Fronts.{hex_again, AllSpaces, spaces_again}
 use Rattle.cread.proofs.Parts.{Written, LineAt}
 use Rattle.cread.proofs.Bodies.{AllOk, first_ok, past_pad, brace_ends, case_ends, break_ends, body_again, deeper_spaces, head_again, worded}
 
@@ -33,19 +33,16 @@ AllSmall (x ∷ xs) = (x < 2 ^ 128) × AllSmall xs
 words_small : (w : ℕ) (xs : List ℕ) → w ≤ 16 → are_words w xs ≡ true → AllSmall xs
 words_small w [] le h = tt
 words_small w (x ∷ xs) le h =
-    let both = and_both (ltb x (limit w)) (are_words w xs) h in
+    let both = and_parts (ltb x (limit w)) (are_words w xs) h in
     let low : x < limit w = ltb-true _ _ both.0 in
     (omega (arith, low, limit_most w le), words_small w xs le both.1)
-
-both_true : (a b : Bool) → a ≡ true → b ≡ true → (a && b) ≡ true
-both_true a b p q = rw (p, q) refl
 
 words_front : (w : ℕ) (xs ys : List ℕ) → are_words w (xs ++ ys) ≡ true → (are_words w xs ≡ true) × (are_words w ys ≡ true)
 words_front w [] ys h = (refl, h)
 words_front w (x ∷ xs) ys h =
-    let both = and_both (ltb x (limit w)) (are_words w (xs ++ ys)) h in
+    let both = and_parts (ltb x (limit w)) (are_words w (xs ++ ys)) h in
     let rest = words_front w xs ys both.1 in
-    (both_true (ltb x (limit w)) (are_words w xs) both.0 rest.0, rest.1)
+    (and_from (ltb x (limit w)) (are_words w xs) both.0 rest.0, rest.1)
 
 case_again : (d : List ℕ) (n : ℕ) (rest : List ℕ) → AllSpaces d → n < 2 ^ 128 → case_at (d ++ (codes "case 0x" ++ (hex n ++ 58 ∷ 10 ∷ rest))) ≡ Some (n, rest)
 unfolding case_at after
@@ -196,8 +193,8 @@ pub arms_right : (f : CFunction) (labels : ℕ) (a : Arm) (arms : List Arm) (roo
 arms_right f labels a arms room h =
     let k : Cased = record { cases = a.cases; body = map (rule_of f labels) a.body } in
     let g : (has_case k.cases && (all_hold false k.body false room && arms_hold (map (cased_of f labels) arms) room)) ≡ true = ap (λ (c : Cased). has_case c.cases && (all_hold false c.body false room && arms_hold (map (cased_of f labels) arms) room)) (sym (cased_is f labels a)) ∙ h in
-    let three = and_both (has_case k.cases) (all_hold false k.body false room && arms_hold (map (cased_of f labels) arms) room) g in
-    let two = and_both (all_hold false k.body false room) (arms_hold (map (cased_of f labels) arms) room) three.1 in
+    let three = and_parts (has_case k.cases) (all_hold false k.body false room && arms_hold (map (cased_of f labels) arms) room) g in
+    let two = and_parts (all_hold false k.body false room) (arms_hold (map (cased_of f labels) arms) room) three.1 in
     record { some = three.0; body = two.0; others = two.1 }
 
 arms_small : (f : CFunction) (labels w : ℕ) (a : Arm) (arms : List Arm) → are_words w (all_cases (map (cased_of f labels) (a ∷ arms))) ≡ true → (are_words w a.cases ≡ true) × (are_words w (all_cases (map (cased_of f labels) arms)) ≡ true)

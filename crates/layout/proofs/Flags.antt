@@ -1,10 +1,11 @@
 -- Flags of the blocks that gotos name.
-use Rattle.std.proofs.Common.{◌≡◌, ℕ, zero, suc, ◌+◌, ◌<◌, Bool, true, false, List, [], ◌∷◌, length, drop, refl, sym, ap, ◌∙◌, Some, arith}
+use Rattle.std.proofs.Common.{◌≡◌, ℕ, suc, ◌+◌, ◌<◌, Bool, true, false, List, [], ◌∷◌, length, drop, refl, sym, ap, ◌∙◌, Some, arith}
 use Rattle.std.specs.Prelude.{slice_get}
 use Rattle.std.specs.List.{slice_index_or}
 use Rattle.pcode_model.specs.Spaces.{or}
 use Rattle.blockcode.specs.declared.code.Block.{Block}
 use Rattle.blockcode.specs.Laid.{exit_names, blocks_name, flags_from}
+use Rattle.blockcode.proofs.Straight.{dropped}
 
 or_false : (a : Bool) → or a false ≡ a
 or_false true = refl
@@ -15,11 +16,6 @@ or_turned true true r = refl
 or_turned true false r = refl
 or_turned false true r = refl
 or_turned false false r = refl
-
-dropped : {A : Type 0} (xs : List A) (n : ℕ) (x : A) → slice_get xs n ≡ Some x → drop n xs ≡ x ∷ drop (suc n) xs
-dropped [] n x e = absurd (cc)
-dropped (y ∷ ys) zero x e = cc
-dropped (y ∷ ys) (suc n) x e = dropped ys n x e
 
 -- a block's exit was marked
 pub mark_next : (old new : Bool) (blocks : List Block) (n : ℕ) (x : Block) (b : ℕ) (is : Bool) → slice_get blocks n ≡ Some x → or old (blocks_name n (drop n blocks) b) ≡ is → new ≡ or (exit_names (n + 1) x.exit b) old → or new (blocks_name (n + 1) (drop (n + 1) blocks) b) ≡ is

@@ -23,7 +23,8 @@ use Rattle.blockcode.specs.declared.code.Block.{Block}
 use Rattle.blockcode.specs.declared.code.Code.{Code}
 use Rattle.blockcode.specs.Run.{CodeState, widths, enters, enters_by, returns_with, leave, code_step, code_machine}
 use Rattle.blockcode.specs.Laid.{label_at, goto_line, goto, exit_lines, laid_from}
-use Rattle.blockcode.proofs.Grows.{code_grows, c_grows}
+use Rattle.cmeaning.proofs.Grows.{c_grows}
+use Rattle.blockcode.proofs.Grows.{code_grows}
 use Rattle.blockcode.proofs.Straight.{get_of_drop, none_of_drop, rest_of_drop, still, step_in}
 use Rattle.layout_laws.proofs.Pieces.{steps_of, AllSimple}
 use Rattle.layout_laws.proofs.Follows.{Given, StandsFrom, Leads, JumpLeads, IsLaid, Related, Went, goes_on, entered, arrives, ended_goes, jump_goes, simple_goes, c_is, c_still, front}

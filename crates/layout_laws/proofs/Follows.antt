@@ -19,7 +19,7 @@ use Rattle.blockcode.specs.declared.code.Block.{Block}
 use Rattle.blockcode.specs.declared.code.Code.{Code}
 use Rattle.blockcode.specs.Run.{CodeState, widths, does_return, enters, code_step, code_machine}
 use Rattle.blockcode.specs.Laid.{label_at, goto_line, goto, exit_lines, laid_from}
-use Rattle.blockcode.proofs.Straight.{get_of_drop, rest_of_drop, step_in}
+use Rattle.blockcode.proofs.Straight.{dropped, get_of_drop, rest_of_drop, step_in}
 use Rattle.layout_laws.proofs.Pieces.{steps_of, AllSimple}
 use Rattle.layout_laws.proofs.Positions.{label_steps}
 
@@ -77,11 +77,6 @@ goes_on l k f g n u u' c c' j r e h less rel =
     let P : CodeState → Type 0 = λ x. Related l k f g r x (after (c_step l f) j c) in
     let Q : CState → Type 0 = λ x. Related l k f g r u' x in
     inr (0, (j, (r, (less, subst P (sym e) (subst Q (sym h) rel)))))
-
-dropped : {A : Type 0} (xs : List A) (n : ℕ) (x : A) → slice_get xs n ≡ Some x → drop n xs ≡ x ∷ drop (suc n) xs
-dropped [] n x e = absurd (cc)
-dropped (y ∷ ys) zero x e = cc
-dropped (y ∷ ys) (suc n) x e = dropped ys n x e
 
 some_block : (xs : List Block) (n : ℕ) → n < length xs → (x : Block) × (slice_get xs n ≡ Some x)
 some_block [] n lt = absurd (omega arith)

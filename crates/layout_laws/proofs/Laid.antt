@@ -27,7 +27,8 @@ use Rattle.blockcode.specs.Run.{width_in, widths, does_return, first_word, word_
 use Rattle.blockcode.specs.Laid.{jump_names, exit_names, blocks_name, is_named, flags_from, numbered, labels_of, label_at, goto, laid_from, laid_body, params_of, param_of, locals_of, laid_out}
 use Rattle.blockcode.specs.Numbers.{ExitBelow, ExitsBelow, AreNumbered}
 use Rattle.blockcode.specs.Plain.{IsParam, AreParams, IsDirect}
-use Rattle.blockcode.proofs.Grows.{code_grows, c_grows}
+use Rattle.cmeaning.proofs.Grows.{c_grows}
+use Rattle.blockcode.proofs.Grows.{code_grows}
 use Rattle.layout_laws.proofs.Pieces.{span_of, labels_in, steps_of, steps_append, labels_append, AllSimple, drop_past}
 use Rattle.layout_laws.proofs.Positions.{measured_jump, unlabelled_jump, AllBlocks, position, placed, numbered_once, label_leads}
 use Rattle.layout_laws.proofs.Follows.{Given, StandsFrom, Leads, JumpLeads, IsLaid, Related, arrives}

@@ -31,7 +31,7 @@ use Rattle.layout_laws.proofs.Positions.{numbered_from}
 cased_of : CFunction → ℕ → Arm → Cased
 cased_of f labels a = fold-Arm Rule Cased (rule_step f labels) cased_step a
 
-rule_roll : (f : CFunction) (labels : ℕ) (s : Stmt) (y : Stmt-F Stmt Arm) → roll-Stmt y ≡ s → rule_of f labels s ≡ rule_step f labels (map-Stmt Stmt Arm Rule Cased (rule_of f labels) (cased_of f labels) y)
+pub rule_roll : (f : CFunction) (labels : ℕ) (s : Stmt) (y : Stmt-F Stmt Arm) → roll-Stmt y ≡ s → rule_of f labels s ≡ rule_step f labels (map-Stmt Stmt Arm Rule Cased (rule_of f labels) (cased_of f labels) y)
 unfolding rule_of cased_of
 rule_roll f labels s y is = ap (rule_of f labels) (sym is) ∙ fold-roll-Stmt Rule Cased (rule_step f labels) cased_step y
 
@@ -214,7 +214,7 @@ next_of v m = record { variable = v; callee = 0; label = m }
 quiet_append : (xs ys : List Mention) (n : Next) → Quiet xs n → Quiet ys n → Quiet (xs ++ ys) n
 quiet_append xs ys n h g = record { quiet = numbered_append [] xs ys (Some n) ∙ ap (numbered [] ys) h.quiet ∙ g.quiet }
 
-in_append : (xs ys : List Stmt) → in_body (xs ++ ys) ≡ in_body xs ++ in_body ys
+pub in_append : (xs ys : List Stmt) → in_body (xs ++ ys) ≡ in_body xs ++ in_body ys
 in_append [] ys = refl
 in_append (x ∷ xs) ys = ap (λ l. in_stmt x ++ l) (in_append xs ys) ∙ sym (append_assoc (in_stmt x) (in_body xs) (in_body ys))
 

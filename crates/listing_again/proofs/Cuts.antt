@@ -5,6 +5,7 @@ use Rattle.std.specs.List.{AllByRecursion}
 use Rattle.std.proofs.lemmas.Bool.Decides.{nat_tests}
 use Rattle.listing_lines.specs.Text.{Line, lines_of, parts_of, starts_with_lf, with_front}
 use Rattle.listing_print.specs.Printed.{ended, spaced}
+use Rattle.pcodetext.proofs.Passing.{all_map}
 
 -- neither LF nor CR
 abbrev pub IsLine : Line → Type 0
@@ -21,16 +22,12 @@ IsToken token = AllByRecursion (λ b. (32 < b) × ((b == 58) ≡ false)) token
 abbrev Without : ℕ → Line → Type 0
 Without x line = AllByRecursion (λ b. (b == x) ≡ false) line
 
-pub all_of : {A : Type 0} (P Q : A → Type 0) → ((a : A) → P a → Q a) → (xs : List A) → AllByRecursion P xs → AllByRecursion Q xs
-all_of P Q f [] h = tt
-all_of P Q f (x ∷ xs) h = (f x h.0, all_of P Q f xs h.1)
-
 pub all_append : {A : Type 0} (P : A → Type 0) → (xs ys : List A) → AllByRecursion P xs → AllByRecursion P ys → AllByRecursion P (xs ++ ys)
 all_append P [] ys h g = g
 all_append P (x ∷ xs) ys h g = (h.0, all_append P xs ys h.1 g)
 
 pub token_is_part : (token : Line) → IsToken token → IsPart token
-token_is_part token h = all_of (λ b. (32 < b) × ((b == 58) ≡ false)) (λ b. 32 < b) (λ b p. p.0) token h
+token_is_part token h = all_map (λ b. (32 < b) × ((b == 58) ≡ false)) (λ b. 32 < b) (λ b p. p.0) token h
 
 -- ---- parts
 
@@ -38,13 +35,13 @@ same_is : (x : ℕ) → (x == x) ≡ true
 same_is x = grind (arith, nat_tests)
 
 no_space : (part : Line) → IsPart part → Without 32 part
-no_space part h = all_of (λ b. 32 < b) (λ b. (b == 32) ≡ false) other part h
+no_space part h = all_map (λ b. 32 < b) (λ b. (b == 32) ≡ false) other part h
   where
     other : (b : ℕ) → 32 < b → (b == 32) ≡ false
     other b above = grind (arith, nat_tests)
 
 no_colon : (token : Line) → IsToken token → Without 58 token
-no_colon token h = all_of (λ b. (32 < b) × ((b == 58) ≡ false)) (λ b. (b == 58) ≡ false) (λ b p. p.1) token h
+no_colon token h = all_map (λ b. (32 < b) × ((b == 58) ≡ false)) (λ b. (b == 58) ≡ false) (λ b p. p.1) token h
 
 cut : (x : ℕ) (part rest : Line) → Without x part → parts_of x (part ++ x ∷ rest) ≡ part ∷ parts_of x rest
 cut x [] rest h = ap (λ (t : Bool). if t then [] ∷ parts_of x rest else with_front x (parts_of x rest)) (same_is x)
@@ -69,7 +66,7 @@ spaced_append [] ys = refl
 spaced_append (x ∷ xs) ys = ap (λ (r : Line). 32 ∷ x ++ r) (spaced_append xs ys) ∙ ap (λ (r : Line). 32 ∷ r) (sym (append_assoc x (spaced xs) (spaced ys)))
 
 part_is_line : (part : Line) → IsPart part → IsLine part
-part_is_line part h = all_of (λ b. 32 < b) (λ b. 32 ≤ b) (λ b p. omega arith) part h
+part_is_line part h = all_map (λ b. 32 < b) (λ b. 32 ≤ b) (λ b p. omega arith) part h
 
 pub spaced_is_line : (parts : List Line) (first : Line) → IsPart first → AllByRecursion IsPart parts → IsLine (first ++ spaced parts)
 spaced_is_line parts first h g = all_append (λ b. 32 ≤ b) first (spaced parts) (part_is_line first h) (more parts g)

@@ -3,6 +3,7 @@ use Rattle.std.proofs.Common.{◌≡◌, ◌∙◌, ◌<◌, ◌^◌, ℕ, Bool,
 use Rattle.std.specs.Prelude.{◌==◌, codes, decimal, Option, Some, None, IfSome, if◌then◌else◌, slice_get}
 use Rattle.std.specs.List.{AllByRecursion}
 use Rattle.std.specs.Option.{is_none}
+use Rattle.std.proofs.lemmas.Bool.{and_from, not-false, eqb-true}
 use Rattle.listing_lines.specs.Text.{Line, parts_of}
 use Rattle.listing_lines.specs.Tokens.{bytes_of, decimal_of, is_name}
 use Rattle.listing_print.specs.Printed as printed
@@ -28,9 +29,9 @@ use Rattle.pcodetext.specs.Forms.{at_made, bytes_made, callee_made, form_by, for
 use Rattle.pcodetext.specs.Meaning.{function_of, number, proto_number, varnode}
 use Rattle.pcodetext.specs.Tables.{place_in, proto_name}
 use Rattle.pcodetext.specs.Written.{named_by, place_of}
-use Rattle.pcodetext.proofs.Passing.{eq_true, left_false, never, not_false}
+use Rattle.pcodetext.proofs.Passing.{left_false, never}
 use Rattle.listing_again.proofs.Cuts.{IsLine, IsPart, all_append, parts_are, spaced_append, spaced_is_line, token_is_part}
-use Rattle.listing_again.proofs.Numbers.{both_true, bytes_back, decimal_back, decimal_token, hexadecimal_back, hexadecimal_token, pairs_part}
+use Rattle.listing_again.proofs.Numbers.{bytes_back, decimal_back, decimal_token, hexadecimal_back, hexadecimal_token, pairs_part}
 use Rattle.listing_again.proofs.Ranges.{IsCalled, IsRange, IsSpelled, name_token, place_back, place_part_is, register_back}
 use Rattle.listing_again.proofs.Told.{IsBytesTold, IsFunctionTold, IsSpaceTold}
 
@@ -163,7 +164,7 @@ function_by spaces protos name named.Stack address proto returns n s far c first
 function_by spaces protos name named.Unknown address proto returns n s far c first known = absurd (never (sym first))
 function_by spaces protos name (named.Space k) address None returns n s far c first known = absurd (never known)
 function_by spaces protos name (named.Space k) address (Some p) returns n s far c first known =
-    let same : number_of Ram spaces ≡ k = eq_true _ _ first in
+    let same : number_of Ram spaces ≡ k = eqb-true _ _ first in
     let is : is_name (name_of spaces (number_of Ram spaces)) ≡ true = ap (λ (m : ℕ). is_name (name_of spaces m)) same ∙ s.0 in
     let stands : named_by spaces (name_of spaces (number_of Ram spaces)) ≡ named.Space k = ap (λ (m : ℕ). named_by spaces (name_of spaces m)) same ∙ s.1 in
     let called : Line = printed.proto_name (slice_get protos p) in
@@ -171,13 +172,13 @@ function_by spaces protos name (named.Space k) address (Some p) returns n s far 
       parts = (name_part name n, (place_part_is (name_of spaces (number_of Ram spaces)) address is far, (name_part called c.name, tt)));
       read = λ r e. ap (function_made protos name called (place_of spaces (place_part (name_of spaces (number_of Ram spaces)) address))) e
           ∙ ap (λ (o : Option (Named × ℕ)). function_made protos name called o (Some returns)) (place_back spaces (name_of spaces (number_of Ram spaces)) address is far)
-          ∙ ap (λ (t : Bool). if t then Some (record { name = name; space = named_by spaces (name_of spaces (number_of Ram spaces)); address = address; proto = place_in called (map proto_name protos); returns = returns }) else None) (both_true _ _ n c.name)
+          ∙ ap (λ (t : Bool). if t then Some (record { name = name; space = named_by spaces (name_of spaces (number_of Ram spaces)); address = address; proto = place_in called (map proto_name protos); returns = returns }) else None) (and_from _ _ n c.name)
           ∙ ap (λ (space : Named). Some (record { name = name; space = space; address = address; proto = place_in called (map proto_name protos); returns = returns })) stands
           ∙ ap (λ (o : Option ℕ). Some (record { name = name; space = named.Space k; address = address; proto = o; returns = returns })) c.known;
     }
 
 function_back : (spaces : List Space) (protos : List Proto) (l : FunctionLine) → IsFunctionTold spaces protos l → is_misplaced spaces l ≡ false → is_none l.proto ≡ false → IsFunctionBack spaces protos l
-function_back spaces protos l h placed known = function_by spaces protos l.name l.space l.address l.proto l.returns h.name h.space h.address h.proto (not_false _ (left_false _ _ placed)) known
+function_back spaces protos l h placed known = function_by spaces protos l.name l.space l.address l.proto l.returns h.name h.space h.address h.proto (not-false _ (left_false _ _ placed)) known
 
 function_line_is : (word : Line) (spaces : List Space) (protos : List Proto) (l : FunctionLine)
     → function_line word spaces protos (function_of l) ≡ word ++ spaced (function_parts spaces protos l.name l.address (proto_number l.proto) ++ returns_parts l.returns)

@@ -10,15 +10,14 @@ use Rattle.std.specs.Str.Parse.{AllDigits, digits_value}
 use Rattle.std.proofs.lemmas.Fmt.{decimal_digit, decimal_is_IsNumeral, digits_is_IsNumeral, first_decimal, hex_one_digit, length-decimal-le}
 use Rattle.std.proofs.lemmas.Int.Digits.{digits_value-lt}
 use Rattle.std.proofs.lemmas.Bool.Decides.{nat_tests}
+use Rattle.std.proofs.lemmas.Bool.{ltb-true, and_from}
 use Rattle.listing_lines.specs.Text.{Line}
 use Rattle.listing_lines.specs.Tokens.{bytes_of, decimal_of, has_leading_zero, hexadecimal_of, number_of, pairs_of}
 use Rattle.listing_print.specs.Printed.{hexadecimal, pairs}
 use Rattle.listing_again.proofs.Cuts.{IsPart, IsToken}
+use Rattle.pcodetext.proofs.FormIs.{left_true}
 
 -- ---- digits
-
-below : (a b : ℕ) → nat_lt a b ≡ true → a < b
-below a b h = grind (arith, nat_tests)
 
 is_below : (a b : ℕ) → a < b → nat_lt a b ≡ true
 is_below a b h = grind (arith, nat_tests)
@@ -32,16 +31,9 @@ is_within a b h = grind (arith, nat_tests)
 never : true ≡ false → ⊥
 never h = cc
 
-pub left_true : (a b : Bool) → (a && b) ≡ true → a ≡ true
-left_true true b h = refl
-left_true false b h = absurd (never (sym h))
-
 pub right_true : (a b : Bool) → (a && b) ≡ true → b ≡ true
 right_true true b h = h
 right_true false b h = absurd (never (sym h))
-
-pub both_true : (a b : Bool) → a ≡ true → b ≡ true → (a && b) ≡ true
-both_true a b p q = ap (λ (t : Bool). t && b) p ∙ q
 
 -- no digit stands below `0`, nor is the colon one
 digit_token : (b : ℕ) → digit_value b < 16 → (32 < b) × ((b == 58) ≡ false)
@@ -69,15 +61,15 @@ wider (d ∷ ds) h = (omega (arith, h.0), wider ds h.1)
 
 all_digits : (radix : ℕ) (ds : Line) → AllDigits radix ds → list_all (λ b. is_digit b radix) ds ≡ true
 all_digits radix [] h = refl
-all_digits radix (d ∷ ds) h = both_true _ _ (is_below _ _ h.0) (all_digits radix ds h.1)
+all_digits radix (d ∷ ds) h = and_from _ _ (is_below _ _ h.0) (all_digits radix ds h.1)
 
 digits_all : (radix : ℕ) (ds : Line) → list_all (λ b. is_digit b radix) ds ≡ true → AllDigits radix ds
 digits_all radix [] h = tt
-digits_all radix (d ∷ ds) h = (below _ _ (left_true _ _ h), digits_all radix ds (right_true _ _ h))
+digits_all radix (d ∷ ds) h = (ltb-true _ _ (left_true _ _ h), digits_all radix ds (right_true _ _ h))
 
 number_is : (radix most : ℕ) (ds : Line) → 0 < length ds → length ds ≤ most → AllDigits radix ds → number_of radix most ds ≡ Some (digits_value radix ds)
 number_is radix most ds some few all =
-    let test = both_true _ _ (within 1 (length ds) some) (both_true _ _ (within (length ds) most few) (all_digits radix ds all)) in
+    let test = and_from _ _ (within 1 (length ds) some) (and_from _ _ (within (length ds) most few) (all_digits radix ds all)) in
     ap (λ (t : Bool). if t then Some (digits_value radix ds) else None) test
 
 number_small : (radix most : ℕ) (ds : Line) → 1 ≤ radix → IfSome (number_of radix most ds) (λ n. n < radix ^ most)
@@ -200,7 +192,7 @@ pairs_back [] h = refl
 pairs_back (b ∷ bytes) h =
     let high : b / 16 < 16 = omega (arith, h.0) in
     let low : b % 16 < 16 = omega arith in
-    let test = both_true _ _ (glyph_digit (b / 16) high) (glyph_digit (b % 16) low) in
+    let test = and_from _ _ (glyph_digit (b / 16) high) (glyph_digit (b % 16) low) in
     let byte : digit_value (digit_glyph false (b / 16)) * 16 + digit_value (digit_glyph false (b % 16)) ≡ b = omega (arith, glyph_value (b / 16) high, glyph_value (b % 16) low) in
     let value : ℕ = digit_value (digit_glyph false (b / 16)) * 16 + digit_value (digit_glyph false (b % 16)) in
     ap (λ (t : Bool). if t then option_map (λ (more : List ℕ). value ∷ more) (pairs_of (pairs bytes)) else None) test
@@ -211,7 +203,7 @@ bytes_back [] some h = absurd (omega arith)
 bytes_back (b ∷ bytes) some h = pairs_back (b ∷ bytes) h
 
 digit_small : (b : ℕ) → is_digit b 16 ≡ true → digit_value b < 16
-digit_small b h = below _ _ h
+digit_small b h = ltb-true _ _ h
 
 pairs_small : (part : Line) → IfSome (pairs_of part) AreBytes
 pairs_small [] = tt

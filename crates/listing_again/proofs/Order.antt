@@ -1,7 +1,8 @@
 -- A line without a fault adds one canonical line, which says the same.
 use Rattle.std.proofs.Common.{◌≡◌, ◌∙◌, ◌<◌, ◌+◌, ℕ, Bool, true, false, List, [], ◌∷◌, ◌++◌, length, map, ap, sym, refl, arith, append-nil, subst}
-use Rattle.std.specs.Prelude.{◌==◌, not, codes, Option, Some, None}
+use Rattle.std.specs.Prelude.{codes, Option, Some, None}
 use Rattle.std.specs.Option.{is_none, is_some, option_to_list}
+use Rattle.std.proofs.lemmas.Bool.{not-false}
 use Rattle.listing_lines.specs.Text.{Line}
 use Rattle.listing_print.specs.Printed.{at_line, bytes_line, function_line, op_line, proto_line, space_line, stack_line, version_line}
 use Rattle.pcode_model.specs.declared.listing.Function.{Function}
@@ -10,7 +11,6 @@ use Rattle.pcode_model.specs.declared.listing.Proto.{Proto}
 use Rattle.pcode_model.specs.declared.listing.Space.{Space}
 use Rattle.pcode_model.specs.declared.listing.Varnode.{Varnode}
 use Rattle.pcode_model.specs.declared.opcode.Opcode.{Opcode}
-use Rattle.pcode_model.specs.WellFormed.{AreSpaces}
 use Rattle.pcodetext.specs.declared.said.Said.{Said}
 use Rattle.pcodetext.specs.declared.form.AtLine.{AtLine}
 use Rattle.pcodetext.specs.declared.form.BytesLine.{BytesLine}
@@ -24,11 +24,12 @@ use Rattle.pcodetext.specs.declared.form.Written.{Written}
 use Rattle.pcodetext.specs.Faults.{faults, first_fault, is_complete}
 use Rattle.pcodetext.specs.Meaning.{after, function_of, number, varnode, with_op}
 use Rattle.pcodetext.specs.Tables.{constant}
-use Rattle.pcodetext.proofs.Formed.{IsFormed}
-use Rattle.pcodetext.proofs.Passing.{AllFalse, all_false, eq_true, left_false, never, nil_is, none_is, not_false, right_false, zero_false}
+use Rattle.pcodetext.proofs.Formed.{IsFormed, some_spaces}
+use Rattle.pcodetext.proofs.Passing.{AllFalse, all_false, left_false, never, nil_is, none_is, right_false, zero_false}
 use Rattle.listing_again.proofs.Growth.{at_grows, bytes_grow, callees_grow, early_lines, end_grows, late_lines, no_ops, op_grows, protos_grow, said_lines, space_grows, up_to_bytes, up_to_callees, up_to_protos}
 use Rattle.listing_again.proofs.Lines.{IsReadAs, space_of, version_of}
 use Rattle.listing_again.proofs.Ranged.{op_of, proto_of}
+use Rattle.pcodetext.proofs.Keeping.{no_length}
 
 -- what stands after what hasn't come yet
 pub record IsOrdered (s : Said) : Type 0 where
@@ -57,9 +58,6 @@ none_some (Some a) e = absurd (never (sym e))
 some_none : {A : Type 0} (o : Option A) → is_some o ≡ false → is_none o ≡ true
 some_none None e = refl
 some_none (Some a) e = absurd (never e)
-
-no_length : (n : ℕ) → not (n == 0) ≡ false → n ≡ 0
-no_length n h = eq_true n 0 (not_false _ h)
 
 -- without an instruction the text goes on
 not_ended : (s : Said) → IsFormed s → is_some s.last ≡ false → s.ended ≡ false
@@ -111,10 +109,6 @@ pcode_kept s n f o h =
     first_early spaces (Some w) b c = absurd (never c)
     first_early spaces None b c = ap (λ (ss : List Space). early_lines (Some n) ss None) b
 
-some_spaces : (spaces : List Space) → AreSpaces spaces → 0 < length spaces
-some_spaces [] h = absurd h
-some_spaces (s ∷ spaces) h = omega arith
-
 pub space_kept : (s : Said) (l : SpaceLine) → IsFormed s → IsOrdered s → first_fault (faults s (form.Space l)) ≡ None → IsKept s (after s (form.Space l)) (space_line (version_of s.version) (space_of l))
 space_kept s l f o h =
     let p : AllFalse (faults s (form.Space l)) = all_false (faults s (form.Space l)) h in
@@ -135,7 +129,7 @@ pub stack_kept : (s : Said) (w : Written) → IsFormed s → IsOrdered s → fir
 stack_kept s w f o h =
     let p : AllFalse (faults s (form.Stack w)) = all_false (faults s (form.Stack w)) h in
     let none : length s.protos ≡ 0 = no_length _ (right_false _ _ p.0) in
-    let complete = not_false _ (left_false _ _ (left_false _ _ p.0)) in
+    let complete = not-false _ (left_false _ _ (left_false _ _ p.0)) in
     record {
       ordered = record { version = λ e. absurd (not_complete s.spaces (o.version e).0 complete); callees = o.callees; fixed = o.fixed; last = o.last };
       lines = before_protos s f none (early_lines s.version s.spaces (Some (varnode w))) s.spaces ∙ grows s.stack (right_false _ _ (left_false _ _ p.0))
@@ -149,7 +143,7 @@ stack_kept s w f o h =
 pub proto_kept : (s : Said) (l : ProtoLine) → IsFormed s → IsOrdered s → first_fault (faults s (form.Proto l)) ≡ None → IsKept s (after s (form.Proto l)) (proto_line s.spaces (proto_of l))
 proto_kept s l f o h =
     let p : AllFalse (faults s (form.Proto l)) = all_false (faults s (form.Proto l)) h in
-    let complete = not_false _ (left_false _ _ p.1.0) in
+    let complete = not-false _ (left_false _ _ p.1.0) in
     let none = some_none s.func (right_false _ _ p.1.0) in
     let front : List Line = early_lines s.version s.spaces s.stack in
     let code : List Instruction = s.done ++ option_to_list s.last in

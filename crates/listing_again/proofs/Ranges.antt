@@ -1,6 +1,6 @@
 -- Ranges, places and names are read back from their canonical text.
-use Rattle.std.proofs.Common.{◌≡◌, ◌∙◌, ◌<◌, ◌≤◌, ◌+◌, ◌%◌, ◌^◌, ℕ, zero, suc, Bool, true, false, List, [], ◌∷◌, ◌++◌, map, ap, sym, refl, arith, subst, append_assoc}
-use Rattle.std.proofs.Math.Nat.{mod-le, mod-mod}
+use Rattle.std.proofs.Common.{◌≡◌, ◌∙◌, ◌<◌, ◌+◌, ◌%◌, ◌^◌, ℕ, zero, suc, Bool, true, false, List, [], ◌∷◌, ◌++◌, map, ap, sym, refl, arith, subst, append_assoc}
+use Rattle.std.proofs.Math.Nat.{mod-mod}
 use Rattle.std.specs.Prelude.{◌==◌, codes, decimal, Option, Some, None, IfSome, if◌then◌else◌, slice_get}
 use Rattle.std.specs.Fmt.{digits}
 use Rattle.std.specs.List.{list_all}
@@ -8,6 +8,7 @@ use Rattle.std.specs.Option.{option_map}
 use Rattle.std.specs.Str.{bytes_eq}
 use Rattle.std.proofs.lemmas.Bool.Decides.{nat_tests}
 use Rattle.std.proofs.lemmas.Slice.Eq.{bytes_eq-Decides}
+use Rattle.std.proofs.lemmas.Bool.{not-false}
 use Rattle.listing_lines.specs.Text.{Line, parts_of}
 use Rattle.listing_lines.specs.Tokens.{decimal_of, hexadecimal_of, is_letter, is_name, is_name_byte}
 use Rattle.listing_print.specs.Printed as printed
@@ -24,11 +25,13 @@ use Rattle.pcode_model.specs.Spaces.{same_kind}
 use Rattle.pcode_model.specs.WellFormed.{AreSpaces}
 use Rattle.pcodetext.specs.Faults.{is_no_argument, is_of_kind, is_other, is_unknown, of_no_argument, of_other, of_unknown}
 use Rattle.pcodetext.specs.Meaning.{number, reduced, storage_of, varnode}
-use Rattle.pcodetext.proofs.Passing.{never, not_false}
+use Rattle.pcodetext.proofs.Passing.{never}
 use Rattle.pcodetext.specs.Tables.{place_from, place_in, proto_name, space_name}
 use Rattle.pcodetext.specs.Written.{named_by, numbered, place_by, place_of, placed, range_by, range_of, written}
 use Rattle.listing_again.proofs.Cuts.{IsPart, IsToken, all_append, one_token, token_is_part, token_then}
-use Rattle.listing_again.proofs.Numbers.{decimal_back, decimal_small, decimal_token, hexadecimal_back, hexadecimal_small, hexadecimal_token, left_true, right_true}
+use Rattle.listing_again.proofs.Numbers.{decimal_back, decimal_small, decimal_token, hexadecimal_back, hexadecimal_small, hexadecimal_token, right_true}
+use Rattle.pcodetext.proofs.Formed.{reduced_le, register_kind}
+use Rattle.pcodetext.proofs.FormIs.{left_true}
 
 -- ---- names
 
@@ -200,13 +203,6 @@ place_part_is name offset is far =
 abbrev pub canonical : Written → Written
 canonical w = record { space = w.space; offset = reduced (number w.space) w.offset w.size; size = w.size }
 
-reduced_le : (n offset size : ℕ) → reduced n offset size ≤ offset
-reduced_le n offset size = by_space (n == 0)
-  where
-    by_space : (t : Bool) → (if t then offset % 256 ^ size else offset) ≤ offset
-    by_space true = mod-le offset (256 ^ size)
-    by_space false = omega arith
-
 reduced_twice : (n offset size : ℕ) → reduced n (reduced n offset size) size ≡ reduced n offset size
 reduced_twice n offset size = by_space (n == 0)
   where
@@ -269,7 +265,7 @@ argument_by : (spaces : List Space) (space : Named) (offset size : ℕ) → AreS
     → is_other spaces space ≡ false → is_no_argument space ≡ false
     → IsReadBack spaces (storage_part spaces (storage_of (record { space = space; offset = offset; size = size }))) (record { space = space; offset = offset; size = size })
 argument_by spaces (named.Space n) offset size a s far long other known =
-    register_back spaces (record { space = named.Space n; offset = offset; size = size }) a (record { space = s; offset = far; size = long }) (not_false _ other)
+    register_back spaces (record { space = named.Space n; offset = offset; size = size }) a (record { space = s; offset = far; size = long }) (not-false _ other)
 argument_by spaces named.Stack offset size a s far long other known =
     record { read = sized_back spaces (codes "stack") offset size refl far long; part = sized_part_is (codes "stack") offset size refl far long }
 argument_by spaces named.Unknown offset size a s far long other known = absurd (never known)
@@ -277,14 +273,8 @@ argument_by spaces named.Unknown offset size a s far long other known = absurd (
 pub argument_back : (spaces : List Space) (w : Written) → AreSpaces spaces → IsRange spaces w → of_other spaces w ≡ false → of_no_argument w ≡ false → IsReadBack spaces (storage_part spaces (storage_of w)) w
 argument_back spaces w a h other known = argument_by spaces w.space w.offset w.size a h.space h.offset h.size other known
 
--- a known space of a prototype's line is the register space
-known_by : (spaces : List Space) (space : Named) → is_other spaces space ≡ false → is_unknown space ≡ false → is_of_kind Register spaces space ≡ true
-known_by spaces (named.Space n) other known = not_false _ other
-known_by spaces named.Stack other known = absurd (never known)
-known_by spaces named.Unknown other known = absurd (never known)
-
 pub kept_back : (spaces : List Space) (w : Written) → AreSpaces spaces → IsRange spaces w → of_other spaces w ≡ false → of_unknown w ≡ false → IsReadBack spaces (range_part spaces (varnode w)) w
-kept_back spaces w a h other known = register_back spaces w a h (known_by spaces w.space other known)
+kept_back spaces w a h other known = register_back spaces w a h (register_kind spaces w.space other known)
 
 -- a part that is a range is no word
 pub not_word : (spaces : List Space) (part word : Line) (w : Written) → range_of spaces word ≡ None → range_of spaces part ≡ Some w → bytes_eq part word ≡ false

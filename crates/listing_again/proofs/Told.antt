@@ -9,7 +9,7 @@ use Rattle.listing_lines.specs.Text.{Line, parts_of}
 use Rattle.listing_lines.specs.Tokens.{bytes_of, decimal_of, hexadecimal_of, is_name}
 use Rattle.pcode_model.specs.declared.listing.Space.{Space}
 use Rattle.pcode_model.specs.declared.listing.SpaceKind.{SpaceKind}
-use Rattle.pcode_model.specs.declared.listing.SpaceKind.TheVariants.{Constant, Ram, Register, Unique}
+use Rattle.pcode_model.specs.declared.listing.SpaceKind.TheVariants.{Constant}
 use Rattle.pcode_model.specs.declared.listing.Proto.{Proto}
 use Rattle.pcode_model.specs.declared.opcode.Opcode.{Opcode}
 use Rattle.pcode_model.specs.declared.opcode.Opcode.TheVariants as opcode
@@ -29,8 +29,9 @@ use Rattle.pcodetext.specs.Opcodes as opcodes
 use Rattle.pcodetext.specs.Opcodes.{analyses, analysis_word, arithmetics, binary_of, binary_word, comparisons, controls, conversion_word, conversions, divide_word, divides, float_of, foreign_of, left_out_word, left_outs, opcode_of, or_else, shifts, unaries, unary_word, word_of}
 use Rattle.pcodetext.specs.Tables.{place_in, proto_name}
 use Rattle.pcodetext.specs.Written.{before, place_of, range_of, range_or_none, ranges_of, ranges_until, with_first}
-use Rattle.listing_again.proofs.Numbers.{AreBytes, bytes_small, decimal_small, hexadecimal_small, left_true, right_true}
+use Rattle.listing_again.proofs.Numbers.{AreBytes, bytes_small, decimal_small, hexadecimal_small, right_true}
 use Rattle.listing_again.proofs.Ranges.{IsCalled, IsRange, IsSpelled, called, place_is, range_is}
+use Rattle.pcodetext.proofs.FormIs.{kind_is, left_true}
 
 pub record IsSpaceTold (two : Bool) (l : SpaceLine) : Type 0 where
   pub name : is_name l.name ≡ true
@@ -198,15 +199,6 @@ word_told true (a ∷ []) = wide (decimal_of a) (decimal_small a)
 word_told false (a ∷ []) = tt
 word_told true (a ∷ b ∷ parts) = tt
 word_told false (a ∷ b ∷ parts) = tt
-
-kind_is : (word : Line) → IfSome (kind_of word) (λ k. same_kind Constant k ≡ false)
-kind_is word = by_word (bytes_eq word (codes "ram")) (bytes_eq word (codes "register")) (bytes_eq word (codes "unique"))
-  where
-    by_word : (a b c : Bool) → IfSome (if a then Some Ram else (if b then Some Register else (if c then Some Unique else None))) (λ k. same_kind Constant k ≡ false)
-    by_word true b c = refl
-    by_word false true c = refl
-    by_word false false true = refl
-    by_word false false false = tt
 
 space_made_told : (two : Bool) (spaces : List Space) (protos : List Proto) (name : Line) (kind : Option SpaceKind) (size : Option ℕ) (big : Option Bool) (word : Option ℕ)
     → IfSome kind (λ k. same_kind Constant k ≡ false) → IfSome size (λ n. n < 10 ^ 5) → IfSome word (λ n. (n < 10 ^ 5) × (two ≡ false → n ≡ 1))

@@ -3,6 +3,7 @@ use Rattle.std.proofs.Common.{◌≡◌, ◌∙◌, ◌+◌, ℕ, Bool, true, fa
 use Rattle.std.specs.Prelude.{◌||◌, codes, nat_le, Option, Some, None, if◌then◌else◌}
 use Rattle.std.specs.List.{AllByRecursion, list_any}
 use Rattle.std.specs.Option.{is_none, option_map}
+use Rattle.std.proofs.lemmas.Bool.{not-false}
 use Rattle.listing_lines.specs.Text.{Line, lines_of}
 use Rattle.listing_print.specs.Printed.{at_line, bytes_line, function_line, op_line, proto_line, space_line, stack_line, text_of, version_line}
 use Rattle.pcode_model.specs.declared.listing.Function.{Function}
@@ -11,7 +12,6 @@ use Rattle.pcode_model.specs.declared.listing.Listing.{Listing}
 use Rattle.pcode_model.specs.declared.listing.Varnode.{Varnode}
 use Rattle.pcode_model.specs.declared.opcode.Opcode.{Opcode}
 use Rattle.pcodetext.specs.declared.said.Said.{Said}
-use Rattle.pcodetext.specs.declared.fault.TextFault.{TextFault}
 use Rattle.pcodetext.specs.declared.fault.TextFault.TheVariants.{Syntax}
 use Rattle.pcodetext.specs.declared.fault.Why.{Why}
 use Rattle.pcodetext.specs.declared.fault.Why.TheVariants as why
@@ -29,8 +29,8 @@ use Rattle.pcodetext.proofs.Failing.{stays}
 use Rattle.pcodetext.proofs.FormIs.{form_is}
 use Rattle.pcodetext.proofs.Formed.{IsFormed}
 use Rattle.pcodetext.proofs.Keeping.{kept}
-use Rattle.pcodetext.proofs.Whole.{start_formed}
-use Rattle.pcodetext.proofs.Passing.{AllFalse, all_false, left_false, never, not_false, right_false}
+use Rattle.pcodetext.proofs.Whole.{start_formed, goes_same, fails_not, bad_not, good_same}
+use Rattle.pcodetext.proofs.Passing.{AllFalse, all_false, left_false, never, right_false}
 use Rattle.listing_again.proofs.Cuts.{IsLine, all_append, lines_are}
 use Rattle.listing_again.proofs.Growth.{said_lines, text_is}
 use Rattle.listing_again.proofs.Lines.{IsReadAs, at_again, bytes_again, callee_again, end_again, func_again, pcode_again, space_again, space_of, stack_again, version_of}
@@ -108,7 +108,7 @@ said_again s (form.Pcode n) g o h none = (version_line n, same_form s (form.Pcod
 said_again s (form.Space l) g o h none = (space_line (version_of s.version) (space_of l), same_form s (form.Space l) _ refl none (space_kept s l g o none) (space_again s l h))
 said_again s (form.Stack w) g o h none =
     let p : AllFalse (faults s (form.Stack w)) = all_false (faults s (form.Stack w)) none in
-    (stack_line s.spaces (varnode w), same_form s (form.Stack w) _ refl none (stack_kept s w g o none) (stack_again s w g.spaces h (not_false _ p.1.1.0)))
+    (stack_line s.spaces (varnode w), same_form s (form.Stack w) _ refl none (stack_kept s w g o none) (stack_again s w g.spaces h (not-false _ p.1.1.0)))
 said_again s (form.Proto l) g o h none =
     let p : AllFalse (faults s (form.Proto l)) = all_false (faults s (form.Proto l)) none in
     (proto_line s.spaces (proto_of l), same_form s (form.Proto l) _ refl none (proto_kept s l g o none) (proto_again s l g.spaces h p.0 p.1.1.0))
@@ -120,7 +120,7 @@ said_again s (form.Callee l) g o h none =
     (function_line (codes "callee") s.spaces s.protos (function_of l), same_form s (form.Callee l) _ refl none (callee_kept s l g o none) (callee_again s l h.0 h.1 (right_false _ _ p.1.1.1.0) (left_false _ _ p.1.0)))
 said_again s (form.Bytes l) g o h none =
     let p : AllFalse (faults s (form.Bytes l)) = all_false (faults s (form.Bytes l)) none in
-    (bytes_line s.spaces (record { space = number l.space; offset = l.offset; bytes = l.bytes }), same_form s (form.Bytes l) _ refl none (bytes_kept s l g o none) (bytes_again s l (not_false _ p.1.1.1.1.1.0) h))
+    (bytes_line s.spaces (record { space = number l.space; offset = l.offset; bytes = l.bytes }), same_form s (form.Bytes l) _ refl none (bytes_kept s l g o none) (bytes_again s l (not-false _ p.1.1.1.1.1.0) h))
 said_again s (form.At l) g o h none = (at_line (record { address = l.address; length = l.length; ops = [] }), same_form s (form.At l) _ refl none (at_kept s l o none) (at_again s l h.0 h.1))
 said_again s (form.Op l) g o h none = op_said s l o h none
 said_again s form.End g o h none = (codes "end", same_form s form.End _ refl none (end_kept s o none) (end_again s))
@@ -147,12 +147,6 @@ line_reread s t line h formed g = record {
   number = h.number + 1;
   read = ap (advanced (Going 1 start)) g.kept.lines ∙ advanced_more (Going 1 start) (said_lines s) line ∙ ap (λ (p : Progress). advance p line) h.read ∙ ap (moved h.number) g.said;
 }
-
-goes_same : (s t : Said) → Goes s ≡ Goes t → s ≡ t
-goes_same s t e = cc
-
-fails_not : (w : Why) (t : Said) → Fails w ≡ Goes t → ⊥
-fails_not w t e = cc
 
 step_reread : (s t : Said) (line : Line) → IsReread s → step s line ≡ Goes t → IsReread t
 step_reread s t line h = by_skip (is_skipped line)
@@ -192,12 +186,6 @@ start_reread = record {
 }
 
 -- ---- the whole text
-
-good_same : (l m : Listing) → Good l ≡ Good m → l ≡ m
-good_same l m e = cc
-
-bad_not : (fault : TextFault) (l : Listing) → Bad fault ≡ Good l → ⊥
-bad_not fault l e = cc
 
 text_again : (s : Said) (version : ℕ) (func : Function) → s.ended ≡ true → s.version ≡ Some version → s.func ≡ Some func → IsReread s → reading (text_of (listing_of s version func)) ≡ Good (listing_of s version func)
 text_again s version func e v f h =

@@ -9,7 +9,8 @@ pub mod graph;
 pub mod growth;
 pub mod ids;
 pub mod reads;
-pub mod slots;pub mod walks;
+pub mod slots;
+pub mod walks;
 
 pub use code::{Body, Code};
 pub use graph::OpGraph;

@@ -5,6 +5,7 @@ use Rattle.std.specs.List.{AllByRecursion}
 use Rattle.std.proofs.lemmas.Bool.Decides.{nat_tests}
 use Rattle.std.proofs.Math.Nat.{pow-le-pow_right}
 use Rattle.std.proofs.Math.Seq.{take-length}
+use Rattle.std.proofs.lemmas.Bool.{ltb-false}
 use Rattle.bits_core.specs.declared.ops.Unary.{Unary}
 use Rattle.bits_core.specs.declared.ops.Binary.{Binary}
 use Rattle.bits_core.specs.declared.ops.Divide.{Divide}
@@ -36,9 +37,6 @@ use Rattle.pcode_run.specs.Steps.{Obeys}
 not_wide : (n : ℕ) → nat_lt 16 n ≡ false → n ≤ 16
 not_wide n h = grind (arith, nat_tests)
 
-stays : (n k : ℕ) → nat_lt n k ≡ false → k ≤ n
-stays n k h = grind (arith, nat_tests)
-
 zero_constant : (ss : List Space) → AreSpaces ss → same_kind Constant (kind_in (slice_get ss 0)) ≡ true
 zero_constant [] good = absurd good
 zero_constant (s ∷ ss) good = ap (same_kind Constant) good.0
@@ -69,7 +67,7 @@ fits_by l v good is inside constant (inl zero_space) = is.reduced zero_space
 fits_by l v good is inside constant (inr some) =
     let e : (v.space == 0) ≡ false = other_space v.space some in
     let P : Bool → Type 0 = λ b. (not b && nat_lt (size_of l v.space) (v.offset + v.size)) ≡ false in
-    let within : v.offset + v.size ≤ size_of l v.space = stays _ _ (subst P e inside) in
+    let within : v.offset + v.size ≤ size_of l v.space = ltb-false _ _ (subst P e inside) in
     let one = undeclared l.spaces v.space good some constant in
     let first : v.offset ≡ 0 = omega (arith, within, one, is.some) in
     let least : 256 ^ 0 ≤ 256 ^ v.size = pow-le-pow_right (lit< tt) {i = 0} {j = v.size} (omega arith) in
@@ -83,7 +81,7 @@ inside_by : (l : Listing) (v : Varnode) → AreSpaces l.spaces → leaves_space 
 inside_by l v good inside other =
     let e = not_zero_space l v good other (is_zero v.space) in
     let P : Bool → Type 0 = λ b. (not b && nat_lt (size_of l v.space) (v.offset + v.size)) ≡ false in
-    record { inside = stays _ _ (subst P e inside); small = size_most l.spaces v.space good other }
+    record { inside = ltb-false _ _ (subst P e inside); small = size_most l.spaces v.space good other }
 
 pub used_by : (l : Listing) (v : Varnode) → AreSpaces l.spaces → IsOperand v → is_wide v ≡ false → leaves_space l v ≡ false → IsUsed l v
 used_by l v good is narrow inside = record {

@@ -1,8 +1,8 @@
 -- The accesses of a frame that lie in the first ram space.
-use Rattle.std.proofs.Common.{◌≡◌, ◌==◌, ℕ, Bool, true, false, cond, List, [], ◌∷◌, Option, Some, IsSome, arith, refl, subst}
+use Rattle.std.proofs.Common.{◌≡◌, ◌==◌, ℕ, Bool, true, false, cond, List, [], ◌∷◌, Option, Some, IsSome, refl, subst}
 use Rattle.std.specs.Prelude.{◌&&◌, not}
 use Rattle.std.specs.List.{AllByRecursion}
-use Rattle.std.proofs.lemmas.Bool.Decides.{nat_tests}
+use Rattle.std.proofs.lemmas.Bool.{eqb-true}
 use Rattle.pcode_model.specs.declared.listing.Instruction.{Instruction}
 use Rattle.pcode_model.specs.declared.listing.Listing.{Listing}
 use Rattle.pcode_model.specs.declared.listing.Op.{Op}
@@ -15,15 +15,10 @@ use Rattle.whole_memory.specs.declared.frame.Frame.{Frame}
 use Rattle.whole_memory.specs.declared.frame.OwnAccess.{OwnAccess}
 use Rattle.whole_memory.specs.Frame.{frame_of, own_in}
 use Rattle.pcode_run.specs.Run.{LiesInRam, OwnsFirstRam, accesses, by_pointer, lies_in_ram}
-
-equal : (m n : ℕ) → (m == n) ≡ true → m ≡ n
-equal m n h = grind (arith, nat_tests)
-
-same_place : (p q : Place) → p.address ≡ q.address → p.index ≡ q.index → p ≡ q
-same_place p q a b = λ i. record { address = a i; index = b i }
+use Rattle.flow.proofs.Order.{same_place}
 
 in_space : (b : Bool) (m n : ℕ) → b ≡ true → or (not b) (m == n) ≡ true → m ≡ n
-in_space true m n is h = equal m n h
+in_space true m n is h = eqb-true m n h
 in_space false m n is h = absurd (cc)
 
 here : (l : Listing) (a : OwnAccess) (p : Place) (i : Instruction) (op : Op) → lies_in_ram l a ≡ true → (a.place.address == p.address && (a.place.index == p.index && a.argument == 0)) ≡ true → standing l p ≡ Does i op → by_pointer op.code ≡ true → (varnode_at op.inputs 0).offset ≡ first_ram l
@@ -33,7 +28,7 @@ here l a p i op lies is stands pointer =
     let P : Bool → Type 0 = λ b. cond b (accesses (first_ram l) (standing l a.place)) true ≡ true in
     let Q : Place → Type 0 = λ q. accesses (first_ram l) (standing l q) ≡ true in
     let R : Standing → Type 0 = λ s. accesses (first_ram l) s ≡ true in
-    in_space (by_pointer op.code) _ _ pointer (subst R stands (subst Q (same_place a.place p (equal _ _ x.0) (equal _ _ y.0)) (subst P y.1 lies)))
+    in_space (by_pointer op.code) _ _ pointer (subst R stands (subst Q (same_place a.place p (eqb-true _ _ x.0) (eqb-true _ _ y.0)) (subst P y.1 lies)))
 
 by_test : (b : Bool) (x rest : Option ℕ) {C : Type 0} → IsSome (cond b x rest) → (b ≡ true → C) → (IsSome rest → C) → C
 by_test true x rest some first later = first refl

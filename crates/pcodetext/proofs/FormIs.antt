@@ -76,7 +76,7 @@ named_small f name xs = narrow (place_in name (map f xs)) (place_small 0 name (m
     narrow None h = tt
     narrow (Some n) h = omega (arith, map_length f xs)
 
-left_true : (a b : Bool) → (a && b) ≡ true → a ≡ true
+pub left_true : (a b : Bool) → (a && b) ≡ true → a ≡ true
 left_true true b h = refl
 left_true false b h = absurd (cc)
 
@@ -172,7 +172,7 @@ pcode_is n [] = tt
 pcode_is n (a ∷ []) = pcode_made_is n (decimal_of a)
 pcode_is n (a ∷ b ∷ parts) = tt
 
-kind_is : (word : Line) → IfSome (kind_of word) (λ k. same_kind Constant k ≡ false)
+pub kind_is : (word : Line) → IfSome (kind_of word) (λ k. same_kind Constant k ≡ false)
 kind_is word = by_word (bytes_eq word (codes "ram")) (bytes_eq word (codes "register")) (bytes_eq word (codes "unique"))
   where
     by_word : (a b c : Bool) → IfSome (if a then Some Ram else (if b then Some Register else (if c then Some Unique else None))) (λ k. same_kind Constant k ≡ false)

@@ -5,6 +5,7 @@ use Rattle.std.specs.Prelude.{◌==◌, ◌&&◌, ◌||◌, not, nat_le, nat_lt,
 use Rattle.std.specs.List.{AllByRecursion, list_any}
 use Rattle.std.specs.Option.{is_none, is_some, option_map, option_to_list}
 use Rattle.std.proofs.lemmas.Bool.Decides.{nat_tests}
+use Rattle.std.proofs.lemmas.Bool.{not-false, ltb-false, eqb-true}
 use Rattle.pcode_model.specs.declared.listing.Function.{Function}
 use Rattle.pcode_model.specs.declared.listing.Proto.{Proto}
 use Rattle.pcode_model.specs.declared.listing.Space.{Space}
@@ -25,7 +26,7 @@ use Rattle.pcodetext.specs.Faults.{has_bad_size, is_bad_argument, is_bad_kept, i
 use Rattle.pcodetext.specs.Formed.{HasKnownOps, IsKnown, IsNamedFunction, IsNamedProto, IsNamedSpace, total_ops}
 use Rattle.pcodetext.specs.Meaning.{function_of, number, proto_number, reduced, storage_of, varnode}
 use Rattle.pcodetext.proofs.FormIs.{IsAmong, IsWritten, NamesProto}
-use Rattle.pcodetext.proofs.Passing.{all_snoc, eq_true, left_false, lt_false, never, not_false, right_false, zero_false}
+use Rattle.pcodetext.proofs.Passing.{all_snoc, left_false, never, right_false, zero_false}
 
 -- what is declared: its names have their form, and there isn't too much of it
 pub record AreDeclared (spaces : List Space) (protos : List Proto) (func : Option Function) (callees : List Function) : Type 0 where
@@ -70,7 +71,7 @@ pub complete_is : (spaces : List Space) → is_complete spaces ≡ true → IsCo
 complete_is spaces h = split (how_many Register spaces == 1) (how_many Unique spaces == 1) (nat_le 1 (how_many Ram spaces)) refl refl refl h
   where
     split : (a b c : Bool) → (how_many Register spaces == 1) ≡ a → (how_many Unique spaces == 1) ≡ b → nat_le 1 (how_many Ram spaces) ≡ c → ((a && b) && c) ≡ true → IsComplete spaces
-    split true true true p q r h = record { register = eq_true _ _ p; unique = eq_true _ _ q; ram = le_true _ _ r }
+    split true true true p q r h = record { register = eqb-true _ _ p; unique = eqb-true _ _ q; ram = le_true _ _ r }
       where
         le_true : (m n : ℕ) → nat_le m n ≡ true → m ≤ n
         le_true m n e = grind (arith, nat_tests)
@@ -85,7 +86,7 @@ spaces_more (s ∷ declared) new h p = (h.0, all_snoc IsDeclared declared new h.
 less_is_inside : (x a b size : ℕ) → b ≤ a → nat_lt x (a + size) ≡ false → nat_lt x (b + size) ≡ false
 less_is_inside x a b size le h = grind (arith, nat_tests)
 
-reduced_le : (n offset size : ℕ) → reduced n offset size ≤ offset
+pub reduced_le : (n offset size : ℕ) → reduced n offset size ≤ offset
 reduced_le n offset size = by_space (n == 0)
   where
     by_space : (t : Bool) → (if t then offset % 256 ^ size else offset) ≤ offset
@@ -103,8 +104,8 @@ pub register_is : (spaces : List Space) (w : Written) → is_of_kind Register sp
 register_is spaces w kind some inside = register_by spaces w.space w.offset w.size kind some inside
 
 -- a known space that isn't another one is the register space
-register_kind : (spaces : List Space) (space : Named) → is_other spaces space ≡ false → is_unknown space ≡ false → is_of_kind Register spaces space ≡ true
-register_kind spaces (named.Space n) other known = not_false _ other
+pub register_kind : (spaces : List Space) (space : Named) → is_other spaces space ≡ false → is_unknown space ≡ false → is_of_kind Register spaces space ≡ true
+register_kind spaces (named.Space n) other known = not-false _ other
 register_kind spaces named.Stack other known = absurd (never known)
 register_kind spaces named.Unknown other known = absurd (never known)
 
@@ -115,12 +116,12 @@ argument_by : (spaces : List Space) (stack : Option Varnode) (space : Named) (of
 argument_by spaces stack (named.Space n) offset size bad other known far =
     let sizes : (size == 0 || nat_lt 16 size) ≡ false = left_false _ _ (left_false _ _ bad) in
     record {
-      register = register_by spaces (named.Space n) offset size (not_false _ other) (zero_false _ (left_false _ _ sizes)) (right_false _ _ (left_false _ _ bad));
-      few = lt_false _ _ (right_false _ _ sizes);
+      register = register_by spaces (named.Space n) offset size (not-false _ other) (zero_false _ (left_false _ _ sizes)) (right_false _ _ (left_false _ _ bad));
+      few = ltb-false _ _ (right_false _ _ sizes);
     }
 argument_by spaces stack named.Stack offset size bad other known far =
     let sizes : (size == 0 || nat_lt 16 size) ≡ false = left_false _ _ (left_false _ _ bad) in
-    (zero_false _ (left_false _ _ sizes), lt_false _ _ (right_false _ _ sizes), lt_false _ _ far, there stack (right_false _ _ bad))
+    (zero_false _ (left_false _ _ sizes), ltb-false _ _ (right_false _ _ sizes), ltb-false _ _ far, there stack (right_false _ _ bad))
   where
     there : (o : Option Varnode) → is_none o ≡ false → IsSome o
     there None h = absurd (never h)
@@ -146,7 +147,7 @@ result_is s (Some w) bad other known =
     let inside : leaves_space s.spaces w ≡ false = right_false (has_bad_size w) (leaves_space s.spaces w) (left_false (has_bad_size w || leaves_space s.spaces w) (meets_stack s.stack w) bad) in
     record {
       register = register_is s.spaces w (register_kind s.spaces w.space other known) (zero_false _ (left_false _ _ sizes)) inside;
-      few = lt_false _ _ (right_false _ _ sizes);
+      few = ltb-false _ _ (right_false _ _ sizes);
     }
 
 pub kept_are : (s : Said) (gives : Option Written) (ws : List Written) → list_any (is_bad_kept s gives) ws ≡ false → list_any (of_other s.spaces) ws ≡ false → list_any of_unknown ws ≡ false
@@ -178,7 +179,7 @@ known_by n (named.Space k) some h = h
 known_by n named.Stack some h = some
 known_by n named.Unknown some h = some
 
-some_spaces : (spaces : List Space) → AreSpaces spaces → 0 < length spaces
+pub some_spaces : (spaces : List Space) → AreSpaces spaces → 0 < length spaces
 some_spaces [] h = absurd h
 some_spaces (s ∷ declared) h = omega arith
 
@@ -192,7 +193,7 @@ inputs_known spaces h (w ∷ ws) is = (known_by (length spaces) w.space (some_sp
 
 misplaced_by : (spaces : List Space) (space : Named) (address : ℕ) → (not (is_first_ram spaces space) || leaves_known spaces space address 1) ≡ false → leaves spaces (number_of Ram spaces) address 1 ≡ false
 misplaced_by spaces (named.Space n) address h =
-    let first : number_of Ram spaces ≡ n = eq_true _ _ (not_false _ (left_false _ _ h)) in
+    let first : number_of Ram spaces ≡ n = eqb-true _ _ (not-false _ (left_false _ _ h)) in
     subst (λ (k : ℕ). leaves spaces k address 1 ≡ false) (sym first) (right_false _ _ h)
 misplaced_by spaces named.Stack address h = absurd (never h)
 misplaced_by spaces named.Unknown address h = absurd (never h)
@@ -206,7 +207,7 @@ function_is spaces protos l names some placed = record { proto = there l.proto n
 
 pub fixed_by : (spaces : List Space) (space : Named) (offset : ℕ) (bytes : List ℕ) → nat_lt 4096 (length bytes) ≡ false → is_of_kind Ram spaces space ≡ true
     → leaves_known spaces space offset (length bytes) ≡ false → IsFixed spaces (record { space = number space; offset = offset; bytes = bytes })
-fixed_by spaces (named.Space n) offset bytes few kind inside = record { kind = kind; few = lt_false _ _ few; inside = inside }
+fixed_by spaces (named.Space n) offset bytes few kind inside = record { kind = kind; few = ltb-false _ _ few; inside = inside }
 fixed_by spaces named.Stack offset bytes few kind inside = absurd (never (sym kind))
 fixed_by spaces named.Unknown offset bytes few kind inside = absurd (never (sym kind))
 
@@ -214,10 +215,10 @@ pub declared_is : (l : SpaceLine) → same_kind Constant l.kind ≡ false → (i
     → IsDeclared (record { name = l.name; kind = l.kind; size = l.size; big = l.big; word = l.word })
 declared_is l kind sizes = record {
   kind = kind;
-  some = lt_false _ _ (left_false _ _ (left_false _ _ sizes));
-  few = lt_false _ _ (right_false _ _ (left_false _ _ sizes));
-  word_some = lt_false _ _ (left_false _ _ (right_false _ _ sizes));
-  word_few = lt_false _ _ (right_false _ _ (right_false _ _ sizes));
+  some = ltb-false _ _ (left_false _ _ (left_false _ _ sizes));
+  few = ltb-false _ _ (right_false _ _ (left_false _ _ sizes));
+  word_some = ltb-false _ _ (left_false _ _ (right_false _ _ sizes));
+  word_few = ltb-false _ _ (right_false _ _ (right_false _ _ sizes));
 }
 
 pub proto_is : (s : Said) (l : ProtoLine) → is_foreign s.spaces l ≡ false → is_unknown_proto l ≡ false → nat_lt 0xffff l.pop ≡ false → list_any is_far l.args ≡ false → is_bad_proto s l ≡ false
@@ -226,11 +227,11 @@ proto_is s l other known pop far bad =
     let counts : (nat_lt 16 (length l.args) || nat_lt 64 (length l.keep)) ≡ false = left_false _ _ (left_false _ _ bad) in
     record {
       args = arguments_are s l.args (right_false _ _ (left_false _ _ bad)) (left_false _ _ (left_false _ _ other)) (left_false _ _ (left_false _ _ known)) far;
-      args_few = subst (λ (n : ℕ). n ≤ 16) (sym (mapped storage_of l.args)) (lt_false _ _ (left_false _ _ counts));
+      args_few = subst (λ (n : ℕ). n ≤ 16) (sym (mapped storage_of l.args)) (ltb-false _ _ (left_false _ _ counts));
       gives = result_is s l.gives (left_false _ _ (right_false _ _ bad)) (right_false _ _ (left_false _ _ other)) (right_false _ _ (left_false _ _ known));
-      pop = lt_false _ _ pop;
+      pop = ltb-false _ _ pop;
       keep = kept_are s l.gives l.keep (right_false _ _ (right_false _ _ bad)) (right_false _ _ other) (right_false _ _ known);
-      keep_few = subst (λ (n : ℕ). n ≤ 64) (sym (mapped varnode l.keep)) (lt_false _ _ (right_false _ _ counts));
+      keep_few = subst (λ (n : ℕ). n ≤ 64) (sym (mapped varnode l.keep)) (ltb-false _ _ (right_false _ _ counts));
     }
   where
     mapped : {A B : Type 0} (f : A → B) (xs : List A) → length (map f xs) ≡ length xs

@@ -3,13 +3,14 @@ use Rattle.std.proofs.Common.{◌≡◌, ◌<◌, ◌≤◌, ◌+◌, ◌^◌, �
 use Rattle.std.specs.Prelude.{Option, Some, None}
 use Rattle.std.specs.List.{AllByRecursion}
 use Rattle.std.specs.Option.{is_some, option_to_list}
+use Rattle.std.proofs.lemmas.Bool.{ltb-false}
 use Rattle.pcode_model.specs.declared.listing.Instruction.{Instruction}
 use Rattle.pcode_model.specs.declared.listing.Op.{Op}
 use Rattle.pcode_model.specs.Flow.{AreApart}
 use Rattle.pcode_model.specs.Rules.{HasFewOps}
 use Rattle.pcodetext.specs.Faults.{is_behind, of_some}
 use Rattle.pcodetext.specs.Formed.{total_ops}
-use Rattle.pcodetext.proofs.Passing.{all_snoc, lt_false, right_false}
+use Rattle.pcodetext.proofs.Passing.{all_snoc, right_false}
 
 apart_snoc : (xs : List Instruction) (x y : Instruction) → AreApart (xs ++ x ∷ []) → x.address + x.length ≤ y.address → 0 < y.length → AreApart ((xs ++ x ∷ []) ++ y ∷ [])
 apart_snoc [] x y h le pos = (h, (le, pos))
@@ -20,7 +21,7 @@ apart_snoc (a ∷ b ∷ rest) x y h le pos = (h.0, (h.1.0, apart_snoc (b ∷ res
 pub apart_more : (done : List Instruction) (last : Option Instruction) (y : Instruction) → AreApart (done ++ option_to_list last) → (is_some last ≡ false → done ≡ [])
     → of_some (is_behind y.address) last ≡ false → 0 < y.length → AreApart ((done ++ option_to_list last) ++ y ∷ [])
 apart_more done None y h empty behind pos = subst (λ (xs : List Instruction). AreApart ((xs ++ []) ++ y ∷ [])) (sym (empty refl)) pos
-apart_more done (Some x) y h empty behind pos = apart_snoc done x y h (lt_false y.address (x.address + x.length) (right_false _ _ behind)) pos
+apart_more done (Some x) y h empty behind pos = apart_snoc done x y h (ltb-false y.address (x.address + x.length) (right_false _ _ behind)) pos
 
 -- another last instruction at the same place
 pub apart_same : (done : List Instruction) (x y : Instruction) → x.address ≡ y.address → x.length ≡ y.length → AreApart (done ++ x ∷ []) → AreApart (done ++ y ∷ [])

@@ -3,6 +3,7 @@ use Rattle.std.proofs.Common.{◌≡◌, ◌∙◌, ◌<◌, ◌≤◌, ◌+◌,
 use Rattle.std.specs.Prelude.{◌==◌, ◌&&◌, ◌||◌, not, Option, Some, None, IfSome}
 use Rattle.std.specs.List.{AllByRecursion, list_any}
 use Rattle.std.specs.Option.{is_none, is_some, option_map, option_to_list}
+use Rattle.std.proofs.lemmas.Bool.{not-false, eqb-true}
 use Rattle.listing_lines.specs.Tokens.{is_name}
 use Rattle.pcode_model.specs.declared.listing.Function.{Function}
 use Rattle.pcode_model.specs.declared.listing.Instruction.{Instruction}
@@ -27,10 +28,10 @@ use Rattle.pcodetext.specs.Meaning.{after, varnode, with_op}
 use Rattle.pcodetext.proofs.FormIs.{IsForm, IsFunctionLine, IsWritten}
 use Rattle.pcodetext.proofs.Formed.{AreDeclared, IsFormed, complete_is, declared_is, fixed_by, function_is, inputs_are, inputs_known, output_is, output_known, proto_is, register_is, spaces_more}
 use Rattle.pcodetext.proofs.Instructions.{apart_more, apart_same, ops_op, total_more, total_op}
-use Rattle.pcodetext.proofs.Passing.{AllFalse, all_false, all_map, all_snoc, eq_true, if_none, le_false, left_false, never, nil_is, not_false, right_false, zero_false}
+use Rattle.pcodetext.proofs.Passing.{AllFalse, all_false, all_map, all_snoc, if_none, le_false, left_false, never, nil_is, right_false, zero_false, some_map}
 
-no_length : (n : ℕ) → not (n == 0) ≡ false → n ≡ 0
-no_length n h = eq_true n 0 (not_false _ h)
+pub no_length : (n : ℕ) → not (n == 0) ≡ false → n ≡ 0
+no_length n h = eqb-true n 0 (not-false _ h)
 
 length_snoc : {A : Type 0} (xs : List A) (y : A) → length (xs ++ y ∷ []) ≡ length xs + 1
 length_snoc [] y = refl
@@ -116,8 +117,8 @@ pcode_kept s n f h =
     }
   where
     is_one : (a b : Bool) → (n == 1) ≡ a → (n == 2) ≡ b → not (a || b) ≡ false → (n ≡ 1) ⊎ (n ≡ 2)
-    is_one true b p q e = inl (eq_true n 1 p)
-    is_one false true p q e = inr (eq_true n 2 q)
+    is_one true b p q e = inl (eqb-true n 1 p)
+    is_one false true p q e = inr (eqb-true n 2 q)
     is_one false false p q e = absurd (never e)
 
     version_is : (v : Option ℕ) → (is_none v && not (n == 1 || n == 2)) ≡ false → is_some v ≡ false → (n ≡ 1) ⊎ (n ≡ 2)
@@ -162,7 +163,7 @@ stack_kept s w f h =
       spaces = f.spaces;
       early = λ z. record { func = e.func; callees = e.callees; fixed = e.fixed; done = e.done; last = e.last };
       complete = f.complete;
-      stack = register_is s.spaces w (not_false _ p.1.1.0) (omega arith) p.1.1.1.1.0;
+      stack = register_is s.spaces w (not-false _ p.1.1.0) (omega arith) p.1.1.1.1.0;
       protos = subst (AllByRecursion (IsProto s.spaces (Some (varnode w)))) (sym (nil_is s.protos none)) tt;
       func = f.func;
       callees = f.callees;
@@ -181,10 +182,6 @@ stack_kept s w f h =
 function_more : (spaces : List Space) (n m : ℕ) → n ≤ m → (g : Function) → IsFunction spaces n g → IsFunction spaces m g
 function_more spaces n m le g h = record { proto = omega (arith, h.proto, le); inside = h.inside }
 
-if_map : {A : Type 0} (P Q : A → Type 0) → ((a : A) → P a → Q a) → (o : Option A) → IfSome o P → IfSome o Q
-if_map P Q g None h = tt
-if_map P Q g (Some a) h = g a h
-
 proto_kept : (s : Said) (l : ProtoLine) → IsFormed s → is_name l.name ≡ true → first_fault (faults s (form.Proto l)) ≡ None → IsFormed (after s (form.Proto l))
 proto_kept s l f named h =
     let p : AllFalse (faults s (form.Proto l)) = all_false (faults s (form.Proto l)) h in
@@ -195,10 +192,10 @@ proto_kept s l f named h =
       version = f.version;
       spaces = f.spaces;
       early = λ z. absurd (some_length s.protos _ z);
-      complete = λ some. complete_is s.spaces (not_false _ (left_false _ _ p.1.0));
+      complete = λ some. complete_is s.spaces (not-false _ (left_false _ _ p.1.0));
       stack = f.stack;
       protos = all_snoc (IsProto s.spaces s.stack) s.protos _ f.protos new;
-      func = if_map (IsFunction s.spaces (length s.protos)) (IsFunction s.spaces (length protos)) (function_more s.spaces _ _ more) s.func f.func;
+      func = some_map (IsFunction s.spaces (length s.protos)) (IsFunction s.spaces (length protos)) (function_more s.spaces _ _ more) s.func f.func;
       callees = all_map (IsFunction s.spaces (length s.protos)) (IsFunction s.spaces (length protos)) (function_more s.spaces _ _ more) s.callees f.callees;
       fixed = f.fixed;
       code = f.code;
@@ -281,7 +278,7 @@ bytes_kept s l f h =
       protos = f.protos;
       func = f.func;
       callees = f.callees;
-      fixed = all_snoc (IsFixed s.spaces) s.fixed _ f.fixed (fixed_by s.spaces l.space l.offset l.bytes p.1.1.1.1.0 (not_false _ p.1.1.1.1.1.0) p.1.1.1.1.1.1.0);
+      fixed = all_snoc (IsFixed s.spaces) s.fixed _ f.fixed (fixed_by s.spaces l.space l.offset l.bytes p.1.1.1.1.0 (not-false _ p.1.1.1.1.1.0) p.1.1.1.1.1.1.0);
       code = f.code;
       first = f.first;
       ops = f.ops;

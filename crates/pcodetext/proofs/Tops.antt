@@ -4,9 +4,11 @@ use Rattle.std.proofs.lemmas.List.{get_or-set_same, get_or-set_other, length-rep
 use Rattle.std.specs.Prelude.{replicate}
 use Rattle.std.specs.Prelude.{◌==◌, ◌&&◌, ◌||◌, nat_lt, nat_le, max, if◌then◌else◌}
 use Rattle.std.proofs.lemmas.Bool.Decides.{nat_tests}
+use Rattle.std.proofs.lemmas.Bool.{ltb-false}
 use Rattle.pcode_model.specs.declared.listing.Fixed.{Fixed}
 use Rattle.pcode_model.specs.Ranges.{meets}
 use Rattle.pcodetext.specs.Tables.{HasTops, end_of, next_of, overlaps, stands_after}
+use Rattle.pcodetext.proofs.Passing.{right_false}
 
 late : (o x n : ℕ) → (nat_le o x || nat_lt o n) ≡ nat_lt o (max (suc x) n)
 late o x n = grind (arith, nat_tests)
@@ -26,13 +28,9 @@ meeting o size x more e rest before = grind (arith, nat_tests)
 true_not_false : true ≡ false → ⊥
 true_not_false h = cc
 
-rest_false : (a b : Bool) → (a || b) ≡ false → b ≡ false
-rest_false true b h = absurd (true_not_false h)
-rest_false false b h = h
-
 pub overlaps_is : (fixed : List Fixed) (space o size : ℕ) → stands_after fixed space o ≡ false → overlaps fixed space o size ≡ nat_lt o (end_of space fixed)
 overlaps_is [] space o size before = grind (arith, nat_tests)
-overlaps_is (f ∷ fixed) space o size before = by_space (f.space == space) before (overlaps_is fixed space o size (rest_false _ _ before))
+overlaps_is (f ∷ fixed) space o size before = by_space (f.space == space) before (overlaps_is fixed space o size (right_false _ _ before))
   where
     by_space : (t : Bool) → ((t && nat_le o f.offset) || stands_after fixed space o) ≡ false → overlaps fixed space o size ≡ nat_lt o (end_of space fixed)
         → ((t && meets o size f.offset (length f.bytes)) || overlaps fixed space o size) ≡ nat_lt o (if t then max (f.offset + length f.bytes) (end_of space fixed) else end_of space fixed)
@@ -71,9 +69,6 @@ put_at table space k v old within is = by_place (space == k) refl
     by_place true e = let same : space ≡ k = eqb-true space k e in subst (λ (j : ℕ). get_or (set table space v) j 0 ≡ v) same (get_or-set_same table space v 0 within)
     by_place false e = let other : k ≢ space = (λ same. true_not_false (sym (eq-eqb space k (sym same)) ∙ e)) in get_or-set_other table space k v 0 other ∙ is
 
-unreached : (o next : ℕ) → nat_lt o next ≡ false → next ≤ o
-unreached o next h = grind (arith, nat_tests)
-
 next_pushed : (nexts : List ℕ) (fixed : List Fixed) (f : Fixed) (k : ℕ) → f.space < length nexts → get_or nexts k 0 ≡ next_of k fixed → next_of f.space fixed ≤ f.offset
     → get_or (set nexts f.space (f.offset + 1)) k 0 ≡ next_of k (fixed ++ f ∷ [])
 next_pushed nexts fixed f k within is low =
@@ -102,7 +97,7 @@ end_kept ends fixed f k is high = is ∙ by_space (f.space == k) refl ∙ sym (e
     by_space false e = refl
 
 low_enough : (fixed : List Fixed) (space o : ℕ) → stands_after fixed space o ≡ false → next_of space fixed ≤ o
-low_enough fixed space o free = unreached o (next_of space fixed) (sym (stands_after_is fixed space o) ∙ free)
+low_enough fixed space o free = ltb-false o (next_of space fixed) (sym (stands_after_is fixed space o) ∙ free)
 
 pub pushed_past : (nexts ends : List ℕ) (fixed : List Fixed) (f : Fixed) → HasTops nexts ends fixed → f.space < 256 → stands_after fixed f.space f.offset ≡ false
     → get_or ends f.space 0 < f.offset + length f.bytes → HasTops (set nexts f.space (f.offset + 1)) (set ends f.space (f.offset + length f.bytes)) (fixed ++ f ∷ [])

@@ -26,10 +26,10 @@ use Rattle.pcodetext.proofs.Instructions.{few_ops}
 use Rattle.pcodetext.proofs.Keeping.{has_protos, kept}
 use Rattle.pcodetext.proofs.Passing.{never, nil_is}
 
-goes_same : (s t : Said) → Goes s ≡ Goes t → s ≡ t
+pub goes_same : (s t : Said) → Goes s ≡ Goes t → s ≡ t
 goes_same s t e = cc
 
-fails_not : (w : Why) (t : Said) → Fails w ≡ Goes t → ⊥
+pub fails_not : (w : Why) (t : Said) → Fails w ≡ Goes t → ⊥
 fails_not w t e = cc
 
 form_kept : (s t : Said) (l : Form) (fault : Option Why) → first_fault (faults s l) ≡ fault → IsFormed s → (first_fault (faults s l) ≡ None → IsFormed (after s l)) → stepped s l fault ≡ Goes t → IsFormed t
@@ -123,10 +123,10 @@ said_is_read s version func ended v g f = record {
   };
 }
 
-good_same : (l m : Listing) → Good l ≡ Good m → l ≡ m
+pub good_same : (l m : Listing) → Good l ≡ Good m → l ≡ m
 good_same l m e = cc
 
-bad_not : (fault : TextFault) (l : Listing) → Bad fault ≡ Good l → ⊥
+pub bad_not : (fault : TextFault) (l : Listing) → Bad fault ≡ Good l → ⊥
 bad_not fault l e = cc
 
 pub is_read : (bytes : List ℕ) (l : Listing) → reading bytes ≡ Good l → IsRead l

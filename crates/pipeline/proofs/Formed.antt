@@ -1,8 +1,9 @@
 -- A listing that was read and whose ops obey their rules has what the laws of the plain lowering ask for.
 use Rattle.std.proofs.Common.{◌≡◌, ◌≤◌, ◌<◌, ◌+◌, ◌^◌, ◌⊎◌, ℕ, zero, suc, Bool, true, false, List, [], ◌∷◌, ◌++◌, Option, Some, None, length, refl, inl, inr, sym, subst, ap, ◌∙◌, arith}
-use Rattle.std.specs.Prelude.{◌&&◌, ◌==◌, if◌then◌else◌, nat_lt, not, slice_get, IfSome}
+use Rattle.std.specs.Prelude.{◌&&◌, ◌==◌, if◌then◌else◌, not, slice_get, IfSome}
 use Rattle.std.specs.List.{AllByRecursion}
 use Rattle.std.proofs.lemmas.Bool.Decides.{nat_tests}
+use Rattle.std.proofs.lemmas.Bool.{not-false, not-true, ltb-false, eqb-true}
 use Rattle.pcode_model.specs.declared.listing.Instruction.{Instruction}
 use Rattle.pcode_model.specs.declared.listing.Listing.{Listing}
 use Rattle.pcode_model.specs.declared.listing.Op.{Op}
@@ -43,26 +44,12 @@ one_in P None h v is = absurd is
 one_in P (Some w) h v (inl e) = subst P (sym e) h
 one_in P (Some w) h v (inr is) = absurd is
 
-true_of : (b : Bool) → not b ≡ false → b ≡ true
-true_of true h = refl
-true_of false h = absurd (cc)
-
-false_of : (b : Bool) → not b ≡ true → b ≡ false
-false_of true h = absurd (cc)
-false_of false h = refl
-
 second : (a b : Bool) → a ≡ true → (a && b) ≡ false → b ≡ false
 second true b e h = h
 second false b e h = absurd (cc)
 
-not_past : (m n : ℕ) → nat_lt m n ≡ false → n ≤ m
-not_past m n h = grind (arith, nat_tests)
-
-same_number : (m n : ℕ) → (m == n) ≡ true → m ≡ n
-same_number m n h = grind (arith, nat_tests)
-
 other_number : (m n : ℕ) → (m ≡ n → ⊥) → not (m == n) ≡ true
-other_number m n h = (elim (m == n) as (λ b. (m == n) ≡ b → not b ≡ true) [ true ↦ λ e. absurd (h (same_number m n e)) | false ↦ λ e. refl ]) refl
+other_number m n h = (elim (m == n) as (λ b. (m == n) ≡ b → not b ≡ true) [ true ↦ λ e. absurd (h (eqb-true m n e)) | false ↦ λ e. refl ]) refl
 
 -- ---- kinds
 
@@ -143,7 +130,7 @@ code_in l (i ∷ code) v is = elim (in_either (ops_ranges l i.ops) (code_ranges 
 -- ---- what the rules say of the ranges of an op
 
 narrow_in : (vs : List Varnode) → any_wide vs ≡ false → (v : Varnode) → IsIn v vs → v.size ≤ 16
-narrow_in vs h v is = not_past 16 v.size (each vs h v is)
+narrow_in vs h v is = ltb-false 16 v.size (each vs h v is)
   where
     each : (vs : List Varnode) → any_wide vs ≡ false → (v : Varnode) → IsIn v vs → is_wide v ≡ false
     each [] h v is = absurd is
@@ -157,7 +144,7 @@ stays_in l (x ∷ vs) h v (inr is) = stays_in l vs (neither _ _ h).1 v is
 
 output_narrow : (out : Option Varnode) → output_wide out ≡ false → (v : Varnode) → IsIn v (one_range out) → v.size ≤ 16
 output_narrow None h v is = absurd is
-output_narrow (Some z) h v (inl e) = let P : Varnode → Type 0 = λ y. y.size ≤ 16 in subst P (sym e) (not_past 16 z.size h)
+output_narrow (Some z) h v (inl e) = let P : Varnode → Type 0 = λ y. y.size ≤ 16 in subst P (sym e) (ltb-false 16 z.size h)
 output_narrow (Some z) h v (inr is) = absurd is
 
 output_stays : (l : Listing) (out : Option Varnode) → output_leaves l out ≡ false → (v : Varnode) → IsIn v (one_range out) → leaves_space l v ≡ false
@@ -176,12 +163,12 @@ by_either true b other h = absurd (cc)
 by_either false b other h = h
 
 ram_of : (l : Listing) (x : Varnode) → not (is_constant x) ≡ true → or (is_constant x) (is_in_first_ram l x) ≡ true → x.space ≡ first_ram l
-ram_of l x names stands = same_number x.space (first_ram l) (by_either (is_constant x) (is_in_first_ram l x) names stands)
+ram_of l x names stands = eqb-true x.space (first_ram l) (by_either (is_constant x) (is_in_first_ram l x) names stands)
 
 destination : (l : Listing) (code : Opcode) (x : Varnode) (vs : List Varnode) → names_address code (x ∷ vs) ≡ true → inputs_stand l code (x ∷ vs) ≡ true → x.space ≡ first_ram l
 destination l O.Branch x vs names stands = ram_of l x names stands
 destination l O.CBranch x vs names stands = ram_of l x names stands
-destination l O.Call x vs names stands = same_number x.space (first_ram l) stands
+destination l O.Call x vs names stands = eqb-true x.space (first_ram l) stands
 destination l (O.Unary op) x vs names stands = absurd (cc)
 destination l (O.Binary op) x vs names stands = absurd (cc)
 destination l (O.Divide op) x vs names stands = absurd (cc)
@@ -214,7 +201,7 @@ module _ (l : Listing) (read : IsRead l) (good : first_bad l ≡ None) where
 
   inside : (v : Varnode) → is_local l v ≡ true → 0 < v.size → v.size ≤ 16 → leaves l.spaces v.space v.offset v.size ≡ false → Inside l v
   inside v local some narrow stays =
-      let within : v.offset + v.size ≤ size_of l v.space = not_past _ _ stays in
+      let within : v.offset + v.size ≤ size_of l v.space = ltb-false _ _ stays in
       let small : size_of l v.space ≤ 2 ^ 64 = low l.spaces read.formed.spaces v.space (no_constant (kind_of l v.space) local) in
       record { some = some; narrow = narrow; low = omega (arith, within, small); inside = within; home = home_of v.space local; local = local }
 
@@ -250,7 +237,7 @@ module _ (l : Listing) (read : IsRead l) (good : first_bad l ≡ None) where
     obeys why is = breaks_none l good i stand.code_has op stand.ops_have why is
 
     spaces : (not (output_is_constant op.out) && inputs_stand l op.code op.inputs) ≡ true
-    spaces = true_of _ (obeys BadSpace (inr (inr (inr (inr (inl refl))))))
+    spaces = not-false _ (obeys BadSpace (inr (inr (inr (inr (inl refl))))))
 
     wide : is_too_wide op ≡ false
     wide = obeys TooWide (inr (inr (inr (inr (inr (inl refl))))))
@@ -274,7 +261,7 @@ module _ (l : Listing) (read : IsRead l) (good : first_bad l ≡ None) where
     output v is =
         let operand = one_in IsOperand op.out formed.out v is in
         let small = one_in (IsKnown l.spaces) op.out known.out v is in
-        record { some = operand.some; variable = λ e. no_output_constant op.out (false_of _ (both _ _ spaces).0) v is (constant_is l.spaces read.formed.spaces v.space small e) }
+        record { some = operand.some; variable = λ e. no_output_constant op.out (not-true _ (both _ _ spaces).0) v is (constant_is l.spaces read.formed.spaces v.space small e) }
 
     input_inside : (v : Varnode) → Local l op.inputs v → Inside l v
     input_inside v h =

@@ -1,5 +1,5 @@
 -- Two lists with the same members, each in a strict order, are one list.
-use Rattle.std.proofs.Common.{◌≡◌, ◌∙◌, List, [], ◌∷◌, inl, inr, refl, sym, subst, arith}
+use Rattle.std.proofs.Common.{◌≡◌, List, [], ◌∷◌, inl, inr, refl, sym, subst, arith}
 use Rattle.pcode_model.specs.declared.atoms.Atom.{Atom}
 use Rattle.pcode_model.specs.declared.listing.Place.{Place}
 use Rattle.pcode_model.specs.declared.storage.ParamStorage.{ParamStorage}
@@ -7,6 +7,7 @@ use Rattle.pcode_model.specs.declared.storage.ParamStorage.TheVariants as P
 use Rattle.pcode_model.specs.Atoms.{InOrder, StandsBefore}
 use Rattle.pcode_model.specs.Flow.{IsBefore, IsIn, Rising}
 use Rattle.plain_laws.proofs.Form.{before_trans}
+use Rattle.flow.proofs.Order.{before_trans, not_before}
 
 -- each member stands before the next one
 abbrev pub Ordered : {A : Type 0} → (A → A → Type 0) → List A → Type 0
@@ -48,23 +49,13 @@ module _ {A : Type 0} (R : A → A → Type 0) (strict : (a : A) → R a a → �
 
 -- ---- places
 
-never_before : (p : Place) → IsBefore p p → ⊥
-never_before p (inl h) = omega (arith, h)
-never_before p (inr h) = omega (arith, h.1)
-
-before_on : (p q r : Place) → IsBefore p q → IsBefore q r → IsBefore p r
-before_on p q r (inl h) (inl g) = inl (omega (arith, h, g))
-before_on p q r (inl h) (inr g) = inl (omega (arith, h, g.0))
-before_on p q r (inr h) (inl g) = inl (omega (arith, h.0, g))
-before_on p q r (inr h) (inr g) = inr (h.0 ∙ g.0, omega (arith, h.1, g.1))
-
 ordered_places : (ps : List Place) → Rising ps → Ordered IsBefore ps
 ordered_places [] h = tt
 ordered_places (p ∷ []) h = tt
 ordered_places (p ∷ q ∷ rest) h = (h.0, ordered_places (q ∷ rest) h.1)
 
 pub same_places : (ps qs : List Place) → Rising ps → Rising qs → ((p : Place) → IsIn p ps → IsIn p qs) → ((p : Place) → IsIn p qs → IsIn p ps) → ps ≡ qs
-same_places ps qs h g there back = same_list IsBefore never_before before_on ps qs (ordered_places ps h) (ordered_places qs g) there back
+same_places ps qs h g there back = same_list IsBefore not_before before_trans ps qs (ordered_places ps h) (ordered_places qs g) there back
 
 -- ---- atoms
 

@@ -1,5 +1,6 @@
 -- No input is both accepted and refused.
 use Rattle.std.proofs.Common.{◌≡◌, ◌∙◌, ℕ, List, [], Some, None, length, ap, sym, subst, arith}
+use Rattle.std.proofs.lemmas.Option.{same_Some, none-some}
 use Rattle.pcode_model.specs.declared.atoms.Atom.{Atom}
 use Rattle.pcode_model.specs.declared.flow.FlowWhy.TheVariants as W
 use Rattle.pcode_model.specs.declared.listing.Listing.{Listing}
@@ -12,7 +13,7 @@ use Rattle.pcode_model.specs.Flow.{AreStarts, IsIn}
 use Rattle.pcode_model.specs.Rules.{first_bad}
 use Rattle.pcodetext.specs.declared.fault.TextFault.{TextFault}
 use Rattle.pcodetext.specs.Meaning.{Good, Bad}
-use Rattle.pcodetext.proofs.Whole.{is_read}
+use Rattle.pcodetext.proofs.Whole.{is_read, good_same}
 use Rattle.flow.specs.declared.answer.FlowFault.TheVariants as F
 use Rattle.stackvars.specs.Accessed as listed
 use Rattle.stackvars.specs.Accessed.{AccessesSoMany, ListsAccessed}
@@ -30,23 +31,17 @@ use Rattle.pipeline.proofs.Ordered.{same_atoms, same_places}
 starts_same : (l : Listing) (ps qs : List Place) → AreStarts l [] ps → AreStarts l [] qs → ps ≡ qs
 starts_same l ps qs a b = same_places ps qs a.rising b.rising (λ p is. (b.each p).1 ((a.each p).0 is)) (λ p is. (a.each p).1 ((b.each p).0 is))
 
-some_same : {A : Type 0} (x y : A) → Some x ≡ Some y → x ≡ y
-some_same x y h = cc
-
-no_none : {A : Type 0} (x : A) → None ≡ Some x → ⊥
-no_none x h = cc
-
 -- one range at two storages is one storage
 storage_same : (l : Listing) → IsFormed l → (s t : ParamStorage) (j k : ℕ) (v : Varnode) → listed.range_at l s j ≡ Some v → listed.range_at l t k ≡ Some v → (s ≡ t) × (j ≡ k)
 storage_same l formed (P.Register o) (P.Register p) j k v e f =
-    let same = some_same _ _ (e ∙ sym f) in (ap P.Register (ap (λ x. x.offset) same), ap (λ x. x.size) same)
+    let same = same_Some _ _ (e ∙ sym f) in (ap P.Register (ap (λ x. x.offset) same), ap (λ x. x.size) same)
 storage_same l formed (P.Unique o) (P.Unique p) j k v e f =
-    let same = some_same _ _ (e ∙ sym f) in (ap P.Unique (ap (λ x. x.offset) same), ap (λ x. x.size) same)
-storage_same l formed (P.Register o) (P.Unique p) j k v e f = absurd (spaces_differ l formed (ap (λ x. x.space) (some_same _ _ (e ∙ sym f))))
-storage_same l formed (P.Unique o) (P.Register p) j k v e f = absurd (spaces_differ l formed (sym (ap (λ x. x.space) (some_same _ _ (e ∙ sym f)))))
-storage_same l formed (P.Stack o) t j k v e f = absurd (no_none v e)
-storage_same l formed (P.Register o) (P.Stack p) j k v e f = absurd (no_none v f)
-storage_same l formed (P.Unique o) (P.Stack p) j k v e f = absurd (no_none v f)
+    let same = same_Some _ _ (e ∙ sym f) in (ap P.Unique (ap (λ x. x.offset) same), ap (λ x. x.size) same)
+storage_same l formed (P.Register o) (P.Unique p) j k v e f = absurd (spaces_differ l formed (ap (λ x. x.space) (same_Some _ _ (e ∙ sym f))))
+storage_same l formed (P.Unique o) (P.Register p) j k v e f = absurd (spaces_differ l formed (sym (ap (λ x. x.space) (same_Some _ _ (e ∙ sym f)))))
+storage_same l formed (P.Stack o) t j k v e f = absurd (none-some v e)
+storage_same l formed (P.Register o) (P.Stack p) j k v e f = absurd (none-some v f)
+storage_same l formed (P.Unique o) (P.Stack p) j k v e f = absurd (none-some v f)
 
 atom_same : (a b : Atom) → a.storage ≡ b.storage → a.size ≡ b.size → a ≡ b
 atom_same a b e f =
@@ -66,9 +61,6 @@ atoms_same l formed m n (xs, x) (ys, y) =
     sym x.1 ∙ ap length (same_atoms xs ys x.0.in_order y.0.in_order (also_in l formed xs ys x.0 y.0) (also_in l formed ys xs y.0 x.0)) ∙ y.1
 
 -- ---- verdicts
-
-good_same : (l m : Listing) → Good l ≡ Good m → l ≡ m
-good_same l m e = cc
 
 good_not_bad : (l : Listing) (fault : TextFault) → Good l ≡ Bad fault → ⊥
 good_not_bad l fault e = cc

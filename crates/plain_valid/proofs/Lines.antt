@@ -18,7 +18,8 @@ use Rattle.blockcode.specs.declared.code.Block.{Block}
 use Rattle.blockcode.specs.declared.code.Code.{Code}
 use Rattle.blockcode.specs.Laid.{is_named, flags_from, numbered as label_list, labels_of, label_at, label_line, goto_line, goto, exit_lines, laid_from, laid_body, locals_of, laid_out}
 use Rattle.plain_valid.proofs.Shapes.{AllBelow, below_append}
-use Rattle.plain_valid.proofs.Statements.{AllObey, obey_append, obey_all, return_obeys, label_obeys, goto_obeys, if_none_obeys, if_goto_obeys, body_append, in_return, in_label, in_goto, in_if, still, at_label, label_met, AreQuiet, quiet_none, quiet_append, quiet_one}
+use Rattle.plain_valid.proofs.Statements.{AllObey, obey_append, obey_all, return_obeys, label_obeys, goto_obeys, if_none_obeys, if_goto_obeys, in_return, in_label, in_goto, in_if, still, at_label, label_met, AreQuiet, quiet_none, quiet_append, quiet_one}
+use Rattle.layout_laws.proofs.Valid.{in_append}
 
 -- ---- labels
 
@@ -110,7 +111,7 @@ laid_obeys f labels list n (x ∷ xs) few stands h =
 
 numbered_quiet : (n : Next) (xs ys : List Stmt) → AllBelow n.variable (in_body xs) → numbered [] (in_body (xs ++ ys)) (Some n) ≡ numbered [] (in_body ys) (Some n)
 numbered_quiet n xs ys h =
-    ap (λ ms. numbered [] ms (Some n)) (body_append xs ys)
+    ap (λ ms. numbered [] ms (Some n)) (in_append xs ys)
     ∙ numbered_append [] (in_body xs) (in_body ys) (Some n)
     ∙ ap (numbered [] (in_body ys)) (still n (in_body xs) h)
 

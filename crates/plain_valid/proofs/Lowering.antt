@@ -34,6 +34,7 @@ use Rattle.plaincode.proofs.Nodes.{nearest_is}
 use Rattle.plain_valid.proofs.Shapes.{AllBelow, Fits, variable_fits, constant_fits, unary_fits, binary_fits}
 use Rattle.plain_valid.proofs.Statements.{AreQuiet, quiet_none, quiet_append, quiet_one, assign_obeys, in_assign}
 use Rattle.plain_valid.proofs.Lines.{ExitSuits, BlocksSuit}
+use Rattle.plaincode.proofs.Operands.{output_in}
 
 -- a range's variable is a parameter of its width
 pub record IsParameter (f : CFunction) (ranges : List Varnode) (v : Varnode) : Type 0 where
@@ -60,12 +61,6 @@ operand_by_fits l ranges f set Unique v narrow h = range_fits l ranges f set v n
 
 operand_fits : (l : Listing) (ranges : List Varnode) (f : CFunction) → Setting l ranges f → (v : Varnode) → IsOperand l ranges v → Fits (widths_in f) (length f.params) (operand l ranges v) v.size 1
 operand_fits l ranges f set v h = operand_by_fits l ranges f set (kind_of l v.space) v h.0 h.1
-
-output_in : (k : SpaceKind) (ranges : List Varnode) (z : Varnode) → IsOutputBy k ranges z → IsIn z ranges
-output_in Constant ranges z h = absurd h
-output_in Ram ranges z h = absurd h
-output_in Register ranges z h = h
-output_in Unique ranges z h = h
 
 output_operand : (k : SpaceKind) (ranges : List Varnode) (z : Varnode) → IsOutputBy k ranges z → IsOperandBy k ranges z
 output_operand Constant ranges z h = absurd h

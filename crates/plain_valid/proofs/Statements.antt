@@ -1,5 +1,5 @@
 -- Statements that obey their rules, and what they leave of the numbers.
-use Rattle.std.proofs.Common.{◌≡◌, ℕ, suc, ◌<◌, ◌^◌, Bool, true, false, List, [], ◌∷◌, ◌++◌, length, map, Option, Some, None, refl, sym, ap, ◌∙◌, subst, arith, append_assoc}
+use Rattle.std.proofs.Common.{◌≡◌, ℕ, suc, ◌<◌, ◌^◌, Bool, true, false, List, [], ◌∷◌, ◌++◌, length, map, Option, Some, None, refl, sym, ap, ◌∙◌, subst, arith}
 use Rattle.std.specs.Prelude.{◌==◌, ◌&&◌, nat_lt, cond}
 use Rattle.std.proofs.lemmas.Bool.Decides.{nat_tests}
 use Rattle.cmeaning.specs.declared.numbering.Next.{Next}
@@ -12,14 +12,11 @@ use Rattle.cmeaning.specs.declared.tree.Stmt.TheVariants as S
 use Rattle.cmeaning.specs.Do.{widths_in}
 use Rattle.cmeaning.specs.Shape.{shape_of, is_condition}
 use Rattle.cmeaning.specs.Mentions.{Mention, Variable, Callee, LabelLine, in_expr, in_option, in_stmt, in_arm, in_body, stmt_step, arm_step, met, with_variable, with_label, mentioned, numbered}
-use Rattle.cmeaning.specs.Valid.{Rule, Cased, all_hold, rule_step, cased_step, rule_of, cased_of, is_assigned, is_returned}
+use Rattle.cmeaning.specs.Valid.{all_hold, rule_of, is_assigned, is_returned}
 use Rattle.plain_valid.proofs.Shapes.{AllBelow, below_append}
+use Rattle.layout_laws.proofs.Valid.{rule_roll, in_append}
 
 -- ---- rules
-
-rule_layer : (f : CFunction) (labels : ℕ) (s : Stmt) (y : Stmt-F Stmt Arm) → roll-Stmt y ≡ s → rule_of f labels s ≡ rule_step f labels (map-Stmt Stmt Arm Rule Cased (rule_of f labels) (cased_of f labels) y)
-unfolding rule_of cased_of
-rule_layer f labels s y is = ap (rule_of f labels) (sym is) ∙ fold-roll-Stmt Rule Cased (rule_step f labels) cased_step y
 
 -- as a statement of a body, behind any other one
 abbrev pub Obeys : CFunction → ℕ → Stmt → Type 0
@@ -40,24 +37,24 @@ obey_all f labels (s ∷ ss) after h =
     ∙ obey_all f labels ss (rule_of f labels s).calls h.1
 
 pub assign_obeys : (f : CFunction) (labels v : ℕ) (e : Expr) → is_assigned (widths_in f) v (shape_of (widths_in f) e) ≡ true → Obeys f labels (S.Assign v e)
-assign_obeys f labels v e is after = ap (λ r. r.holds after false 255) (rule_layer f labels (S.Assign v e) (Stmt-F.Assign v e) (S.rolls-Assign v e)) ∙ is
+assign_obeys f labels v e is after = ap (λ r. r.holds after false 255) (rule_roll f labels (S.Assign v e) (Stmt-F.Assign v e) (S.rolls-Assign v e)) ∙ is
 
 pub return_obeys : (f : CFunction) (labels : ℕ) (e : Option Expr) → is_returned (widths_in f) f.gives e ≡ true → Obeys f labels (S.Return e)
-return_obeys f labels e is after = ap (λ r. r.holds after false 255) (rule_layer f labels (S.Return e) (Stmt-F.Return e) (S.rolls-Return e)) ∙ is
+return_obeys f labels e is after = ap (λ r. r.holds after false 255) (rule_roll f labels (S.Return e) (Stmt-F.Return e) (S.rolls-Return e)) ∙ is
 
 pub label_obeys : (f : CFunction) (labels n : ℕ) → n < 2 ^ 32 → Obeys f labels (S.Label n)
-label_obeys f labels n few after = ap (λ r. r.holds after false 255) (rule_layer f labels (S.Label n) (Stmt-F.Label n) (S.rolls-Label n)) ∙ grind (arith, nat_tests)
+label_obeys f labels n few after = ap (λ r. r.holds after false 255) (rule_roll f labels (S.Label n) (Stmt-F.Label n) (S.rolls-Label n)) ∙ grind (arith, nat_tests)
 
 goto_holds : (f : CFunction) (labels n : ℕ) → 0 < n → n < labels → (after : Bool) (room : ℕ) → (rule_of f labels (S.Goto n)).holds after false room ≡ true
 goto_holds f labels n from to after room =
     let t : (nat_lt 0 n && nat_lt n labels) ≡ true = grind (arith, nat_tests) in
-    ap (λ r. r.holds after false room) (rule_layer f labels (S.Goto n) (Stmt-F.Goto n) (S.rolls-Goto n)) ∙ t
+    ap (λ r. r.holds after false room) (rule_roll f labels (S.Goto n) (Stmt-F.Goto n) (S.rolls-Goto n)) ∙ t
 
 pub goto_obeys : (f : CFunction) (labels n : ℕ) → 0 < n → n < labels → Obeys f labels (S.Goto n)
 goto_obeys f labels n from to after = goto_holds f labels n from to after 255
 
 if_is : (f : CFunction) (labels : ℕ) (c : Expr) (body : List Stmt) (after : Bool) (room : ℕ) → (rule_of f labels (S.If c body)).holds after false room ≡ (is_condition (shape_of (widths_in f) c) && all_hold false (map (rule_of f labels) body) false room)
-if_is f labels c body after room = ap (λ r. r.holds after false room) (rule_layer f labels (S.If c body) (Stmt-F.If c body) (S.rolls-If c body))
+if_is f labels c body after room = ap (λ r. r.holds after false room) (rule_roll f labels (S.If c body) (Stmt-F.If c body) (S.rolls-If c body))
 
 pub if_none_obeys : (f : CFunction) (labels : ℕ) (c : Expr) → is_condition (shape_of (widths_in f) c) ≡ true → Obeys f labels (S.If c [])
 if_none_obeys f labels c is after = if_is f labels c [] after 255 ∙ ap (λ b. b && true) is
@@ -73,10 +70,6 @@ if_goto_obeys f labels c n is from to after =
 mentions_layer : (s : Stmt) (y : Stmt-F Stmt Arm) → roll-Stmt y ≡ s → in_stmt s ≡ stmt_step (map-Stmt Stmt Arm (List Mention) (List Mention) in_stmt in_arm y)
 unfolding in_stmt in_arm
 mentions_layer s y is = ap in_stmt (sym is) ∙ fold-roll-Stmt (List Mention) (List Mention) stmt_step arm_step y
-
-pub body_append : (xs ys : List Stmt) → in_body (xs ++ ys) ≡ in_body xs ++ in_body ys
-body_append [] ys = refl
-body_append (x ∷ xs) ys = ap (λ ms. in_stmt x ++ ms) (body_append xs ys) ∙ sym (append_assoc (in_stmt x) (in_body xs) (in_body ys))
 
 pub in_assign : (v : ℕ) (e : Expr) → in_stmt (S.Assign v e) ≡ Variable v ∷ in_expr e
 in_assign v e = mentions_layer (S.Assign v e) (Stmt-F.Assign v e) (S.rolls-Assign v e)
@@ -129,7 +122,7 @@ quiet_none f labels = record { obey = tt; mentions = tt }
 pub quiet_append : (f : CFunction) (labels : ℕ) (xs ys : List Stmt) → AreQuiet f labels xs → AreQuiet f labels ys → AreQuiet f labels (xs ++ ys)
 quiet_append f labels xs ys h g = record {
   obey = obey_append f labels xs ys h.obey g.obey;
-  mentions = subst (AllBelow (length f.params)) (sym (body_append xs ys)) (below_append (length f.params) (in_body xs) (in_body ys) h.mentions g.mentions);
+  mentions = subst (AllBelow (length f.params)) (sym (in_append xs ys)) (below_append (length f.params) (in_body xs) (in_body ys) h.mentions g.mentions);
 }
 
 pub quiet_one : (f : CFunction) (labels : ℕ) (s : Stmt) (xs : List Mention) → Obeys f labels s → in_stmt s ≡ xs → AllBelow (length f.params) xs → AreQuiet f labels (s ∷ [])

@@ -18,7 +18,7 @@ use Rattle.cmeaning.specs.Do.{variable_width}
 use Rattle.cmeaning.specs.Valid.{is_name, is_storage, is_before, precedes_all, are_params, IsValid}
 use Rattle.blockcode.specs.Laid.{params_of, locals_of}
 use Rattle.plaincode.specs.Nodes.{width_by}
-use Rattle.plaincode.specs.Lowered.{range_at, range_of, ranges_of, variable_of, variable_for, lowered, result_width, plain_function}
+use Rattle.plaincode.specs.Lowered.{range_of, ranges_of, variable_of, variable_for, lowered, result_width, plain_function}
 use Rattle.plaincode.specs.Form.{AreNarrow, IsPlainForm}
 use Rattle.plaincode.proofs.Nodes.{nearest_is}
 use Rattle.plaincode.proofs.Operands.{found}
@@ -26,6 +26,7 @@ use Rattle.plaincode.proofs.Laying.{map_length}
 use Rattle.plain_valid.specs.Long.{IsLong, AreLong}
 use Rattle.plain_valid.proofs.Lines.{laid_valid}
 use Rattle.plain_valid.proofs.Lowering.{Setting, blocks_suit}
+use Rattle.plaincode.proofs.Agrees.{range_size}
 
 -- ---- parameters
 
@@ -99,11 +100,6 @@ params_right (a ∷ atoms) long order =
     ∙ params_right atoms long.1 (rest_in_order a atoms order)
 
 -- ---- their widths
-
-range_size : (l : Listing) (s : ParamStorage) (k : ℕ) → (range_at l s k).size ≡ k
-range_size l (P.Register o) k = refl
-range_size l (P.Unique o) k = refl
-range_size l (P.Stack o) k = refl
 
 width_at : (l : Listing) (atoms : List Atom) (n : ℕ) (v : Varnode) (o : Option tree.Local) → AreNarrow atoms → slice_get (ranges_of l atoms) n ≡ Some v → variable_width (slice_get (params atoms) n) o ≡ v.size
 width_at l [] n v o all e = absurd (cc)

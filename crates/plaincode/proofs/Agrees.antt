@@ -51,7 +51,7 @@ atom_at l (a ∷ atoms) (suc n) v all e = let r = atom_at l atoms n v all.1 e in
 variable_get : (atoms : List Atom) (n : ℕ) (a : Atom) → slice_get atoms n ≡ Some a → slice_get (map variable_for atoms) n ≡ Some (variable_for a)
 variable_get atoms n a e = slice_get-map variable_for atoms n ∙ ap (option_map variable_for) e
 
-range_size : (l : Listing) (s : ParamStorage) (k : ℕ) → (range_at l s k).size ≡ k
+pub range_size : (l : Listing) (s : ParamStorage) (k : ℕ) → (range_at l s k).size ≡ k
 range_size l (P.Register o) k = refl
 range_size l (P.Unique o) k = refl
 range_size l (P.Stack o) k = refl

@@ -109,7 +109,7 @@ writes_by m l ranges Unique z n s h = refl
 pub writing : {M : Type 0} (m : Acts M) (l : Listing) (ranges : List Varnode) (z : Varnode) (n : ℕ) (s : State M) → IsOutput l ranges z → write_varnode m l (kind_of l z.space) z n s ≡ written l z n s
 writing m l ranges z n s h = writes_by m l ranges (kind_of l z.space) z n s h.1
 
-output_in : (k : SpaceKind) (ranges : List Varnode) (z : Varnode) → IsOutputBy k ranges z → IsIn z ranges
+pub output_in : (k : SpaceKind) (ranges : List Varnode) (z : Varnode) → IsOutputBy k ranges z → IsIn z ranges
 output_in Constant ranges z h = absurd h
 output_in Ram ranges z h = absurd h
 output_in Register ranges z h = h

@@ -1,7 +1,8 @@
 -- In a valid function that fits its listing, each step may be carried out.
-use Rattle.std.proofs.Common.{◌≡◌, ℕ, suc, ◌+◌, ◌-◌, ◌&&◌, Bool, true, false, List, [], ◌∷◌, ◌++◌, map, refl, sym, ap, ◌∙◌, subst}
+use Rattle.std.proofs.Common.{◌≡◌, ℕ, suc, ◌+◌, ◌-◌, ◌&&◌, Bool, true, false, List, [], ◌∷◌, ◌++◌, map, sym, ap, ◌∙◌, subst}
 use Rattle.std.specs.Prelude.{nat_lt, if◌then◌else◌}
 use Rattle.std.specs.List.{AllByRecursion}
+use Rattle.std.proofs.lemmas.List.{map-id}
 use Rattle.pcode_model.specs.declared.listing.Listing.{Listing}
 use Rattle.pcode_model.specs.Spaces.{register_space}
 use Rattle.pcode_model.specs.WellFormed.{IsWellFormed}
@@ -200,12 +201,8 @@ stmt_sound l f labels formed t = ind-Stmt (StmtSound l f labels) (ArmSound l f l
     (λ y z is. subst (λ (x : Stmt-F Stmt Arm). StmtSound l f labels (roll-Stmt x)) is (stmt_rolled l f labels formed (λ p. p.0) (λ p. p.0) (λ p. p.1) (λ p. p.1) z))
     (λ y z is. subst (λ (x : Arm-F Stmt Arm). ArmSound l f labels (roll-Arm x)) is (arm_rolled l f labels (λ p. p.0) (λ p. p.0) (λ p. p.1) z)) t
 
-map_same : {A : Type 0} (xs : List A) → map (λ x. x) xs ≡ xs
-map_same [] = refl
-map_same (x ∷ xs) = ap (λ (ys : List _). x ∷ ys) (map_same xs)
-
 all_sound : (l : Listing) (f : CFunction) (labels : ℕ) → IsWellFormed l → (xs : List Stmt) → BodySound l f labels xs
-all_sound l f labels formed xs = subst (BodySound l f labels) (map_same xs) (body_sound l f labels (λ x. x) (stmt_sound l f labels formed) xs)
+all_sound l f labels formed xs = subst (BodySound l f labels) (map-id xs) (body_sound l f labels (λ x. x) (stmt_sound l f labels formed) xs)
 
 flat_sound : (l : Listing) (f : CFunction) → IsWellFormed l → IsValid f → Fits l f → AllSound l f (flat_of f)
 unfolding flat_of

@@ -1,7 +1,7 @@
 -- What the rules of a valid tree say of expressions and variables.
-use Rattle.std.proofs.Common.{◌≡◌, ℕ, ◌<◌, ◌&&◌, ◌^◌, Bool, true, List, [], ◌∷◌, Option, Some, None, refl}
+use Rattle.std.proofs.Common.{◌≡◌, ℕ, ◌<◌, ◌^◌, true, List, [], ◌∷◌, Option, Some, None, refl}
 use Rattle.std.specs.Prelude.{nat_lt, ◌==◌}
-use Rattle.std.proofs.lemmas.Bool.{ltb-true}
+use Rattle.std.proofs.lemmas.Bool.{ltb-true, and_from}
 use Rattle.bits_core.specs.declared.word.Width.{Width}
 use Rattle.cmeaning.specs.declared.shape.Shape.{Shape}
 use Rattle.cmeaning.specs.declared.tree.CalleeDecl.{CalleeDecl}
@@ -35,15 +35,12 @@ takes_there ws None gives h = tt
 takes_there ws (Some v) None h = absurd cc
 takes_there ws (Some v) (Some w) h = there ws v (both (is_variable ws v) (ws v == w.bytes) h).0
 
-and_true : (a b : Bool) → a ≡ true → b ≡ true → a && b ≡ true
-and_true a b p q = rw (p, q) refl
-
 widths_right : (ws : ℕ → ℕ) (es : List Expr) (ns : List Width) → have_widths ws es ns ≡ true → are_right ws es ≡ true
 widths_right ws [] ns h = refl
 widths_right ws (e ∷ es) [] h = absurd cc
 widths_right ws (e ∷ es) (w ∷ ns) h =
     let two = both (has_width w.bytes (shape_of ws e)) (have_widths ws es ns) h in
-    and_true (is_right (shape_of ws e)) (are_right ws es) (right_width w.bytes (shape_of ws e) two.0) (widths_right ws es ns two.1)
+    and_from (is_right (shape_of ws e)) (are_right ws es) (right_width w.bytes (shape_of ws e) two.0) (widths_right ws es ns two.1)
 
 pub call_right : (ws : ℕ → ℕ) (v : Option ℕ) (args : List Expr) (c : Option CalleeDecl) → is_call ws v args c ≡ true → IsTarget ws v × AreRight ws args
 call_right ws v args None h = absurd cc

@@ -1,7 +1,7 @@
 -- The values of arguments, one after another.
 use Rattle.std.proofs.Common.{◌≡◌, ℕ, ◌+◌, ◌<◌, ◌&&◌, Bool, true, false, List, [], ◌∷◌, ◌++◌, length, get_or, drop, map, Option, Some, None, refl, sym, ap, ◌∙◌, append_assoc}
 use Rattle.std.proofs.Math.Path.{fun_ext}
-use Rattle.std.proofs.lemmas.List.{append-nil, drop_more, map-append}
+use Rattle.std.proofs.lemmas.List.{append-nil, map-append}
 use Rattle.bits_core.specs.declared.word.Word.{Word}
 use Rattle.cmeaning.specs.declared.tree.Expr.{Expr}
 use Rattle.cmeaning.specs.Do.{Local, ends, with_word, with_words, values_of}
@@ -12,13 +12,11 @@ use Rattle.machine.specs.Trace.{Undefined}
 use Rattle.cvalue.specs.Held.{number_in}
 use Rattle.worlds.specs.Meaning.{value_of as number_of}
 use Rattle.runc.specs.States.{all_of, before, numbers_in}
+use Rattle.worlds.proofs.Effects.{rest_at}
 
 abbrev pub prefixed : List ℕ → Option (List ℕ) → Option (List ℕ)
 prefixed xs None = None
 prefixed xs (Some ys) = Some (xs ++ ys)
-
-front : {A : Type 0} (xs : List A) (i : ℕ) (x : A) → i < length xs → x ≡ get_or xs i x → drop i xs ≡ x ∷ drop (i + 1) xs
-front xs i x within is = drop_more xs i x within ∙ ap (λ y. y ∷ drop (i + 1) xs) (sym is)
 
 first_true : (a b : Bool) → a && b ≡ true → a ≡ true
 first_true true b h = refl
@@ -29,7 +27,7 @@ second_true true b h = h
 second_true false b h = cc
 
 right_split : (ws : ℕ → ℕ) (es : List Expr) (i : ℕ) (e : Expr) → i < length es → e ≡ get_or es i e → are_right ws (drop i es) ≡ true → is_right (shape_of ws e) && are_right ws (drop (i + 1) es) ≡ true
-right_split ws es i e within is h = sym (ap (are_right ws) (front es i e within is)) ∙ h
+right_split ws es i e within is h = sym (ap (are_right ws) (rest_at es i e within is)) ∙ h
 
 pub right_first : (ws : ℕ → ℕ) (es : List Expr) (i : ℕ) (e : Expr) → i < length es → e ≡ get_or es i e → are_right ws (drop i es) ≡ true → is_right (shape_of ws e) ≡ true
 right_first ws es i e within is h = first_true (is_right (shape_of ws e)) (are_right ws (drop (i + 1) es)) (right_split ws es i e within is h)
@@ -38,7 +36,7 @@ pub right_rest : (ws : ℕ → ℕ) (es : List Expr) (i : ℕ) (e : Expr) → i 
 right_rest ws es i e within is h = second_true (is_right (shape_of ws e)) (are_right ws (drop (i + 1) es)) (right_split ws es i e within is h)
 
 values_split : (ws : ℕ → ℕ) (env : ℕ → Option ℕ) (es : List Expr) (i : ℕ) (e : Expr) → i < length es → e ≡ get_or es i e → all_of (values_of ws env (drop i es)) ≡ before (value_of ws env e) (all_of (values_of ws env (drop (i + 1) es)))
-values_split ws env es i e within is = ap (λ xs. all_of (values_of ws env xs)) (front es i e within is)
+values_split ws env es i e within is = ap (λ xs. all_of (values_of ws env xs)) (rest_at es i e within is)
 
 pub value_lacks : (ws : ℕ → ℕ) (env : ℕ → Option ℕ) (es : List Expr) (i : ℕ) (e : Expr) (xs : List ℕ) (o : Option Word) (all : Option (List ℕ)) → i < length es → e ≡ get_or es i e → o ≡ None → number_in o ≡ value_of ws env e
     → all ≡ prefixed xs (all_of (values_of ws env (drop i es))) → None ≡ all

@@ -1,11 +1,12 @@
 -- Ranges in rising order are pairwise equal or apart exactly where each may follow the one before it.
 use Rattle.std.proofs.Common.{◌≡◌, ◌⊎◌, ◌∙◌, ◌≤◌, ◌<◌, ◌+◌, ◌*◌, ◌^◌, ℕ, Bool, true, false, List, [], ◌∷◌, refl, sym, ap, subst, inl, inr, arith}
-use Rattle.std.specs.Prelude.{◌==◌, ◌&&◌, ◌||◌, nat_le}
+use Rattle.std.specs.Prelude.{◌==◌, ◌||◌, nat_le}
 use Rattle.std.specs.List.{All, AllByRecursion}
 use Rattle.std.specs.List.Sorted.{IsNonDecreasingBy, IsPermutation}
 use Rattle.std.proofs.lemmas.List.Elements.{All-from_recursion, recursion_from_All}
 use Rattle.std.proofs.lemmas.List.Sorted.{All-permutation, IsNonDecreasingBy-drop, IsPermutation-sym}
 use Rattle.std.proofs.lemmas.Bool.Decides.{nat_tests}
+use Rattle.std.proofs.lemmas.Bool.{and_parts, eqb-true, and_from}
 use Rattle.pcode_model.specs.declared.listing.Varnode.{Varnode}
 use Rattle.pcode_model.specs.Flow.{IsIn}
 use Rattle.supported.specs.Ranges.{AllInSpace, AreApart, EqualOrApart, begin_of, end_of, is_chain, may_follow, same}
@@ -13,28 +14,21 @@ use Rattle.supported.specs.Ranges.{AllInSpace, AreApart, EqualOrApart, begin_of,
 abbrev IsFollowed : Varnode → Varnode → Type 0
 IsFollowed a b = (a ≡ b) ⊎ (end_of a ≤ begin_of b)
 
-both : (a b : Bool) → (a && b) ≡ true → (a ≡ true) × (b ≡ true)
-both true b h = (refl, h)
-both false b h = absurd (cc)
-
 either : (a b : Bool) → (a || b) ≡ true → (a ≡ true) ⊎ (b ≡ true)
 either true b h = inl refl
 either false b h = inr h
-
-equal : (m n : ℕ) → (m == n) ≡ true → m ≡ n
-equal m n h = grind (arith, nat_tests)
 
 within : (m n : ℕ) → nat_le m n ≡ true → m ≤ n
 within m n h = grind (arith, nat_tests)
 
 same_is : (a b : Varnode) → same a b ≡ true → a ≡ b
 same_is a b h =
-    let p = both _ _ h in
-    let q = both _ _ p.1 in
+    let p = and_parts _ _ h in
+    let q = and_parts _ _ p.1 in
     let f : ℕ → Varnode = λ x. record { space = x; offset = a.offset; size = a.size } in
     let g : ℕ → Varnode = λ x. record { space = b.space; offset = x; size = a.size } in
     let k : ℕ → Varnode = λ x. record { space = b.space; offset = b.offset; size = x } in
-    ap f (equal _ _ p.0) ∙ (ap g (equal _ _ q.0) ∙ ap k (equal _ _ q.1))
+    ap f (eqb-true _ _ p.0) ∙ (ap g (eqb-true _ _ q.0) ∙ ap k (eqb-true _ _ q.1))
 
 followed : (a b : Varnode) → may_follow a b ≡ true → IsFollowed a b
 followed a b h = elim (either _ _ h) [ inl s ↦ inl (same_is a b s) | inr l ↦ inr (within _ _ l) ]
@@ -48,12 +42,12 @@ onward a b c (inr p) (inr q) = inr (omega arith)
 -- the first of a chain is followed by each other range
 first_followed : (a : Varnode) (vs : List Varnode) → is_chain (a ∷ vs) ≡ true → (b : Varnode) → IsIn b vs → IsFollowed a b
 first_followed a [] h b is = absurd is
-first_followed a (c ∷ rest) h b (inl e) = subst (λ (x : Varnode). IsFollowed a x) (sym e) (followed a c (both _ _ h).0)
-first_followed a (c ∷ rest) h b (inr is) = onward a c b (followed a c (both _ _ h).0) (first_followed c rest (both _ _ h).1 b is)
+first_followed a (c ∷ rest) h b (inl e) = subst (λ (x : Varnode). IsFollowed a x) (sym e) (followed a c (and_parts _ _ h).0)
+first_followed a (c ∷ rest) h b (inr is) = onward a c b (followed a c (and_parts _ _ h).0) (first_followed c rest (and_parts _ _ h).1 b is)
 
 tail_chain : (a : Varnode) (vs : List Varnode) → is_chain (a ∷ vs) ≡ true → is_chain vs ≡ true
 tail_chain a [] h = refl
-tail_chain a (c ∷ rest) h = (both _ _ h).1
+tail_chain a (c ∷ rest) h = (and_parts _ _ h).1
 
 spaces : (a b : Varnode) → end_of a ≤ begin_of b → AreApart a b
 spaces a b h e = let s : a.space * 2 ^ 97 ≡ b.space * 2 ^ 97 = ap (λ x. x * 2 ^ 97) e in inl (omega (arith, s, h))
@@ -94,7 +88,7 @@ past : (s t o k p : ℕ) → (s ≡ t → ⊥) → o + k ≤ 2 ^ 64 → s * 2 ^ 
 past s t o k p ne h le pp = grind arith
 
 eq_or_not : (m n : ℕ) → (m ≡ n) ⊎ (m ≡ n → ⊥)
-eq_or_not m n = (elim (m == n) as (λ b. (m == n) ≡ b → (m ≡ n) ⊎ (m ≡ n → ⊥)) [ true ↦ λ h. inl (equal m n h) | false ↦ λ h. inr (λ e. absurd (grind (arith, nat_tests))) ]) refl
+eq_or_not m n = (elim (m == n) as (λ b. (m == n) ≡ b → (m ≡ n) ⊎ (m ≡ n → ⊥)) [ true ↦ λ h. inl (eqb-true m n h) | false ↦ λ h. inr (λ e. absurd (grind (arith, nat_tests))) ]) refl
 
 before : (a b : Varnode) → 0 < b.size → begin_of a ≤ begin_of b → a.space ≡ b.space → (a.offset + a.size ≤ b.offset) ⊎ (b.offset + b.size ≤ a.offset) → end_of a ≤ begin_of b
 before a b some le e (inl p) = let s : a.space * 2 ^ 97 ≡ b.space * 2 ^ 97 = ap (λ x. x * 2 ^ 97) e in omega (arith, s, p)
@@ -111,10 +105,6 @@ may_follow_true : (a b : Varnode) → IsFollowed a b → may_follow a b ≡ true
 may_follow_true a b (inl e) = either_true (same a b) (nat_le (end_of a) (begin_of b)) (inl (subst (λ (x : Varnode). same a x ≡ true) e (same_refl a)))
 may_follow_true a b (inr h) = either_true (same a b) (nat_le (end_of a) (begin_of b)) (inr (is_within _ _ h))
 
-both_true : (a b : Bool) → a ≡ true → b ≡ true → (a && b) ≡ true
-both_true true b p q = q
-both_true false b p q = absurd (cc)
-
 chain_step : (a b : Varnode) → 0 < b.size → a.offset + a.size ≤ 2 ^ 64 → b.offset + b.size ≤ 2 ^ 64 → begin_of a ≤ begin_of b → (a ≡ b) ⊎ AreApart a b → may_follow a b ≡ true
 chain_step a b some ta tb le (inl e) = may_follow_true a b (inl e)
 chain_step a b some ta tb le (inr h) = may_follow_true a b (inr (in_order a b some ta tb le h))
@@ -129,7 +119,7 @@ pub chain_from_apart : (vs : List Varnode) → AllInSpace vs → IsNonDecreasing
 chain_from_apart [] fit up h = refl
 chain_from_apart (a ∷ []) fit up h = refl
 chain_from_apart (a ∷ b ∷ rest) fit up h =
-    both_true _ _
+    and_from _ _
     (chain_step a b fit.1.0.0 fit.0.1 fit.1.0.1 (sorted_head a b rest up) (h a b (inl refl) (inr (inl refl))))
     (chain_from_apart (b ∷ rest) fit.1 (sorted_tail a (b ∷ rest) up) (λ x y p q. h x y (inr p) (inr q)))
 
