@@ -15,7 +15,7 @@ use Rattle.pcode_model.specs.Places.{place, instruction_at, standing, next_place
 use Rattle.pcode_model.specs.Flow.{IsIn, IsBefore, AreApart, Way, Leads, Fails, stands, way_to, relative_way, branch_way, turn_ways, turn_at, next_in, LeadsTo, Reached, First, Next, BeginsBlock, Entry, Led, is_branch}
 use Rattle.flow.specs.Slots.{at, ArePlaces, slots, slots_of}
 use Rattle.flow.proofs.Order.{at_before, at_in, not_before, before_once}
-use Rattle.flow.proofs.Apart.{found_in, apart_in}
+use Rattle.instructions.proofs.Apart.{found_in, apart_in}
 use Rattle.flow.proofs.Listed.{owner_of}
 use Rattle.flow.proofs.Meaning.{ways_by, next_here, next_inside, next_outside}
 

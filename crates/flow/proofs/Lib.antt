@@ -1,5 +1,4 @@
 pub mod Order
-pub mod Apart
 pub mod Listed
 pub mod Callees
 pub mod Relative
@@ -12,4 +11,3 @@ pub mod Adjacent
 pub mod Exits
 pub mod Scanning
 pub mod Entering
-pub mod Fixing

@@ -11,7 +11,7 @@ use Rattle.pcode_model.specs.Places.{place, instruction_in, instruction_at, stan
 use Rattle.pcode_model.specs.Flow.{IsIn, Rising, AreApart, stands, stands_by}
 use Rattle.flow.specs.Slots.{slots_of, slots, indices, ArePlaces}
 use Rattle.flow.proofs.Order.{same_place, rising_both}
-use Rattle.flow.proofs.Apart.{apart_rest, apart_head, found_in, long, number_in, found_at}
+use Rattle.instructions.proofs.Apart.{apart_rest, apart_head, found_in, long, number_in, found_at}
 
 -- ---- members of lists
 

@@ -4,4 +4,3 @@ pub mod Steps
 pub mod Marks
 pub mod Blocks
 pub mod Answer
-pub mod Fixtures

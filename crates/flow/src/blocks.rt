@@ -1,6 +1,6 @@
 //! The blocks.
 
-ghost use Rattle.std.specs.Prelude.{◌≡◌, ℕ, [], ◌<◌, ◌≤◌, length, slice_get, Some, IfOk, OnOk, IsTrue, ◌↔◌};
+ghost use Rattle.std.specs.Prelude.{◌≡◌, [], ◌<◌, ◌≤◌, length, slice_get, Some, IfOk, OnOk, IsTrue, ◌↔◌};
 ghost use Rattle.pcode_model.specs.Flow.{AreApart, Rising, IsIn, NoFault, IsFlow, Reached};
 ghost use Rattle.flow.specs.Slots.{at, ArePlaces, MarksReached, MarksStarts, picked};
 ghost use Rattle.flow.specs.Edges.{EdgeInside};

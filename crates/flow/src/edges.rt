@@ -9,8 +9,8 @@ ghost use Rattle.pcode_model.specs.Flow.{AreApart, Rising, call_turn as call_tur
 ghost use Rattle.flow.specs.Slots.{ArePlaces};
 ghost use Rattle.flow.specs.Edges.{Means, AllMean, IsNegative};
 
-use crate::instructions::instruction;
 use crate::places::find;
+use instructions::instruction;
 use pcode_model::{FlowWhy, Instruction, Listing, Op, Opcode, Place, Turn, Varnode};
 
 /// An edge: to the place of a number, or by a fault nowhere.

@@ -1,6 +1,6 @@
 //! The fault that counts.
 
-ghost use Rattle.std.specs.Prelude.{◌≡◌, ℕ, [], List, MatchOption};
+ghost use Rattle.std.specs.Prelude.{◌≡◌, [], List, MatchOption};
 ghost use Rattle.pcode_model.specs.declared.listing.Place.{Place as PlaceValue};
 ghost use Rattle.pcode_model.specs.Flow.{AreApart, NoFault, FirstFault, Way, rank as rank_of};
 ghost use Rattle.flow.specs.Slots.{ArePlaces, MarksReached};

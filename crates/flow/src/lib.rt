@@ -5,13 +5,9 @@ pub mod answer;
 mod blocks;
 mod edges;
 mod faults;
-mod instructions;
 mod marks;
 mod places;
 mod reach;
 mod starts;
 
 pub use answer::{FlowFault, MAX_BLOCKS, follow};
-
-#[cfg(test)]
-mod tests;

@@ -1,6 +1,6 @@
 //! The places of a listing in rising order.
 
-ghost use Rattle.std.specs.Prelude.{◌≡◌, ℕ, ◌+◌, ◌<◌, ◌≤◌, ◌++◌, length, slice_get, IfOk, OnOk, MatchOption, Some, IsTrue, ◌↔◌};
+ghost use Rattle.std.specs.Prelude.{◌≡◌, ◌+◌, ◌++◌, slice_get, IfOk, OnOk, MatchOption, Some, IsTrue, ◌↔◌};
 ghost use Rattle.pcode_model.specs.Places.{place};
 ghost use Rattle.pcode_model.specs.Flow.{AreApart, Rising, IsIn, IsBefore};
 ghost use Rattle.flow.specs.Slots.{ArePlaces, indices, IsLowerBound, slots};

@@ -1,6 +1,6 @@
 //! The reached places.
 
-ghost use Rattle.std.specs.Prelude.{◌≡◌, ◌<◌, [], length, slice_get, Some, IfOk, OnOk, vec_len};
+ghost use Rattle.std.specs.Prelude.{◌≡◌, ◌<◌, [], slice_get, Some, IfOk, OnOk, vec_len};
 ghost use Rattle.pcode_model.specs.Step.{first_place};
 ghost use Rattle.pcode_model.specs.Flow.{AreApart};
 ghost use Rattle.flow.specs.Slots.{ArePlaces, MarksReached};

@@ -1,4 +1,4 @@
-//! Tests of listings: their texts, their faults, and their canonical texts.
+//! Tests of listings: their texts, their faults, their canonical texts, their blocks, and the ranges that they access.
 #![tactic(auto)]
 
 #[cfg(test)]

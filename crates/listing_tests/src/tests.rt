@@ -1,2 +1,4 @@
+mod accessed;
+mod blocks;
 mod canonical;
 mod texts;

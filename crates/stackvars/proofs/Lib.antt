@@ -1,7 +1,5 @@
-pub mod Apart
 pub mod Ops
 pub mod Members
 pub mod Order
 pub mod Listed
 pub mod Coarsest
-pub mod Sample

@@ -1,4 +1,3 @@
 pub mod Accessed
 pub mod Collected
 pub mod Laws
-pub mod Sample

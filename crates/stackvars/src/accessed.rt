@@ -1,5 +1,5 @@
 // The list of the ranges that are accessed.
-ghost use Rattle.std.specs.Prelude.{◌≡◌, ◌<◌, ◌≤◌, ◌^◌, [], ℕ, None, IfOk, IfErr, length};
+ghost use Rattle.std.specs.Prelude.{◌≡◌, [], None, IfOk, IfErr};
 ghost use Rattle.pcode_model.specs.Flow.{AreApart, IsFlow};
 ghost use Rattle.supported.specs.Supported.{IsSupported};
 ghost use Rattle.stackvars.specs.Accessed.{AreAccessed, AreEqualOrApart, AreSized, Counts, IsCause, ListsAccessed};

@@ -2,11 +2,7 @@
 #![tactic(auto)]
 
 mod accessed;
-mod instructions;
 pub mod laws;
 mod ranges;
 
 pub use accessed::{AtomFault, MAX_ATOMS, atoms};
-
-#[cfg(test)]
-mod tests;

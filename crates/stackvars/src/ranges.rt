@@ -8,8 +8,8 @@ ghost use Rattle.pcode_model.specs.Atoms.{further_ranges, one_range, op_ranges, 
 ghost use Rattle.supported.specs.Supported.{is_supported_code_of, is_supported_op};
 ghost use Rattle.stackvars.specs.Collected.{atom_of, atoms_at, atoms_in, atoms_of, op_of, past_first, read_inputs, storage_of};
 
-use crate::instructions::instruction;
 use bits_core::Memory;
+use instructions::instruction;
 use pcode_model::ranges::number_of;
 use pcode_model::{Atom, Block, Listing, Op, Opcode, ParamStorage, Place, SpaceKind, Varnode};
 use std::alloc::Global;
