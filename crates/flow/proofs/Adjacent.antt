@@ -19,12 +19,12 @@ use Rattle.instructions.proofs.Apart.{found_in, apart_in}
 use Rattle.flow.proofs.Listed.{owner_of}
 use Rattle.flow.proofs.Meaning.{ways_by, next_here, next_inside, next_outside}
 
-some_same : {A : Type 0} {x y : A} → Some x ≡ Some y → x ≡ y
+pub some_same : {A : Type 0} {x y : A} → Some x ≡ Some y → x ≡ y
 some_same e = cc
 
 -- ---- what a way that leads to a place says
 
-lead_same : (p q : Place) → Leads p ≡ Leads q → p ≡ q
+pub lead_same : (p q : Place) → Leads p ≡ Leads q → p ≡ q
 lead_same p q e = cc
 
 never_fails : (q : Place) (why : FlowWhy) → Leads q ≡ Fails why → ⊥

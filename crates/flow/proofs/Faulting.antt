@@ -1,6 +1,7 @@
 -- The fault that counts, among the faults of places and of their ways.
 use Rattle.std.proofs.Common.{◌≡◌, ℕ, ◌+◌, ◌<◌, ◌≤◌, Bool, List, [], ◌∷◌, length, refl, sym, ap, ◌∙◌, subst, ◌⊎◌, inl, inr, ⊎_elim, arith, Option, Some, None}
 use Rattle.std.proofs.lemmas.Bool.{cases_lt, cases_order}
+use Rattle.std.proofs.lemmas.Option.{same_Some}
 use Rattle.pcode_model.specs.declared.listing.Place.{Place}
 use Rattle.pcode_model.specs.declared.listing.Listing.{Listing}
 use Rattle.pcode_model.specs.declared.flow.FlowWhy.{FlowWhy}
@@ -25,14 +26,11 @@ fault_edge ps (Faulty x) w why m h = ap Fails (same x why h) ∙ sym m where
   same : (a b : FlowWhy) → Some a ≡ Some b → b ≡ a
   same a b e = cc
 
-some_same : (a b : FlowWhy) → Some a ≡ Some b → a ≡ b
-some_same a b e = cc
-
 never : (a : FlowWhy) → None ≡ Some a → ⊥
 never a e = cc
 
 ranked : (a b : FlowWhy) → Some a ≡ Some b → rank a ≤ rank b
-ranked a b e = omega (arith, ap rank (some_same a b e))
+ranked a b e = omega (arith, ap rank (same_Some a b e))
 
 least_of : (a b r : Option FlowWhy) (ws : List Way) → IsLesser a b r → ((why : FlowWhy) → IsIn (Fails why) ws → (a ≡ Some why) ⊎ (b ≡ Some why)) → ((why : FlowWhy) → (a ≡ Some why) ⊎ (b ≡ Some why) → IsIn (Fails why) ws) → IsLeastFault ws r
 least_of None None r ws h into from =

@@ -15,16 +15,16 @@ use Rattle.instructions.proofs.Apart.{apart_rest, apart_head, found_in, long, nu
 
 -- ---- members of lists
 
-pub in_front : (x : Place) (xs ys : List Place) → IsIn x xs → IsIn x (xs ++ ys)
+pub in_front : {A : Type 0} (x : A) (xs ys : List A) → IsIn x xs → IsIn x (xs ++ ys)
 in_front x [] ys h = absurd h
 in_front x (z ∷ xs) ys (inl e) = inl e
 in_front x (z ∷ xs) ys (inr h) = inr (in_front x xs ys h)
 
-pub in_back : (x : Place) (xs ys : List Place) → IsIn x ys → IsIn x (xs ++ ys)
+pub in_back : {A : Type 0} (x : A) (xs ys : List A) → IsIn x ys → IsIn x (xs ++ ys)
 in_back x [] ys h = h
 in_back x (z ∷ xs) ys h = inr (in_back x xs ys h)
 
-pub in_either : (x : Place) (xs ys : List Place) → IsIn x (xs ++ ys) → IsIn x xs ⊎ IsIn x ys
+pub in_either : {A : Type 0} (x : A) (xs ys : List A) → IsIn x (xs ++ ys) → IsIn x xs ⊎ IsIn x ys
 in_either x [] ys h = inr h
 in_either x (z ∷ xs) ys (inl e) = inl (inl e)
 in_either x (z ∷ xs) ys (inr h) = ⊎_elim (λ a. inl (inr a)) (λ b. inr b) (in_either x xs ys h)

@@ -3,8 +3,8 @@ use Rattle.std.proofs.Common.{◌≡◌, ℕ, zero, suc, ◌+◌, ◌<◌, ◌�
 use Rattle.std.specs.Prelude.{slice_get}
 use Rattle.std.specs.List.{slice_index_or}
 use Rattle.std.proofs.Math.ListN.{length-set, length-replicate}
-use Rattle.std.proofs.lemmas.List.{get_or-set_same, get_or-set_other}
-use Rattle.std.proofs.lemmas.Bool.{cases_eq, cases_lt, false≢true}
+use Rattle.std.proofs.lemmas.List.{get_or-set_same}
+use Rattle.std.proofs.lemmas.Bool.{cases_lt, false≢true}
 use Rattle.std.proofs.lemmas.Option.{slice_get_within, get_or_from_slice_get}
 use Rattle.pcode_model.specs.declared.listing.Place.{Place}
 use Rattle.pcode_model.specs.declared.listing.Listing.{Listing}
@@ -17,15 +17,8 @@ use Rattle.flow.specs.Edges.{AllMean, targets_of}
 use Rattle.flow.specs.Marks.{Marks, MarksBranch}
 use Rattle.flow.proofs.Order.{at_before, in_at, rising_both}
 use Rattle.flow.proofs.Listed.{in_front, in_back, in_either}
-use Rattle.flow.proofs.Rounds.{in_either as in_either_of, marked_back}
-use Rattle.flow.proofs.Reaching.{at_once, targets_lead, leads_targets, lead_stands}
-
-pub marked_set : (seen : List Bool) (m n : ℕ) → m < length seen → Marked seen n → Marked (set seen m true) n
-marked_set seen m n lt h =
-    ⊎_elim
-    (λ e. let P : ℕ → Type 0 = λ k. Marked (set seen m true) k in subst P (sym e) (get_or-set_same seen m true false lt))
-    (λ ne. get_or-set_other seen m n true false ne ∙ h)
-    (cases_eq n m)
+use Rattle.flow.proofs.Rounds.{marked_back, marked_set}
+use Rattle.flow.proofs.Reaching.{at_once, targets_lead, leads_targets, lead_stands, none_marked}
 
 pub marks_none : (seen : List Bool) → Marks seen [] seen
 marks_none seen = record { long = refl; keeps = λ n h. h; all = λ n h. absurd h; fresh = λ n h. inl h }
@@ -42,7 +35,7 @@ pub marks_both : (seen : List Bool) (xs : List ℕ) (seen' : List Bool) (ys : Li
 marks_both seen xs seen' ys seen'' x y = record {
   long = y.long ∙ x.long;
   keeps = λ n h. y.keeps n (x.keeps n h);
-  all = λ n h. ⊎_elim (λ a. y.keeps n (x.all n a)) (λ b. y.all n b) (in_either_of n xs ys h);
+  all = λ n h. ⊎_elim (λ a. y.keeps n (x.all n a)) (λ b. y.all n b) (in_either n xs ys h);
   fresh = λ n h. ⊎_elim (λ old. ⊎_elim (λ a. inl a) (λ b. inr (front n xs b)) (x.fresh n old)) (λ new. inr (back n xs new)) (y.fresh n h);
 } where
   front : (n : ℕ) (zs : List ℕ) → IsIn n zs → IsIn n (zs ++ ys)
@@ -77,11 +70,6 @@ pub record Marking (l : Listing) (ps : List Place) (start n : ℕ) (seen : List 
   pub begun : Marked seen start
   pub sound : (s : ℕ) → Marked seen s → BeginsBlock l [] (at ps s)
   pub done : (a b : ℕ) → a < n → Reached l [] (at ps a) → is_branch (turn_at l (at ps a)) ≡ true → b < length ps → LeadsTo l [] (at ps a) (at ps b) → Marked seen b
-
-none_marked : (k n : ℕ) → Marked (replicate k false) n → ⊥
-none_marked zero n h = cc
-none_marked (suc k) zero h = cc
-none_marked (suc k) (suc n) h = none_marked k n h
 
 pub marking_first : (l : Listing) (ps : List Place) (start : ℕ) (flags : List Bool) → slice_get ps start ≡ Some (first_place l) → flags ≡ replicate (length ps) false → Marking l ps start 0 (set flags start true)
 marking_first l ps start flags e f =

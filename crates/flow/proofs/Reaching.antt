@@ -24,12 +24,11 @@ use Rattle.flow.specs.Slots.{at, Marked, ArePlaces, MarksReached}
 use Rattle.flow.specs.Edges.{Means, AllMean, targets_of, edge_targets, Inside, EdgeInside}
 use Rattle.flow.specs.Steps.{Noted, Expanded}
 use Rattle.flow.proofs.Order.{at_before, not_before, in_at, at_in}
-use Rattle.flow.proofs.Rounds.{in_front, in_back, in_either, marked_back}
+use Rattle.flow.proofs.Adjacent.{lead_same}
+use Rattle.flow.proofs.Listed.{in_front, in_back, in_either}
+use Rattle.flow.proofs.Rounds.{marked_back}
 
 -- ---- places that edges lead to stand
-
-lead_same : (p q : Place) → Leads p ≡ Leads q → p ≡ q
-lead_same p q e = cc
 
 lead_to : (l : Listing) (why : FlowWhy) (p q : Place) → Leads q ≡ way_to l why p → stands l q ≡ true
 lead_to l why p q e = by (stands l p) refl where
@@ -145,7 +144,7 @@ searched_on l ps start seen work n edges seen' work' r s m x =
           (x.fresh a h);
     }
 
-none_marked : (k n : ℕ) → Marked (replicate k false) n → ⊥
+pub none_marked : (k n : ℕ) → Marked (replicate k false) n → ⊥
 none_marked zero n h = cc
 none_marked (suc k) zero h = cc
 none_marked (suc k) (suc n) h = none_marked k n h

@@ -3,23 +3,9 @@ use Rattle.std.proofs.Common.{◌≡◌, ℕ, zero, suc, ◌+◌, ◌<◌, Bool,
 use Rattle.std.proofs.Math.ListN.{length-set}
 use Rattle.std.proofs.lemmas.List.{get_or-set_same, get_or-set_other}
 use Rattle.std.proofs.lemmas.Bool.{cases_eq}
-use Rattle.pcode_model.specs.Flow.{IsIn}
 use Rattle.flow.specs.Slots.{Marked}
 use Rattle.flow.specs.Steps.{unmarked, Noted, Expanded}
-
-pub in_front : (x : ℕ) (xs ys : List ℕ) → IsIn x xs → IsIn x (xs ++ ys)
-in_front x [] ys h = absurd h
-in_front x (z ∷ xs) ys (inl e) = inl e
-in_front x (z ∷ xs) ys (inr h) = inr (in_front x xs ys h)
-
-pub in_back : (x : ℕ) (xs ys : List ℕ) → IsIn x ys → IsIn x (xs ++ ys)
-in_back x [] ys h = h
-in_back x (z ∷ xs) ys h = inr (in_back x xs ys h)
-
-pub in_either : (x : ℕ) (xs ys : List ℕ) → IsIn x (xs ++ ys) → IsIn x xs ⊎ IsIn x ys
-in_either x [] ys h = inr h
-in_either x (z ∷ xs) ys (inl e) = inl (inl e)
-in_either x (z ∷ xs) ys (inr h) = ⊎_elim (λ a. inl (inr a)) (λ b. inr b) (in_either x xs ys h)
+use Rattle.flow.proofs.Listed.{in_back, in_front, in_either}
 
 pub unmarked_set : (seen : List Bool) (m : ℕ) → m < length seen → get_or seen m false ≡ false → unmarked (set seen m true) + 1 ≡ unmarked seen
 unmarked_set [] m lt e = absurd (omega arith)
@@ -28,7 +14,7 @@ unmarked_set (false ∷ seen) zero lt e = refl
 unmarked_set (true ∷ seen) (suc m) lt e = unmarked_set seen m (omega arith) e
 unmarked_set (false ∷ seen) (suc m) lt e = ap (λ k. k + 1) (unmarked_set seen m (omega arith) e)
 
-marked_set : (seen : List Bool) (m n : ℕ) → m < length seen → Marked seen n → Marked (set seen m true) n
+pub marked_set : (seen : List Bool) (m n : ℕ) → m < length seen → Marked seen n → Marked (set seen m true) n
 marked_set seen m n lt h =
     ⊎_elim
     (λ e. let P : ℕ → Type 0 = λ k. Marked (set seen m true) k in subst P (sym e) (get_or-set_same seen m true false lt))

@@ -15,7 +15,7 @@ use Rattle.flow.specs.Blocks.{Passed, ExitOf}
 use Rattle.flow.proofs.Order.{at_in, in_at, in_of_slice}
 use Rattle.flow.proofs.Marking.{picked_in, in_picked, rising_picked, are_starts}
 use Rattle.flow.proofs.Reaching.{at_once}
-use Rattle.flow.proofs.Adjacent.{adjacent, before_it, lead_next, next_lead, starts_reached}
+use Rattle.flow.proofs.Adjacent.{adjacent, before_it, lead_next, next_lead, some_same, starts_reached}
 
 append_nil : {A : Type 0} (xs : List A) → xs ++ [] ≡ xs
 append_nil [] = refl
@@ -24,9 +24,6 @@ append_nil (x ∷ xs) = ap (λ ys. x ∷ ys) (append_nil xs)
 not_nil : (xs : List Place) (p : Place) → xs ++ p ∷ [] ≡ [] → ⊥
 not_nil [] p e = cc
 not_nil (x ∷ xs) p e = cc
-
-some_same : {A : Type 0} {x y : A} → Some x ≡ Some y → x ≡ y
-some_same e = cc
 
 -- ---- places that follow one another, up to a place that comes next
 
