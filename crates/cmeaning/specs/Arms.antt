@@ -33,6 +33,10 @@ arms_right f labels (a ∷ rest) room = has_case a.cases && (all_hold false (map
 
 -- ---- by a set
 
+-- No definition of validity, but how the code tests it: are_new [] (cases_of arms) is arms_differ arms, by the lemma
+-- new_by_arms in proofs/Sets.antt, which is are_distinct (cases_of arms) of Valid.antt, by distinct_by_arms in
+-- proofs/Distinct.antt.
+
 -- a set has exactly the values of a list
 abbrev pub Holds : BTreeSet ℕ → List ℕ → Type 0
 Holds set known = (x : ℕ) → contains nat_cmp set x ≡ is_in x known

@@ -1,4 +1,6 @@
--- Parameters by whether they are the prototype's arguments and by their storages, and the table of their places.
+-- Parameters by whether they are the prototype's arguments and by their storages, and the table of their places. No
+-- definition of validity, but how the code looks storages up. Two keys differ where is_either_before of Valid.antt holds, by
+-- the lemma either_is in proofs/Order.antt, and the place by key is the place by is_param, by entry_place in proofs/Entries.antt.
 use Rattle.std.specs.Prelude.{◌≡◌, ℕ, ◌==◌, ◌&&◌, Bool, true, false, ℤ, pos, List}
 use Rattle.std.specs.Ordering.{is_eq, int_eq, bool_cmp, nat_cmp, int_cmp, ordering_then}
 use Rattle.std.specs.declared.cmp.Ordering.{Ordering}

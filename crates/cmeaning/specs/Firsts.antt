@@ -1,4 +1,5 @@
--- The callees that stand first, each of its address and of its name.
+-- The callees that stand first, each of its address and of its name. No definition of validity, but how the code tests it,
+-- with tables: are_firsts cs 0 cs is are_callees cs of Valid.antt, by the lemma callees_by_firsts in proofs/Firsts.antt.
 use Rattle.std.specs.Prelude.{ℕ, ◌+◌, ◌==◌, ◌&&◌, Bool, true, false, List, [], ◌∷◌, Option, Some, None}
 use Rattle.cmeaning.specs.declared.tree.CName.{CName}
 use Rattle.cmeaning.specs.declared.tree.CName.TheVariants.{Declared, Bare}

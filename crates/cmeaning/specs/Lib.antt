@@ -4,6 +4,7 @@ pub mod Flat
 pub mod Step
 pub mod Agree
 pub mod Shape
+pub mod Kinds
 pub mod Mentions
 pub mod Places
 pub mod Valid

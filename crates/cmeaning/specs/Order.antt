@@ -1,4 +1,5 @@
--- Parameters one after another, by what came before.
+-- Parameters one after another, by what came before. No definition of validity, but how the code tests it, with a set of keys:
+-- may_all_come None [] is are_params of Valid.antt, by the lemma params_come in proofs/Order.antt.
 use Rattle.std.specs.Prelude.{◌≡◌, ℕ, ◌&&◌, not, Bool, true, false, if◌then◌else◌, ℤ, List, [], ◌∷◌, ◌++◌, Option, Some, None}
 use Rattle.std.specs.Ordering.{is_eq}
 use Rattle.std.specs.BTreeSet.{BTreeSet, contains}

@@ -1,4 +1,6 @@
--- Where the first thing of a kind stands in a list, and the tables of callees by it.
+-- Where the first thing of a kind stands in a list, and the tables of callees by it. No definition of validity, but how the
+-- code looks callees up. In proofs/Places.antt: first_of (has_address a) is declared_in of Valid.antt, by the lemma
+-- declared_is, and place (has_address a) is place_of of Mentions.antt, by place_some and place_none.
 use Rattle.std.specs.Prelude.{◌≡◌, ℕ, suc, ◌==◌, if◌then◌else◌, Bool, false, List, [], ◌∷◌, Option, Some, None}
 use Rattle.std.specs.Option.{option_map}
 use Rattle.std.specs.Ordering.{nat_cmp}

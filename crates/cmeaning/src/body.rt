@@ -1,8 +1,9 @@
 //! Whether the statements of a body obey the rules of a valid tree.
 
-ghost use Rattle.std.specs.Prelude.{◌≡◌, ◌&&◌, map, false, List, ℕ, None, IfOk, IsOk};
+ghost use Rattle.std.specs.Prelude.{◌≡◌, ◌&&◌, map, true, false, Bool, List, ℕ, None, IfOk, IsOk};
 ghost use Rattle.cmeaning.specs.declared.tree.CFunction.{CFunction as Function};
 ghost use Rattle.cmeaning.specs.Do.{widths_in};
+ghost use Rattle.cmeaning.specs.Kinds.{kind_of, computes, calls, nests};
 ghost use Rattle.cmeaning.specs.Shape.{shape_of, is_condition};
 ghost use Rattle.cmeaning.specs.Valid.{rule_of, all_hold, are_cases_of, cases_of};
 ghost use Rattle.cmeaning.specs.Arms.{arms_right};
@@ -41,9 +42,85 @@ struct Rules<'f> {
     memory: Option<Global>,
 }
 
+/// Whether a statement that computes or moves a value obeys the rules.
+#[tactic(auto, unfolding(crate::specs::Valid::rule_of, crate::specs::Kinds::kind_of))]
+fn computation_holds(f: &CFunction, s: &Stmt) -> bool
+    requires { computes (kind_of s.now) ≡ true }
+    ensures { (labels : ℕ) (after_call : Bool) (in_loop : Bool) (room : ℕ) → result ≡ (rule_of f.now labels s.now).holds after_call in_loop room }
+{
+    match s {
+        Stmt::Assign { target, value } => assigns(f, *target, value),
+        Stmt::Load {
+            target,
+            space,
+            address,
+        } => load_fits(f, *target, space, address),
+        Stmt::Store {
+            space,
+            address,
+            value,
+        } => store_fits(f, space, address, value),
+        Stmt::Divide {
+            target,
+            left,
+            right,
+            ..
+        } => divide_fits(f, *target, left, right),
+        _ => unreachable!(),
+    }
+}
+
+/// Whether a call obeys the rules, or a statement that takes what one has left.
+#[tactic(auto, unfolding(crate::specs::Valid::rule_of, crate::specs::Kinds::kind_of))]
+fn call_holds(f: &CFunction, s: &Stmt, after_call: bool) -> bool
+    requires { calls (kind_of s.now) ≡ true }
+    ensures { (labels : ℕ) (in_loop : Bool) (room : ℕ) → result ≡ (rule_of f.now labels s.now).holds after_call in_loop room }
+{
+    match s {
+        Stmt::Call {
+            target,
+            callee,
+            args,
+        } => call_fits(f, *target, *callee, args.as_slice()),
+        Stmt::CallInd {
+            target,
+            callee,
+            args,
+        } => call_ind_fits(f, *target, callee, args.as_slice()),
+        Stmt::Other {
+            target,
+            index,
+            args,
+        } => other_fits(f, *target, *index, args.as_slice()),
+        Stmt::Extra { target, offset } => extra_fits(f, *target, *offset, after_call),
+        _ => unreachable!(),
+    }
+}
+
+/// Whether a statement without statements in it obeys the rules.
+#[tactic(auto, unfolding(crate::specs::Valid::rule_of, crate::specs::Kinds::kind_of))]
+fn simple_holds(rules: Rules<'_>, s: &Stmt, after_call: bool, in_loop: bool) -> bool
+    requires { nests (kind_of s.now) ≡ false }
+    ensures { (room : ℕ) → result ≡ (rule_of rules.entry.f.now rules.entry.labels s.now).holds after_call in_loop room }
+{
+    match s {
+        Stmt::Call { .. } | Stmt::CallInd { .. } | Stmt::Other { .. } | Stmt::Extra { .. } => {
+            call_holds(rules.f, s, after_call)
+        }
+        Stmt::Break => in_loop,
+        Stmt::Goto(n) => 0 < *n && u64::from(*n) < rules.labels,
+        Stmt::Label(n) => {
+            let _n = *n;
+            true
+        }
+        Stmt::Return(e) => returns_right(rules.f, e),
+        _ => computation_holds(rules.f, s),
+    }
+}
+
 /// Whether a statement obeys the rules, where so many levels of statements may stand inside it.
 #[cycle(body)]
-#[tactic(auto, unfolding(crate::specs::Valid::rule_of))]
+#[tactic(auto, unfolding(crate::specs::Kinds::kind_of))]
 fn stmt_holds(
     rules: Rules<'_>,
     s: &Stmt,
@@ -55,39 +132,6 @@ fn stmt_holds(
     ensures without { rules.entry.memory ≡ None → IsOk result }
 {
     match s {
-        Stmt::Assign { target, value } => Ok(assigns(rules.f, *target, value)),
-        Stmt::Load {
-            target,
-            space,
-            address,
-        } => Ok(load_fits(rules.f, *target, space, address)),
-        Stmt::Store {
-            space,
-            address,
-            value,
-        } => Ok(store_fits(rules.f, space, address, value)),
-        Stmt::Call {
-            target,
-            callee,
-            args,
-        } => Ok(call_fits(rules.f, *target, *callee, args.as_slice())),
-        Stmt::CallInd {
-            target,
-            callee,
-            args,
-        } => Ok(call_ind_fits(rules.f, *target, callee, args.as_slice())),
-        Stmt::Other {
-            target,
-            index,
-            args,
-        } => Ok(other_fits(rules.f, *target, *index, args.as_slice())),
-        Stmt::Extra { target, offset } => { Ok(extra_fits(rules.f, *target, *offset, after_call)) }
-        Stmt::Divide {
-            target,
-            left,
-            right,
-            ..
-        } => Ok(divide_fits(rules.f, *target, left, right)),
         Stmt::If { condition, body } => {
             tested_holds(rules, condition, body.as_slice(), in_loop, room)
         }
@@ -106,14 +150,8 @@ fn stmt_holds(
             tested_holds(rules, condition, body.as_slice(), true, room)
         }
         Stmt::Loop { body } => all_hold_in(rules, body.as_slice(), true, room),
-        Stmt::Break => Ok(in_loop),
         Stmt::Switch { value, arms } => switch_holds(rules, value, arms.as_slice(), room),
-        Stmt::Goto(n) => Ok(0 < *n && u64::from(*n) < rules.labels),
-        Stmt::Label(n) => {
-            let _n = *n;
-            Ok(true)
-        }
-        Stmt::Return(e) => Ok(returns_right(rules.f, e)),
+        _ => Ok(simple_holds(rules, s, after_call, in_loop)),
     }
 }
 

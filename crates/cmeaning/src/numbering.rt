@@ -1,7 +1,8 @@
 //! How a body numbers variables, callees and labels: by first appearance in the order of its text.
 
-ghost use Rattle.std.specs.Prelude.{◌≡◌, ◌<◌, ◌^◌, map, List, Option, Some, None};
+ghost use Rattle.std.specs.Prelude.{◌≡◌, ◌<◌, ◌^◌, map, true, false, List, Option, Some, None};
 ghost use Rattle.cmeaning.specs.declared.tree.CalleeDecl.{CalleeDecl};
+ghost use Rattle.cmeaning.specs.Kinds.{kind_of, computes, calls, nests};
 ghost use Rattle.cmeaning.specs.Mentions.{with_variable, with_callee, with_label, met as met_by, met_once, mentioned, numbered, in_expr, in_exprs, in_option, in_target, in_stmt, in_body, in_arm, in_arms, Variable, Callee, LabelLine};
 
 use crate::callees::CalleeDecls;
@@ -121,9 +122,10 @@ fn number_option(callees: &CalleeDecls, next: Option<Next>, e: &Option<Expr>) ->
     }
 }
 
-#[cycle(numbering)]
-#[tactic(auto, unfolding(crate::specs::Mentions::in_stmt, crate::specs::Mentions::in_arm), using(crate::proofs::Mentions::numbered_assign, crate::proofs::Mentions::numbered_load, crate::proofs::Mentions::numbered_store, crate::proofs::Mentions::numbered_call, crate::proofs::Mentions::numbered_call_ind, crate::proofs::Mentions::numbered_other, crate::proofs::Mentions::numbered_divide, crate::proofs::Mentions::numbered_if, crate::proofs::Mentions::numbered_if_else, crate::proofs::Mentions::numbered_while, crate::proofs::Mentions::numbered_do_while, crate::proofs::Mentions::numbered_switch))]
-fn number_stmt(callees: &CalleeDecls, next: Option<Next>, s: &Stmt) -> Option<Next>
+/// The next numbers after a statement that computes or moves a value.
+#[tactic(auto, unfolding(crate::specs::Mentions::in_stmt, crate::specs::Mentions::in_arm, crate::specs::Kinds::kind_of), using(crate::proofs::Mentions::numbered_assign, crate::proofs::Mentions::numbered_load, crate::proofs::Mentions::numbered_store, crate::proofs::Mentions::numbered_divide))]
+fn number_computation(callees: &CalleeDecls, next: Option<Next>, s: &Stmt) -> Option<Next>
+    requires { computes (kind_of s.now) ≡ true }
     ensures { result ≡ numbered callees.now (in_stmt s.now) next }
 {
     match s {
@@ -138,6 +140,27 @@ fn number_stmt(callees: &CalleeDecls, next: Option<Next>, s: &Stmt) -> Option<Ne
         Stmt::Store { address, value, .. } => {
             number_expr(callees, number_expr(callees, next, address), value)
         }
+        Stmt::Divide {
+            target,
+            left,
+            right,
+            ..
+        } => number_expr(
+            callees,
+            number_expr(callees, meet_variable(next, *target), left),
+            right,
+        ),
+        _ => unreachable!(),
+    }
+}
+
+/// The next numbers after a call, or after a statement that takes what one has left.
+#[tactic(auto, unfolding(crate::specs::Mentions::in_stmt, crate::specs::Mentions::in_arm, crate::specs::Kinds::kind_of), using(crate::proofs::Mentions::numbered_call, crate::proofs::Mentions::numbered_call_ind, crate::proofs::Mentions::numbered_other))]
+fn number_call(callees: &CalleeDecls, next: Option<Next>, s: &Stmt) -> Option<Next>
+    requires { calls (kind_of s.now) ≡ true }
+    ensures { result ≡ numbered callees.now (in_stmt s.now) next }
+{
+    match s {
         Stmt::Call {
             target,
             callee,
@@ -160,16 +183,33 @@ fn number_stmt(callees: &CalleeDecls, next: Option<Next>, s: &Stmt) -> Option<Ne
             number_exprs(callees, meet_target(next, *target), args.as_slice())
         }
         Stmt::Extra { target, .. } => meet_variable(next, *target),
-        Stmt::Divide {
-            target,
-            left,
-            right,
-            ..
-        } => number_expr(
-            callees,
-            number_expr(callees, meet_variable(next, *target), left),
-            right,
-        ),
+        _ => unreachable!(),
+    }
+}
+
+/// The next numbers after a statement without statements in it.
+#[tactic(auto, unfolding(crate::specs::Mentions::in_stmt, crate::specs::Kinds::kind_of))]
+fn number_simple(callees: &CalleeDecls, next: Option<Next>, s: &Stmt) -> Option<Next>
+    requires { nests (kind_of s.now) ≡ false }
+    ensures { result ≡ numbered callees.now (in_stmt s.now) next }
+{
+    match s {
+        Stmt::Call { .. } | Stmt::CallInd { .. } | Stmt::Other { .. } | Stmt::Extra { .. } => {
+            number_call(callees, next, s)
+        }
+        Stmt::Break | Stmt::Goto(_) => next,
+        Stmt::Label(n) => meet_label(next, *n),
+        Stmt::Return(e) => number_option(callees, next, e),
+        _ => number_computation(callees, next, s),
+    }
+}
+
+#[cycle(numbering)]
+#[tactic(auto, unfolding(crate::specs::Mentions::in_stmt, crate::specs::Mentions::in_arm, crate::specs::Kinds::kind_of), using(crate::proofs::Mentions::numbered_if, crate::proofs::Mentions::numbered_if_else, crate::proofs::Mentions::numbered_while, crate::proofs::Mentions::numbered_do_while, crate::proofs::Mentions::numbered_switch))]
+fn number_stmt(callees: &CalleeDecls, next: Option<Next>, s: &Stmt) -> Option<Next>
+    ensures { result ≡ numbered callees.now (in_stmt s.now) next }
+{
+    match s {
         Stmt::If { condition, body } => number_body(
             callees,
             number_expr(callees, next, condition),
@@ -195,13 +235,10 @@ fn number_stmt(callees: &CalleeDecls, next: Option<Next>, s: &Stmt) -> Option<Ne
             condition,
         ),
         Stmt::Loop { body } => number_body(callees, next, body.as_slice()),
-        Stmt::Break => next,
         Stmt::Switch { value, arms } => {
             number_arms(callees, number_expr(callees, next, value), arms.as_slice())
         }
-        Stmt::Goto(_) => next,
-        Stmt::Label(n) => meet_label(next, *n),
-        Stmt::Return(e) => number_option(callees, next, e),
+        _ => number_simple(callees, next, s),
     }
 }
 

@@ -5,7 +5,7 @@ use Rattle.cmeaning.proofs.body.+body.Goals as goal
 pub stmt_holds-returns-in-If-clause-right : goal.stmt_holds-returns-in-If-clause-right
 stmt_holds-returns-in-If-clause-right t c =
     subst (λ z. IfOk c.tested_holds.result (λ b. b ≡ z))
-    (if_is c.args.rules.f.now c.args.rules.labels c.args.s.now c.in-If.condition c.in-If.body c.as_slice-in-If.result.now c.args.after_call c.args.in_loop c.args.room c.in-If.is c.as_slice-in-If.ensures)
+    (if_is c.args.rules.f.now c.args.rules.labels c.args.s.now c.in-If.condition c.in-If.body c.as_slice.result.now c.args.after_call c.args.in_loop c.args.room c.in-If.is c.as_slice.ensures)
     c.tested_holds.ensures.right
 
 pub stmt_holds-returns-in-IfElse-clause-right : goal.stmt_holds-returns-in-IfElse-clause-right
