@@ -27,7 +27,7 @@ numbered_append callees [] ys n = refl
 numbered_append callees (x ∷ xs) ys n = numbered_append callees xs ys (mentioned callees n x)
 
 -- an expression that is a layer
-in_layer : (e : Expr) (l : Expr-F Expr) → roll-Expr l ≡ e → in_expr e ≡ expr_step (map-Expr Expr (List Mention) in_expr l)
+pub in_layer : (e : Expr) (l : Expr-F Expr) → roll-Expr l ≡ e → in_expr e ≡ expr_step (map-Expr Expr (List Mention) in_expr l)
 unfolding in_expr
 in_layer e l is = ap in_expr (sym is) ∙ fold-roll-Expr (List Mention) expr_step l
 

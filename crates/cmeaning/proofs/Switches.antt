@@ -12,7 +12,7 @@ use Rattle.cmeaning.specs.Shape.{shape_of, is_condition}
 use Rattle.cmeaning.specs.Valid.{Rule, Cased, rule_step, cased_step, rule_of, cased_of, cases_of, all_cases, has_case, all_hold, arms_hold, are_cases_of}
 use Rattle.cmeaning.specs.Arms.{arms_right}
 
-cased_is : (f : CFunction) (labels : ℕ) (a : Arm) → cased_of f labels a ≡ record { cases = a.cases; body = map (rule_of f labels) a.body }
+pub cased_is : (f : CFunction) (labels : ℕ) (a : Arm) → cased_of f labels a ≡ record { cases = a.cases; body = map (rule_of f labels) a.body }
 unfolding cased_of rule_of
 cased_is f labels a = fold_out-Arm Rule Cased (rule_step f labels) cased_step a
 

@@ -6,10 +6,10 @@ use Rattle.bits_core.specs.Value.{limit}
 use Rattle.bits_core.proofs.Machine.{limit_most}
 use Rattle.cmeaning.specs.declared.tree.CFunction.{CFunction}
 use Rattle.cmeaning.specs.declared.tree.Expr.{Expr}
-use Rattle.cmeaning.specs.declared.tree.Arm.{Arm, fold_out-Arm}
+use Rattle.cmeaning.specs.declared.tree.Arm.{Arm}
 use Rattle.cmeaning.specs.declared.tree.Stmt.{Stmt}
 use Rattle.cmeaning.specs.declared.tree.Stmt.TheVariants as s
-use Rattle.cmeaning.specs.Valid.{Rule, Cased, rule_step, cased_step, rule_of, cased_of, all_hold, has_case, arms_hold, all_cases, are_words}
+use Rattle.cmeaning.specs.Valid.{Cased, rule_of, cased_of, all_hold, has_case, arms_hold, all_cases, are_words}
 use Rattle.ctext.specs.Names.{Scope, scope_of, hex}
 use Rattle.ctext.specs.Expressions.{form}
 use Rattle.ctext.specs.Statements.{lines, deeper, all_lines, last_leaves, case_lines, break_line, body_text, body_leaves, arm_text, all_arms, loop_head}
@@ -20,6 +20,7 @@ use Rattle.cread.specs.Statements.{line_at, plain_line_at, spaced_by, case_at, c
 use Rattle.cread.proofs.Fronts.{hex_again, AllSpaces, spaces_again}
 use Rattle.cread.proofs.Parts.{Written, LineAt}
 use Rattle.cread.proofs.Bodies.{AllOk, first_ok, past_pad, brace_ends, case_ends, break_ends, body_again, deeper_spaces, head_again, worded}
+use Rattle.cmeaning.proofs.Switches.{cased_is}
 
 abbrev texts : CFunction → List Stmt → List ℕ → List ℕ
 texts f xs d = all_lines (map (lines (scope_of f)) xs) d
@@ -150,10 +151,6 @@ ArmOk f labels a = AllOk f labels a.body
 abbrev pub AllArmsOk : CFunction → ℕ → List Arm → Type 0
 AllArmsOk f labels [] = Unit {0}
 AllArmsOk f labels (a ∷ arms) = ArmOk f labels a × AllArmsOk f labels arms
-
-cased_is : (f : CFunction) (labels : ℕ) (a : Arm) → cased_of f labels a ≡ record { cases = a.cases; body = map (rule_of f labels) a.body }
-unfolding cased_of rule_of
-cased_is f labels a = fold_out-Arm Rule Cased (rule_step f labels) cased_step a
 
 arm_split : (f : CFunction) (labels : ℕ) (cs : List ℕ) (xs : List Stmt) (room : ℕ) (d more : List ℕ) → AllOk f labels xs → AllSpaces d → has_case cs ≡ true → AllSmall cs → all_hold false (map (rule_of f labels) xs) false room ≡ true → ArmEnd d more
     → arm_by (statement_at (scope_of f) room) ((case_lines cs d ++ (texts f xs (deeper d) ++ break_line (last_leaves false (map (lines (scope_of f)) xs)) (deeper d))) ++ more) ≡ Some (record { cases = cs; body = xs }, more)

@@ -28,10 +28,11 @@ use Rattle.cmeaning.specs.declared.tree.Expr.{Expr, fold-roll-Expr, roll-Expr, m
 use Rattle.cmeaning.specs.declared.tree.Expr.TheOpen.{Expr-F}
 use Rattle.cmeaning.specs.declared.tree.Expr.TheVariants as E
 use Rattle.cmeaning.specs.Shape.{leaf, above, one_shape, two_shape, same_width, may_join, left_width, shape_step, shape_of}
-use Rattle.cmeaning.specs.Mentions.{Mention, Variable, Callee, LabelLine, expr_step, in_expr}
+use Rattle.cmeaning.specs.Mentions.{Mention, Variable, Callee, LabelLine, in_expr}
 use Rattle.plaincode.specs.Nodes.{nearest, width_by, word_by, constant, unary_node, binary_node}
 use Rattle.plaincode.specs.Form.{HasNode}
 use Rattle.plaincode.proofs.Nodes.{nearest_is}
+use Rattle.cmeaning.proofs.Mentions.{in_layer}
 
 -- ---- mentions
 
@@ -63,10 +64,6 @@ pub record Fits (ws : ℕ → ℕ) (n : ℕ) (e : Expr) (w d : ℕ) : Type 0 whe
 shape_layer : (ws : ℕ → ℕ) (e : Expr) (l : Expr-F Expr) → roll-Expr l ≡ e → shape_of ws e ≡ shape_step ws (map-Expr Expr (Option Shape) (shape_of ws) l)
 unfolding shape_of
 shape_layer ws e l is = ap (shape_of ws) (sym is) ∙ fold-roll-Expr (Option Shape) (shape_step ws) l
-
-mentions_layer : (e : Expr) (l : Expr-F Expr) → roll-Expr l ≡ e → in_expr e ≡ expr_step (map-Expr Expr (List Mention) in_expr l)
-unfolding in_expr
-mentions_layer e l is = ap in_expr (sym is) ∙ fold-roll-Expr (List Mention) expr_step l
 
 abbrev node : ℕ → ℕ → Bool → Shape
 node w depth comparison = record { width = w; depth = depth + 1; constant = None; comparison = comparison }
@@ -120,7 +117,7 @@ variable_fits ws n v w within few is some =
       is = shape_layer ws (E.Var v) (Expr-F.Var v) (E.rolls-Var v) ∙ ap (λ b. cond b (leaf (ws v) None) None) t;
       width = is;
       depth = omega arith;
-      mentions = subst (AllBelow n) (sym (mentions_layer (E.Var v) (Expr-F.Var v) (E.rolls-Var v))) m;
+      mentions = subst (AllBelow n) (sym (in_layer (E.Var v) (Expr-F.Var v) (E.rolls-Var v))) m;
     }
 
 pub constant_fits : (ws : ℕ → ℕ) (n w value : ℕ) → 0 < w → w ≤ 16 → Fits ws n (constant w value) w 1
@@ -131,7 +128,7 @@ constant_fits ws n w value some small =
       is = shape_layer ws (E.Const c) (Expr-F.Const c) (E.rolls-Const c);
       width = nearest_is w some small;
       depth = omega arith;
-      mentions = subst (AllBelow n) (sym (mentions_layer (E.Const c) (Expr-F.Const c) (E.rolls-Const c))) tt;
+      mentions = subst (AllBelow n) (sym (in_layer (E.Const c) (Expr-F.Const c) (E.rolls-Const c))) tt;
     }
 
 -- ---- nodes
@@ -146,17 +143,17 @@ extend_fits op ws n v w d e less small deep f =
     let r : nat_lt v (nearest w) ≡ true = let l : v < nearest w = omega (arith, i, less) in grind (arith, nat_tests) in
     as_wide ws n c (nearest w) w (suc d) i (one ws n c e (λ k. nat_lt k (nearest w)) (λ k. nearest w) v d
     (shape_layer ws c (Expr-F.Extend op (width_by w) e) (E.rolls-Extend op (width_by w) e))
-    (mentions_layer c (Expr-F.Extend op (width_by w) e) (E.rolls-Extend op (width_by w) e)) f r deep)
+    (in_layer c (Expr-F.Extend op (width_by w) e) (E.rolls-Extend op (width_by w) e)) f r deep)
 
 unary_fits_by : (op : UnaryOp) (ws : ℕ → ℕ) (n v w : ℕ) (e : Expr) → v ≡ w → Fits ws n e v 1 → Fits ws n (E.Unary op e) w 2
 unary_fits_by op ws n v w e same f =
     let c = E.Unary op e in
-    as_wide ws n c v w 2 same (one ws n c e (λ k. true) (λ k. k) v 1 (shape_layer ws c (Expr-F.Unary op e) (E.rolls-Unary op e)) (mentions_layer c (Expr-F.Unary op e) (E.rolls-Unary op e)) f refl (omega arith))
+    as_wide ws n c v w 2 same (one ws n c e (λ k. true) (λ k. k) v 1 (shape_layer ws c (Expr-F.Unary op e) (E.rolls-Unary op e)) (in_layer c (Expr-F.Unary op e) (E.rolls-Unary op e)) f refl (omega arith))
 
 count_fits : (op : CountOp) (ws : ℕ → ℕ) (n v : ℕ) (e : Expr) → Fits ws n e v 1 → Fits ws n (E.Count op e) 1 2
 count_fits op ws n v e f =
     let c = E.Count op e in
-    one ws n c e (λ k. true) (λ k. 1) v 1 (shape_layer ws c (Expr-F.Count op e) (E.rolls-Count op e)) (mentions_layer c (Expr-F.Count op e) (E.rolls-Count op e)) f refl (omega arith)
+    one ws n c e (λ k. true) (λ k. 1) v 1 (shape_layer ws c (Expr-F.Count op e) (E.rolls-Count op e)) (in_layer c (Expr-F.Count op e) (E.rolls-Count op e)) f refl (omega arith)
 
 widened_by : (t : Bool) (ws : ℕ → ℕ) (n w : ℕ) (e : Expr) → (w == 1) ≡ t → 0 < w → w ≤ 16 → Fits ws n e 1 2 → Fits ws n (cond t e (E.Extend Zext (width_by w) e)) w 3
 widened_by true ws n w e is some small f =
@@ -171,35 +168,35 @@ arithmetic_fits op ws n u v w d e p q f g =
     let c = E.Arithmetic op d e in
     as_wide ws n c u w 3 p (deeper ws n c u 2 3 (omega arith) (two ws n c d e same_width left_width false u v
     (shape_layer ws c (Expr-F.Arithmetic op d e) (E.rolls-Arithmetic op d e))
-    (mentions_layer c (Expr-F.Arithmetic op d e) (E.rolls-Arithmetic op d e)) f g (λ x y i j. equal_widths x y u v (p ∙ sym q) i j)))
+    (in_layer c (Expr-F.Arithmetic op d e) (E.rolls-Arithmetic op d e)) f g (λ x y i j. equal_widths x y u v (p ∙ sym q) i j)))
 
 shift_fits : (op : ShiftOp) (ws : ℕ → ℕ) (n u v w : ℕ) (d e : Expr) → u ≡ w → Fits ws n d u 1 → Fits ws n e v 1 → Fits ws n (E.Shift op d e) w 3
 shift_fits op ws n u v w d e p f g =
     let c = E.Shift op d e in
     as_wide ws n c u w 3 p (deeper ws n c u 2 3 (omega arith) (two ws n c d e (λ x y. true) left_width false u v
     (shape_layer ws c (Expr-F.Shift op d e) (E.rolls-Shift op d e))
-    (mentions_layer c (Expr-F.Shift op d e) (E.rolls-Shift op d e)) f g (λ x y i j. refl)))
+    (in_layer c (Expr-F.Shift op d e) (E.rolls-Shift op d e)) f g (λ x y i j. refl)))
 
 compare_fits : (op : CompareOp) (ws : ℕ → ℕ) (n u v w : ℕ) (d e : Expr) → u ≡ v → w ≡ 1 → Fits ws n d u 1 → Fits ws n e v 1 → Fits ws n (E.Compare op d e) w 3
 compare_fits op ws n u v w d e p q f g =
     let c = E.Compare op d e in
     as_wide ws n c 1 w 3 (sym q) (deeper ws n c 1 2 3 (omega arith) (two ws n c d e same_width (λ x y. 1) true u v
     (shape_layer ws c (Expr-F.Compare op d e) (E.rolls-Compare op d e))
-    (mentions_layer c (Expr-F.Compare op d e) (E.rolls-Compare op d e)) f g (λ x y i j. equal_widths x y u v p i j)))
+    (in_layer c (Expr-F.Compare op d e) (E.rolls-Compare op d e)) f g (λ x y i j. equal_widths x y u v p i j)))
 
 signed_compare_fits : (op : SignedCompareOp) (ws : ℕ → ℕ) (n u v w : ℕ) (d e : Expr) → u ≡ v → w ≡ 1 → Fits ws n d u 1 → Fits ws n e v 1 → Fits ws n (E.SignedCompare op d e) w 3
 signed_compare_fits op ws n u v w d e p q f g =
     let c = E.SignedCompare op d e in
     as_wide ws n c 1 w 3 (sym q) (deeper ws n c 1 2 3 (omega arith) (two ws n c d e same_width (λ x y. 1) true u v
     (shape_layer ws c (Expr-F.SignedCompare op d e) (E.rolls-SignedCompare op d e))
-    (mentions_layer c (Expr-F.SignedCompare op d e) (E.rolls-SignedCompare op d e)) f g (λ x y i j. equal_widths x y u v p i j)))
+    (in_layer c (Expr-F.SignedCompare op d e) (E.rolls-SignedCompare op d e)) f g (λ x y i j. equal_widths x y u v p i j)))
 
 overflow_fits : (op : OverflowOp) (ws : ℕ → ℕ) (n u v w : ℕ) (d e : Expr) → u ≡ v → w ≡ 1 → Fits ws n d u 1 → Fits ws n e v 1 → Fits ws n (E.Overflow op d e) w 3
 overflow_fits op ws n u v w d e p q f g =
     let c = E.Overflow op d e in
     as_wide ws n c 1 w 3 (sym q) (deeper ws n c 1 2 3 (omega arith) (two ws n c d e same_width (λ x y. 1) false u v
     (shape_layer ws c (Expr-F.Overflow op d e) (E.rolls-Overflow op d e))
-    (mentions_layer c (Expr-F.Overflow op d e) (E.rolls-Overflow op d e)) f g (λ x y i j. equal_widths x y u v p i j)))
+    (in_layer c (Expr-F.Overflow op d e) (E.rolls-Overflow op d e)) f g (λ x y i j. equal_widths x y u v p i j)))
 
 join_widths : (x y : Shape) (u v w : ℕ) → w ≡ u + v → w ≤ 16 → x.width ≡ u → y.width ≡ v → may_join x y ≡ true
 join_widths x y u v w is small p q = let e : x.width + y.width ≤ 16 = omega (arith, is, small, p, q) in grind (arith, nat_tests)
@@ -209,7 +206,7 @@ concat_fits ws n u v w d e p small f g =
     let c = E.Concat d e in
     as_wide ws n c (u + v) w 3 (sym p) (deeper ws n c (u + v) 2 3 (omega arith) (two ws n c d e may_join (λ x y. x + y) false u v
     (shape_layer ws c (Expr-F.Concat d e) (E.rolls-Concat d e))
-    (mentions_layer c (Expr-F.Concat d e) (E.rolls-Concat d e)) f g (λ x y i j. join_widths x y u v w p small i j)))
+    (in_layer c (Expr-F.Concat d e) (E.rolls-Concat d e)) f g (λ x y i j. join_widths x y u v w p small i j)))
 
 -- ---- operations
 

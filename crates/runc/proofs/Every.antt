@@ -22,6 +22,7 @@ use Rattle.runc.specs.Fits.{Fits, all_true, arm_fits, arm_step, fits_step, stmt_
 use Rattle.runc.specs.May.{MayStep, StepFits, fits_layer, may_layer}
 use Rattle.runc.proofs.Rules.{assigned_right, call_right, returned_right, right_condition, right_value, target_there, there}
 use Rattle.runc.proofs.Spaces.{both, inside, ram_accessed}
+use Rattle.cmeaning.proofs.Switches.{cased_is}
 
 -- the step may be carried out
 abbrev pub Sound : Listing → CFunction → Flat → Type 0
@@ -70,10 +71,6 @@ body_sound l f labels g h (x ∷ xs) after_call in_loop room ok fit place out p 
     (h x after_call in_loop (room - 1) two.0 fits.0 place out p) (body_sound l f labels g h xs r.calls in_loop room two.1 fits.1 place out (p + piece.span))
 
 -- ---- arms
-
-cased_is : (f : CFunction) (labels : ℕ) (a : Arm) → cased_of f labels a ≡ record { cases = a.cases; body = map (rule_of f labels) a.body }
-unfolding cased_of rule_of
-cased_is f labels a = fold_out-Arm Rule Cased (rule_step f labels) cased_step a
 
 arm_fits_is : (l : Listing) (ws : ℕ → ℕ) (a : Arm) → arm_fits l ws a ≡ all_true (map (stmt_fits l ws) a.body)
 unfolding arm_fits stmt_fits
