@@ -9,8 +9,8 @@ use Rattle.std.specs.Cmp.Lexicographic.{slice_cmp, nat_list_cmp_total, bytes_dec
 use Rattle.std.specs.Str.{bytes_eq}
 use Rattle.std.specs.Map.{lookup, IsKeyTest, AreApart, KeepsOthers}
 use Rattle.std.specs.BTreeMap.{BTreeMap, get, get_by, Updates}
-use Rattle.std.proofs.lemmas.Bool.Decides.{nat_tests}
 use Rattle.std.proofs.lemmas.Map.Text.{is_eq-slice_cmp}
+use Rattle.std.proofs.lemmas.Bool.{eqb-true}
 use Rattle.cmeaning.specs.declared.tree.CName.{CName}
 use Rattle.cmeaning.specs.declared.tree.CName.TheVariants.{Declared, Bare}
 use Rattle.cmeaning.specs.declared.tree.CalleeDecl.{CalleeDecl}
@@ -123,9 +123,6 @@ module _ {A Q : Type 0} (test : Q → A → Bool) (xs : List A) (x : A) (old : Q
 
 -- ---- addresses
 
-same_number : (a b : ℕ) → (a == b) ≡ true → a ≡ b
-same_number a b is = grind (arith, nat_tests, is)
-
 pub known_there : (o : Option ℕ) (t : Bool) → t ≡ is_some o → t ≡ true → o ≡ None → ⊥
 known_there o t is known none = cc
 
@@ -138,10 +135,10 @@ pub address_put : (cs : List CalleeDecl) (c : CalleeDecl) (m n : BTreeMap ℕ �
 address_put cs c m n address end same last table absent updates =
     put has_address cs c (get nat_cmp m) table (get nat_cmp n)
     (λ a. updates.0 a ∙ ap₂ (λ (b : Bool) (k : ℕ). cond b (Some k) (get nat_cmp m a)) (unsigned_tied address a ∙ ap (λ (k : ℕ). k == a) (sym same)) last)
-    (λ a hit. ap (get nat_cmp m) (sym (same_number c.address a hit) ∙ same) ∙ absent)
+    (λ a hit. ap (get nat_cmp m) (sym (eqb-true c.address a hit) ∙ same) ∙ absent)
 
 pub address_kept : (cs : List CalleeDecl) (c : CalleeDecl) (m : BTreeMap ℕ ℕ) (address : ℕ) → c.address ≡ address → HasAddresses cs m → (get nat_cmp m address ≡ None → ⊥) → HasAddresses (cs ++ c ∷ []) m
-address_kept cs c m address same table present = kept has_address cs c (get nat_cmp m) table (λ a hit none. present (ap (get nat_cmp m) (sym same ∙ same_number c.address a hit) ∙ none))
+address_kept cs c m address same table present = kept has_address cs c (get nat_cmp m) table (λ a hit none. present (ap (get nat_cmp m) (sym same ∙ eqb-true c.address a hit) ∙ none))
 
 -- ---- names
 

@@ -7,6 +7,7 @@ use Rattle.std.proofs.lemmas.List.{take_more, at_drop_more, at_drop_all, take_al
 use Rattle.std.specs.Ordering.{nat_cmp}
 use Rattle.std.specs.Cmp.{unsigned_tied}
 use Rattle.std.specs.BTreeSet.{BTreeSet, contains, Updates}
+use Rattle.std.proofs.lemmas.Bool.{not-true}
 use Rattle.pcode_model.specs.Spaces.{or}
 use Rattle.cmeaning.specs.declared.tree.Arm.{Arm}
 use Rattle.cmeaning.specs.Valid.{is_in, are_distinct, cases_of}
@@ -78,10 +79,6 @@ new_by_arms arms =
 
 -- ---- the turns of the loops
 
-not_not : (b : Bool) → not b ≡ true → b ≡ false
-not_not true h = cc
-not_not false h = refl
-
 not_false : (b : Bool) → false ≡ not b → b ≡ true
 not_false true h = refl
 not_false false h = cc
@@ -96,7 +93,7 @@ value_added set new known values i within holds before added updates =
     let x : ℕ = get_or values i 0 in
     let now : List ℕ = known ++ take i values in
     let front : known ++ take (i + 1) values ≡ now ++ x ∷ [] = one_on known values i within in
-    let absent : is_in x now ≡ false = sym (holds x) ∙ not_not (contains nat_cmp set x) (sym added) in
+    let absent : is_in x now ≡ false = sym (holds x) ∙ not-true (contains nat_cmp set x) (sym added) in
     let step : are_new now (drop i values) ≡ are_new (now ++ x ∷ []) (drop (i + 1) values) =
     at_drop_more (are_new now) values i 0 within ∙ ap (λ (b : Bool). not b && are_new (now ++ x ∷ []) (drop (i + 1) values)) absent in
     (subst (Holds new) (sym front) (holds_more set new now x holds updates), ap (λ (k : List ℕ). are_new k (drop (i + 1) values)) front ∙ sym step ∙ before)

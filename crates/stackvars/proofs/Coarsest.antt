@@ -1,6 +1,7 @@
 -- Where no end of a range cuts another range, the ranges that are accessed are the atoms.
 use Rattle.std.proofs.Common.{◌≡◌, ◌∙◌, ℕ, ◌+◌, ◌<◌, ◌≤◌, true, List, [], ◌∷◌, ◌++◌, refl, sym, ap, subst, inl, inr, ⊎_elim, ◌⊎◌, arith, Some}
-use Rattle.std.proofs.lemmas.Bool.{cases_lt}
+use Rattle.std.proofs.lemmas.Bool.{cases_lt, and_parts}
+use Rattle.std.proofs.lemmas.Option.{same_Some}
 use Rattle.pcode_model.specs.declared.listing.Varnode.{Varnode}
 use Rattle.pcode_model.specs.declared.listing.Proto.{Proto}
 use Rattle.pcode_model.specs.declared.listing.Listing.{Listing}
@@ -14,8 +15,6 @@ use Rattle.supported.specs.Ranges.{AreApart}
 use Rattle.supported.specs.Supported.{is_empty, keeps_nothing}
 use Rattle.stackvars.specs.Accessed.{range, range_at, range_of}
 use Rattle.stackvars.specs.Laws.{AccessedAreAtoms, IsUncut}
-use Rattle.stackvars.proofs.Ops.{both}
-use Rattle.stackvars.proofs.Order.{some_is}
 
 -- ---- no range is kept
 
@@ -26,7 +25,7 @@ empty (v ∷ vs) h = absurd (cc)
 no_kept : (ps : List Proto) → keeps_nothing ps ≡ true → (v : Varnode) → IsIn v (kept_ranges ps) → ⊥
 no_kept [] h v is = is
 no_kept (p ∷ ps) h v is =
-    let b = both _ _ h in
+    let b = and_parts _ _ h in
     let Q : List Varnode → Type 0 = λ vs. IsIn v (vs ++ kept_ranges ps) in
     no_kept ps b.1 v (subst Q (empty p.keep b.0) is)
 
@@ -63,8 +62,8 @@ part l u w acc = record {
 }
 
 atom_by : (l : Listing) (s : ParamStorage) (k : ℕ) (v : Varnode) → range_at l s k ≡ Some v → IsPart l [] v.space v.offset v.size → IsAtomOf l [] s k
-atom_by l (P.Register o) k v e p = let Q : Varnode → Type 0 = λ x. IsPart l [] x.space x.offset x.size in subst Q (sym (some_is (range (register_space l) o k) v e)) p
-atom_by l (P.Unique o) k v e p = let Q : Varnode → Type 0 = λ x. IsPart l [] x.space x.offset x.size in subst Q (sym (some_is (range (unique_space l) o k) v e)) p
+atom_by l (P.Register o) k v e p = let Q : Varnode → Type 0 = λ x. IsPart l [] x.space x.offset x.size in subst Q (sym (same_Some (range (register_space l) o k) v e)) p
+atom_by l (P.Unique o) k v e p = let Q : Varnode → Type 0 = λ x. IsPart l [] x.space x.offset x.size in subst Q (sym (same_Some (range (unique_space l) o k) v e)) p
 atom_by l (P.Stack o) k v e p = absurd (cc)
 
 -- ---- a part is an access
@@ -98,7 +97,7 @@ owns l u (P.Stack o) k p = absurd p
 -- ---- an atom has its range alone
 
 same_range : (s o j t p k : ℕ) (v : Varnode) → Some (range s o j) ≡ Some v → Some (range t p k) ≡ Some v → range s o j ≡ range t p k
-same_range s o j t p k v e f = some_is _ v e ∙ sym (some_is _ v f)
+same_range s o j t p k v e f = same_Some _ v e ∙ sym (same_Some _ v f)
 
 same_atom : (l : Listing) → (register_space l ≡ unique_space l → ⊥) → (s t : ParamStorage) (j k : ℕ) (v : Varnode) → range_at l s j ≡ Some v → range_at l t k ≡ Some v → (s ≡ t) × (j ≡ k)
 same_atom l ne (P.Register o) (P.Register p) j k v e f = let r = same_range _ o j _ p k v e f in (ap P.Register (ap (λ (x : Varnode). x.offset) r), ap (λ (x : Varnode). x.size) r)

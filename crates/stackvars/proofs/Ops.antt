@@ -1,6 +1,7 @@
 -- The ranges of one op, and that each op of a supported listing is supported.
-use Rattle.std.proofs.Common.{◌≡◌, ◌∙◌, ℕ, zero, suc, Bool, true, false, List, [], ◌∷◌, ◌++◌, refl, sym, ap, subst, append_assoc, Option, Some, None}
-use Rattle.std.specs.Prelude.{slice_get, cond, ◌&&◌, ◌==◌}
+use Rattle.std.proofs.Common.{◌≡◌, ◌∙◌, ℕ, zero, suc, true, false, List, [], ◌∷◌, ◌++◌, refl, sym, ap, subst, append_assoc, Option, Some, None}
+use Rattle.std.specs.Prelude.{slice_get, cond, ◌==◌}
+use Rattle.std.proofs.lemmas.Bool.{and_parts}
 use Rattle.pcode_model.specs.declared.listing.Op.{Op}
 use Rattle.pcode_model.specs.declared.listing.Place.{Place}
 use Rattle.pcode_model.specs.declared.listing.Varnode.{Varnode}
@@ -14,10 +15,6 @@ use Rattle.pcode_model.specs.Step.{all_but_first, all_read, operands}
 use Rattle.pcode_model.specs.Atoms.{further_ranges, one_range, op_ranges, ranges_read}
 use Rattle.supported.specs.Supported.{are_supported_ops, is_supported_code, is_supported_code_of, is_supported_op}
 use Rattle.stackvars.specs.Collected.{atom_of, atoms_of, op_of, past_first, read_inputs}
-
-pub both : (a b : Bool) → (a && b) ≡ true → (a ≡ true) × (b ≡ true)
-both true b h = (refl, h)
-both false b h = absurd (cc)
 
 read_all : (vs : List Varnode) → ranges_read (all_read vs) ≡ vs
 read_all [] = refl
@@ -59,7 +56,7 @@ op_pushed l op h out =
     let x : List Atom = atoms_of l a in
     let y : List Atom = atoms_of l b in
     let z : List Atom = atoms_of l d in
-    let e : ranges_read (operands l op.code op.inputs) ≡ a = reads l op.code op.inputs (both _ _ h).0 in
+    let e : ranges_read (operands l op.code op.inputs) ≡ a = reads l op.code op.inputs (and_parts _ _ h).0 in
     append_assoc (out ++ x) y z ∙ (append_assoc out x (y ++ z)
     ∙ (ap (λ (zs : List Atom). out ++ (x ++ zs)) (sym (atoms_of_both l b d))
     ∙ (ap (λ (zs : List Atom). out ++ zs) (sym (atoms_of_both l a (b ++ d)))
@@ -69,10 +66,10 @@ op_pushed l op h out =
 
 supported_slice : (l : Listing) (ops : List Op) (n : ℕ) (op : Op) → are_supported_ops l ops ≡ true → slice_get ops n ≡ Some op → is_supported_op l op ≡ true
 supported_slice l [] n op h e = absurd (cc)
-supported_slice l (x ∷ ops) zero op h e = subst (λ (y : Op). is_supported_op l y ≡ true) (same e) (both _ _ h).0 where
+supported_slice l (x ∷ ops) zero op h e = subst (λ (y : Op). is_supported_op l y ≡ true) (same e) (and_parts _ _ h).0 where
   same : Some x ≡ Some op → x ≡ op
   same k = cc
-supported_slice l (x ∷ ops) (suc n) op h e = supported_slice l ops n op (both _ _ h).1 e
+supported_slice l (x ∷ ops) (suc n) op h e = supported_slice l ops n op (and_parts _ _ h).1 e
 
 pub op_in_is : (i : Instruction) (x : Option Op) → op_of (op_in i x) ≡ x
 op_in_is i None = refl
@@ -87,8 +84,8 @@ supported_in : (l : Listing) (code : List Instruction) (a n : ℕ) (op : Op) →
 supported_in l [] a n op h e = absurd (cc)
 supported_in l (i ∷ rest) a n op h e =
     (elim (i.address == a) as (λ b. op_of (standing_of (cond b (Some i) (instruction_in rest a)) n) ≡ Some op → is_supported_op l op ≡ true) [
-      | true ↦ λ k. supported_slice l i.ops n op (both _ _ h).0 (sym (standing_op i i.ops n) ∙ k)
-      | false ↦ λ k. supported_in l rest a n op (both _ _ h).1 k
+      | true ↦ λ k. supported_slice l i.ops n op (and_parts _ _ h).0 (sym (standing_op i i.ops n) ∙ k)
+      | false ↦ λ k. supported_in l rest a n op (and_parts _ _ h).1 k
     ]) e
 
 pub supported_at : (l : Listing) (p : Place) (op : Op) → is_supported_code_of l l.code ≡ true → Some op ≡ op_of (standing l p) → is_supported_op l op ≡ true

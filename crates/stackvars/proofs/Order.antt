@@ -4,6 +4,7 @@ use Rattle.std.specs.Prelude.{cond, ◌==◌}
 use Rattle.std.specs.List.Sorted.{IsNonDecreasingBy}
 use Rattle.std.proofs.lemmas.Bool.{cases_eq, ne_eqb}
 use Rattle.std.proofs.lemmas.List.Sorted.{IsNonDecreasingBy-drop}
+use Rattle.std.proofs.lemmas.Option.{same_Some}
 use Rattle.pcode_model.specs.declared.listing.Varnode.{Varnode}
 use Rattle.pcode_model.specs.declared.listing.Listing.{Listing}
 use Rattle.pcode_model.specs.declared.storage.ParamStorage.{ParamStorage}
@@ -24,11 +25,8 @@ IsPlaced (P.Register o) = o < 2 ^ 64
 IsPlaced (P.Unique o) = o < 2 ^ 64
 IsPlaced (P.Stack o) = ⊥
 
-pub some_is : {A : Type 0} (x y : A) → Some x ≡ Some y → x ≡ y
-some_is x y h = cc
-
 pub offset_of : (s o k : ℕ) (v : Varnode) → Some (range s o k) ≡ Some v → o ≡ v.offset
-offset_of s o k v e = ap (λ (x : Varnode). x.offset) (some_is (range s o k) v e)
+offset_of s o k v e = ap (λ (x : Varnode). x.offset) (same_Some (range s o k) v e)
 
 placed : (l : Listing) (s : ParamStorage) (k : ℕ) (v : Varnode) → range_at l s k ≡ Some v → 0 < v.size → v.offset + v.size ≤ 2 ^ 64 → IsPlaced s
 placed l (P.Register o) k v e some fits = let f : o ≡ v.offset = offset_of _ o k v e in omega arith
@@ -36,16 +34,16 @@ placed l (P.Unique o) k v e some fits = let f : o ≡ v.offset = offset_of _ o k
 placed l (P.Stack o) k v e some fits = absurd (cc)
 
 pub size_of : (l : Listing) (s : ParamStorage) (k : ℕ) (v : Varnode) → range_at l s k ≡ Some v → k ≡ v.size
-size_of l (P.Register o) k v e = ap (λ (x : Varnode). x.size) (some_is _ v e)
-size_of l (P.Unique o) k v e = ap (λ (x : Varnode). x.size) (some_is _ v e)
+size_of l (P.Register o) k v e = ap (λ (x : Varnode). x.size) (same_Some _ v e)
+size_of l (P.Unique o) k v e = ap (λ (x : Varnode). x.size) (same_Some _ v e)
 size_of l (P.Stack o) k v e = absurd (cc)
 
 same_place : (l : Listing) (s : ParamStorage) (j k : ℕ) (v w : Varnode) → range_at l s j ≡ Some v → range_at l s k ≡ Some w → (v.space ≡ w.space) × (v.offset ≡ w.offset)
 same_place l (P.Register o) j k v w e f =
-    let p = some_is _ v e in let q = some_is _ w f in
+    let p = same_Some _ v e in let q = same_Some _ w f in
     (sym (ap (λ (x : Varnode). x.space) p) ∙ ap (λ (x : Varnode). x.space) q, sym (ap (λ (x : Varnode). x.offset) p) ∙ ap (λ (x : Varnode). x.offset) q)
 same_place l (P.Unique o) j k v w e f =
-    let p = some_is _ v e in let q = some_is _ w f in
+    let p = same_Some _ v e in let q = same_Some _ w f in
     (sym (ap (λ (x : Varnode). x.space) p) ∙ ap (λ (x : Varnode). x.space) q, sym (ap (λ (x : Varnode). x.offset) p) ∙ ap (λ (x : Varnode). x.offset) q)
 same_place l (P.Stack o) j k v w e f = absurd (cc)
 
@@ -100,7 +98,7 @@ accesses_one l xs sized apart known a b h k r = let x = known a h in let y = kno
 
 is_last_yes : (last : Option ℕ) (n : ℕ) → last ≡ Some n → is_last last n ≡ true
 is_last_yes None n e = absurd (cc)
-is_last_yes (Some m) n e = eq-eqb m n (some_is m n e)
+is_last_yes (Some m) n e = eq-eqb m n (same_Some m n e)
 
 is_last_from : (last : Option ℕ) (n : ℕ) → is_last last n ≡ true → last ≡ Some n
 is_last_from None n e = absurd (cc)
@@ -143,7 +141,7 @@ once_all last (x ∷ xs) one a (inl e) = subst (λ (y : Atom). IsIn y (without_r
 once_all last (x ∷ xs) one a (inr h) =
     ⊎_elim
     (λ k. inl (once_tail last x a xs k))
-    (λ k. let e : x ≡ a = one x a (inl refl) (inr h) (some_is (rank x) (rank a) k) in subst (λ (y : Atom). IsIn y (without_repeats last (x ∷ xs)) ⊎ (last ≡ Some (rank y))) e (once_head last x xs))
+    (λ k. let e : x ≡ a = one x a (inl refl) (inr h) (same_Some (rank x) (rank a) k) in subst (λ (y : Atom). IsIn y (without_repeats last (x ∷ xs)) ⊎ (last ≡ Some (rank y))) e (once_head last x xs))
     (once_all (Some (rank x)) xs (λ b d p q. one b d (inr p) (inr q)) a h)
 
 once_in : (xs : List Atom) → IsOne xs → (a : Atom) → IsIn a xs → IsIn a (without_repeats None xs)
