@@ -6,7 +6,7 @@ use Rattle.std.proofs.lemmas.Bool.Decides.{nat_tests}
 use Rattle.pcode_model.specs.Spaces.{or}
 use Rattle.listing_lines.specs.Tokens as lines
 use Rattle.cmeaning.specs.Valid as tree
-use Rattle.plain_laws.proofs.Rules.{both}
+use Rattle.op_laws.proofs.Rules.{both}
 
 and_true : (a b : Bool) → a ≡ true → b ≡ true → (a && b) ≡ true
 and_true true b e f = f
