@@ -7,4 +7,4 @@ pub mod tokens;
 
 pub use lines::split_line;
 pub use parts::{first_part, next_part};
-pub use tokens::{decimal, hexadecimal, is_name, pairs};
+pub use tokens::{decimal, digit, hexadecimal, is_name, pairs};

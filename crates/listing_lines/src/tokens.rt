@@ -35,7 +35,8 @@ fn are_name_bytes(bytes: &[u8]) -> bool
     true
 }
 
-fn digit(b: u8) -> u8
+/// What a byte is as a digit: 0 to 9, 10 to 35 for a letter of either case, and 36 for any other byte.
+pub fn digit(b: u8) -> u8
     ensures { result ≡ digit_value b }
 {
     match b {
