@@ -2,13 +2,11 @@
 
 ghost use Rattle.std.specs.Prelude.{◌≡◌, ◌+◌, ◌-◌, ◌<◌, ◌≤◌, ◌↔◌, IsTrue, ℕ, Option, Some, true};
 ghost use Rattle.bits_core.specs.declared.word.Word.{Word as AWord};
-ghost use Rattle.bits_core.specs.Value.{half as least, limit, divide_value, binary_value};
-ghost use Rattle.bits_core.specs.declared.ops.Binary.TheVariants as B;
+ghost use Rattle.bits_core.specs.Value.{half as least, limit};
 ghost use Rattle.cmeaning.specs.Do.{widths_in};
 ghost use Rattle.cmeaning.specs.Shape.{shape_of, is_right};
-ghost use Rattle.cmeaning.specs.Value as V;
-ghost use Rattle.cmeaning.specs.Value.{Meaning, meaning_of, of_one, of_two};
-ghost use Rattle.cvalue.specs.Held.{Tells, AreAlike, number_in, env_of};
+ghost use Rattle.cmeaning.specs.Value.{Meaning, meaning_of};
+ghost use Rattle.cvalue.specs.Held.{Tells, AreAlike, env_of};
 ghost use Rattle.cvalue.specs.Nodes as N;
 
 use crate::operations::{

@@ -21,7 +21,7 @@ ghost use Rattle.cmeaning.specs.Do.{widths_in};
 ghost use Rattle.cvalue.specs.Held.{AreWide};
 
 impl<'a> Variables<'a> {
-    ghost use Rattle.std.specs.Prelude.{◌≡◌, ◌<◌, IfOk, None, Some, true, ℕ};
+    ghost use Rattle.std.specs.Prelude.{◌≡◌, ◌<◌, IfOk, None, Some, true};
     ghost use Rattle.pcode_model.specs.Spaces.{put};
     ghost use Rattle.cmeaning.specs.Do.{widths_in};
     ghost use Rattle.cmeaning.specs.Shape.{shape_of, is_right};

@@ -1,5 +1,5 @@
 -- The spaces that lines name.
-use Rattle.std.proofs.Common.{◌≡◌, ◌∙◌, ℕ, suc, ◌+◌, ◌≤◌, ◌^◌, Bool, true, false, cond, List, [], ◌∷◌, refl, sym, ap, arith}
+use Rattle.std.proofs.Common.{◌≡◌, ◌∙◌, ℕ, suc, ◌+◌, ◌≤◌, ◌^◌, Bool, true, false, List, [], ◌∷◌, refl, sym, ap, arith}
 use Rattle.std.specs.Prelude.{◌&&◌, slice_get, Option, Some, IfSome, if◌then◌else◌}
 use Rattle.std.specs.Str.{bytes_eq}
 use Rattle.listing_lines.specs.Text.{Line}
@@ -8,19 +8,11 @@ use Rattle.pcode_model.specs.declared.listing.Space.{Space}
 use Rattle.pcode_model.specs.declared.listing.SpaceKind.{SpaceKind}
 use Rattle.pcode_model.specs.declared.listing.SpaceKind.TheVariants.{Constant, Ram, Register, Unique}
 use Rattle.pcode_model.specs.Ranges.{is_kind}
-use Rattle.pcode_model.specs.Spaces.{first_ram, kind_in, kind_of, number_of, register_space, same_kind, size_of, unique_space}
-use Rattle.pcode_model.specs.WellFormed.{IsWellFormed, how_many}
-use Rattle.worlds.proofs.Declared.{ram_not_constant, size_most}
+use Rattle.pcode_model.specs.Spaces.{first_ram, kind_in, kind_of, register_space, same_kind, size_of, unique_space}
+use Rattle.pcode_model.specs.WellFormed.{IsWellFormed}
+use Rattle.worlds.proofs.Declared.{kind_at, ram_not_constant, size_most}
 use Rattle.entrytext.specs.Forms.{ram_from, ram_named}
 use Rattle.entrytext.proofs.Passing.{left_true}
-
--- the space with the number of the first one of a kind is of that kind
-kind_at : (k : SpaceKind) (ss : List Space) → 1 ≤ how_many k ss → is_kind k ss (number_of k ss) ≡ true
-kind_at k [] some = absurd (omega (arith, some))
-kind_at k (s ∷ ss) some = step (same_kind k s.kind) refl some (kind_at k ss) where
-  step : (b : Bool) → same_kind k s.kind ≡ b → 1 ≤ cond b (suc (how_many k ss)) (how_many k ss) → (1 ≤ how_many k ss → is_kind k ss (number_of k ss) ≡ true) → is_kind k (s ∷ ss) (cond b 0 (suc (number_of k ss))) ≡ true
-  step true e some below = e
-  step false e some below = below some
 
 register_not_constant : (k : SpaceKind) → same_kind Register k ≡ true → same_kind Constant k ≡ false
 register_not_constant Constant e = sym e

@@ -1,20 +1,10 @@
 //! Words of up to 16 bytes as they are written.
 
 ghost use Rattle.std.specs.Prelude.{◌≡◌};
-ghost use Rattle.std.specs.Char.{digit_value};
 ghost use Rattle.listing_lines.specs.Tokens.{number_of};
 ghost use Rattle.entrytext.specs.Forms.{word_of};
 
-fn digit(b: u8) -> u8
-    ensures { result ≡ digit_value b }
-{
-    match b {
-        b'0'..=b'9' => b - 48,
-        b'A'..=b'Z' => b - 55,
-        b'a'..=b'z' => b - 87,
-        _ => 36,
-    }
-}
+use listing_lines::digit;
 
 // The number that 1 to 32 hexadecimal digits write.
 fn number(digits: &[u8]) -> Option<u128>

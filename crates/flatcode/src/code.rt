@@ -1,7 +1,7 @@
 //! Making flat code, in the order of the text.
 
-ghost use Rattle.std.specs.Prelude.{◌≡◌, ◌++◌, length, map, IfOk, OnOk};
-ghost use Rattle.cmeaning.specs.Flat.{all_labels, all_steps, arm_cases, arm_labels, arm_spans, arm_steps, cases_at, flat_of, piece_of, pieces_of, returns_by, spans as span_sum};
+ghost use Rattle.std.specs.Prelude.{◌≡◌, ◌++◌, map, IfOk, OnOk};
+ghost use Rattle.cmeaning.specs.Flat.{arm_cases, cases_at, flat_of, piece_of, pieces_of, returns_by};
 ghost use Rattle.cmeaning.specs.declared.tree.Stmt.TheVariants as S;
 ghost use Rattle.flatcode.specs.Steps.{arm_of, arms_of, case_of, code_of};
 ghost use Rattle.flatcode.specs.Adds.{Puts, PutsAll, PutsArm, PutsArms};

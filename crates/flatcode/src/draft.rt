@@ -1,6 +1,6 @@
 //! Flat code that is being made.
 
-ghost use Rattle.std.specs.Prelude.{◌≡◌, ◌∷◌, [], length, OnOk};
+ghost use Rattle.std.specs.Prelude.{◌∷◌, [], length, OnOk};
 ghost use Rattle.flatcode.specs.Steps.{flat_step};
 ghost use Rattle.flatcode.specs.Adds.{Adds};
 

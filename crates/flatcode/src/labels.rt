@@ -1,6 +1,6 @@
 //! The table of labels.
 
-ghost use Rattle.std.specs.Prelude.{◌≡◌, ◌==◌, ◌<◌, ◌+◌, ℕ, if◌then◌else◌, length, map, IfOk, OnOk};
+ghost use Rattle.std.specs.Prelude.{◌≡◌, ◌==◌, ◌<◌, ℕ, if◌then◌else◌, length, map, IfOk, OnOk};
 ghost use Rattle.cmeaning.specs.Flat.{found_in};
 ghost use Rattle.flatcode.specs.Steps.{place_in};
 ghost use Rattle.flatcode.specs.Adds.{pair_of};

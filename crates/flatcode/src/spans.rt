@@ -1,6 +1,6 @@
 //! How many steps statements make, and which leave their body.
 
-ghost use Rattle.std.specs.Prelude.{◌≡◌, ◌+◌, not, IfOk, false};
+ghost use Rattle.std.specs.Prelude.{◌≡◌, ◌+◌, IfOk, false};
 ghost use Rattle.cmeaning.specs.Flat.{arm_span as span_of_arm, arm_spans, last_leaves, piece_of, pieces_of, returns_by, spans as span_sum};
 ghost use Rattle.flatcode.specs.Steps.{arm_of, arms_of};
 

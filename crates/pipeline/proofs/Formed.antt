@@ -28,7 +28,7 @@ use Rattle.pcodetext.specs.Formed.{HasKnownOps, IsKnown, IsKnownOp, IsRead}
 use Rattle.supported.specs.Ranges.{code_ranges, is_local, is_local_kind, local_of, locals_of, named_ranges, op_ranges, ops_ranges, output_of, result_range, storage_range, storage_ranges}
 use Rattle.plain_laws.proofs.Accessed.{in_either}
 use Rattle.plain_laws.proofs.Formed.{IsFormed, IsInput, IsWritten, Inside}
-use Rattle.plain_laws.proofs.Rules.{both, breaks_none, neither}
+use Rattle.op_laws.proofs.Rules.{both, breaks_none, neither}
 use Rattle.plain_laws.proofs.Standing.{StandsIn}
 use Rattle.pipeline.proofs.Spaces.{constant_is, first_constant, kind_of_first, low, only}
 

@@ -7,7 +7,7 @@ use Rattle.std.proofs.lemmas.Bool.{and_from}
 use Rattle.pcode_model.specs.Spaces.{or}
 use Rattle.listing_lines.specs.Tokens as lines
 use Rattle.cmeaning.specs.Valid as tree
-use Rattle.plain_laws.proofs.Rules.{both}
+use Rattle.op_laws.proofs.Rules.{both}
 
 turned : (a b c : Bool) → (a || (b || c)) ≡ true → or b (or c a) ≡ true
 turned true true c h = refl

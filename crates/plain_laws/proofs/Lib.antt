@@ -1,4 +1,3 @@
-pub mod Rules
 pub mod Standing
 pub mod Formed
 pub mod Accessed

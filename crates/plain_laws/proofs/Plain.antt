@@ -1,10 +1,9 @@
 -- What stands at a reached place of a supported listing has the form that the plain lowering asks for.
-use Rattle.std.proofs.Common.{◌≡◌, ◌≤◌, ◌<◌, ◌+◌, ℕ, suc, Bool, true, false, List, [], ◌∷◌, Option, Some, None, length, refl, inl, inr, sym, subst, arith}
-use Rattle.std.specs.Prelude.{◌&&◌, ◌==◌, if◌then◌else◌, nat_le, nat_lt, not}
+use Rattle.std.proofs.Common.{◌≡◌, ◌≤◌, ◌<◌, ℕ, suc, Bool, true, false, List, [], ◌∷◌, Option, Some, None, length, refl, inl, inr, sym, subst, arith}
+use Rattle.std.specs.Prelude.{◌&&◌, if◌then◌else◌, nat_le, nat_lt, not}
 use Rattle.std.proofs.lemmas.Bool.Decides.{nat_tests}
-use Rattle.bits_core.specs.Value.{limit, IsUnarySized, IsBinarySized}
+use Rattle.bits_core.specs.Value.{limit}
 use Rattle.bits_core.specs.declared.ops.Unary.{Unary}
-use Rattle.bits_core.specs.declared.ops.Unary.TheVariants as U
 use Rattle.bits_core.specs.declared.ops.Binary.{Binary}
 use Rattle.bits_core.specs.declared.ops.Binary.TheVariants as B
 use Rattle.pcode_model.specs.declared.opcode.Opcode.{Opcode}
@@ -25,69 +24,17 @@ use Rattle.pcode_model.specs.Spaces.{kind_of, same_kind}
 use Rattle.pcode_model.specs.Places.{Standing, Nothing, Passes, Does, standing}
 use Rattle.pcode_model.specs.Step.{all_but_first, all_read, operands, proto_of, size_out}
 use Rattle.pcode_model.specs.Atoms.{Accesses, further_ranges, one_range, op_ranges, ranges_in, ranges_read}
-use Rattle.pcode_model.specs.Rules.{any_wide, binary_sized, breaks, first_bad, has_operands, has_output, input_ranges, is_too_wide, names_address, operands_of, output_wide, past_first, rules, sizes_fit, unary_sized}
+use Rattle.pcode_model.specs.Rules.{any_wide, breaks, first_bad, has_operands, has_output, input_ranges, is_too_wide, names_address, operands_of, output_wide, past_first, rules, sizes_fit}
 use Rattle.supported.specs.Ranges.{code_ranges, is_local, is_local_kind, named_ranges, result_range, storage_ranges}
 use Rattle.supported.specs.Supported.{IsSupported, is_ram, is_supported_binary, is_supported_code, none_in_ram, output_off_ram, read_inputs, rest_of}
 use Rattle.plaincode.specs.Form.{HasNode, IsOperand, IsOperandBy, IsOutput, IsOutputBy, IsPlain, IsPlainOp, IsResult}
-use Rattle.plain_laws.proofs.Rules.{both, breaks_none, neither}
+use Rattle.op_laws.proofs.Rules.{both, breaks_none, neither}
+use Rattle.op_laws.proofs.Sizes.{binary_is, equal, unary_is}
 use Rattle.plain_laws.proofs.Standing.{StandsIn, stands_in, supported_in}
 use Rattle.plain_laws.proofs.Formed.{IsFormed, IsInput}
 use Rattle.plain_laws.proofs.Accessed.{behind, in_front, named_op}
 
 -- ---- sizes
-
-equal : (m n : ℕ) → (m == n) ≡ true → m ≡ n
-equal m n h = grind (arith, nat_tests)
-
-below : (m n : ℕ) → nat_lt m n ≡ true → m < n
-below m n h = grind (arith, nat_tests)
-
-unary_is : (op : Unary) (v w : ℕ) → unary_sized op v w ≡ true → IsUnarySized op v w
-unary_is U.Copy v w h = equal v w h
-unary_is U.Negate v w h = equal v w h
-unary_is U.Complement v w h = equal v w h
-unary_is U.ZeroExtend v w h = below v w h
-unary_is U.SignExtend v w h = below v w h
-unary_is U.CountOnes v w h = tt
-unary_is U.CountLeadingZeros v w h = tt
-unary_is U.BoolNegate v w h = (equal v 1 (both _ _ h).0, equal w 1 (both _ _ h).1)
-
-same_three : (n u v w : ℕ) → (u == n && (v == n && w == n)) ≡ true → (u ≡ n) × ((v ≡ n) × (w ≡ n))
-same_three n u v w h = let p = both _ _ h in let q = both _ _ p.1 in (equal u n p.0, (equal v n q.0, equal w n q.1))
-
-two_of : (u v w : ℕ) → (u == w && (v == w && w == w)) ≡ true → (u ≡ w) × (v ≡ w)
-two_of u v w h = let p = same_three w u v w h in (p.0, p.1.0)
-
-compared : (u v w : ℕ) → (u == v && w == 1) ≡ true → (u ≡ v) × (w ≡ 1)
-compared u v w h = let p = both _ _ h in (equal u v p.0, equal w 1 p.1)
-
-bytes_of : (u v w : ℕ) → (u == 1 && (v == 1 && w == 1)) ≡ true → (u ≡ 1) × (v ≡ 1) × (w ≡ 1)
-bytes_of u v w h = let p = same_three 1 u v w h in (p.0, p.1.0, p.1.1)
-
-binary_is : (op : Binary) (u v w : ℕ) → binary_sized op u v w ≡ true → IsBinarySized op u v w
-binary_is B.Piece u v w h = equal w (u + v) h
-binary_is B.Subpiece u v w h = tt
-binary_is B.Add u v w h = two_of u v w h
-binary_is B.Subtract u v w h = two_of u v w h
-binary_is B.Multiply u v w h = two_of u v w h
-binary_is B.And u v w h = two_of u v w h
-binary_is B.Or u v w h = two_of u v w h
-binary_is B.Xor u v w h = two_of u v w h
-binary_is B.Equal u v w h = compared u v w h
-binary_is B.NotEqual u v w h = compared u v w h
-binary_is B.Less u v w h = compared u v w h
-binary_is B.LessEqual u v w h = compared u v w h
-binary_is B.SignedLess u v w h = compared u v w h
-binary_is B.SignedLessEqual u v w h = compared u v w h
-binary_is B.Carry u v w h = compared u v w h
-binary_is B.SignedCarry u v w h = compared u v w h
-binary_is B.SignedBorrow u v w h = compared u v w h
-binary_is B.Left u v w h = equal u w h
-binary_is B.Right u v w h = equal u w h
-binary_is B.SignedRight u v w h = equal u w h
-binary_is B.BoolAnd u v w h = bytes_of u v w h
-binary_is B.BoolOr u v w h = bytes_of u v w h
-binary_is B.BoolXor u v w h = bytes_of u v w h
 
 node_of : (op : Binary) → is_supported_binary op ≡ true → HasNode op
 node_of B.Subpiece h = absurd (cc)

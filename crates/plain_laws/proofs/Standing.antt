@@ -8,7 +8,7 @@ use Rattle.pcode_model.specs.declared.listing.Listing.{Listing}
 use Rattle.pcode_model.specs.Flow.{IsIn}
 use Rattle.pcode_model.specs.Places.{Does, instruction_in, op_in, standing, standing_in, standing_of}
 use Rattle.supported.specs.Supported.{are_supported_ops, is_supported_code_of, is_supported_op}
-use Rattle.plain_laws.proofs.Rules.{both}
+use Rattle.op_laws.proofs.Rules.{both}
 
 got_in : {A : Type 0} (xs : List A) (n : ℕ) (x : A) → slice_get xs n ≡ Some x → IsIn x xs
 got_in [] n x h = absurd (cc)

@@ -1,4 +1,4 @@
-//! Tests of runs, from texts to traces.
+//! Tests of runs, from texts to traces, of the values of expressions and of flat code.
 #![tactic(auto)]
 
 #[cfg(test)]

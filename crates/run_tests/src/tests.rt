@@ -1,4 +1,6 @@
+mod flat;
 mod texts;
+mod values;
 
 use cread::read_c;
 use pcodetext::read_listing;

@@ -1,25 +1,16 @@
 -- The spaces and the stack pointer of a listing that can run.
-use Rattle.std.proofs.Common.{◌≡◌, suc, ◌+◌, ◌≤◌, ◌^◌, Bool, true, false, cond, List, [], ◌∷◌, Option, Some, refl, sym, subst, arith}
+use Rattle.std.proofs.Common.{◌≡◌, ◌+◌, ◌≤◌, ◌^◌, true, false, Option, Some, refl, sym, subst, arith}
 use Rattle.std.specs.Prelude.{nat_lt, slice_get, IfSome}
 use Rattle.std.proofs.lemmas.Bool.Decides.{nat_tests}
 use Rattle.pcode_model.specs.declared.listing.Listing.{Listing}
-use Rattle.pcode_model.specs.declared.listing.Space.{Space}
 use Rattle.pcode_model.specs.declared.listing.SpaceKind.{SpaceKind}
 use Rattle.pcode_model.specs.declared.listing.SpaceKind.TheVariants.{Constant, Ram, Register, Unique}
 use Rattle.pcode_model.specs.declared.listing.Varnode.{Varnode}
-use Rattle.pcode_model.specs.Spaces.{kind_in, size_in, size_of, same_kind, number_of, first_ram}
-use Rattle.pcode_model.specs.WellFormed.{AreSpaces, IsRegister, how_many}
-use Rattle.worlds.proofs.Declared.{size_most, ram_not_constant}
+use Rattle.pcode_model.specs.Spaces.{kind_in, size_in, size_of, same_kind, first_ram}
+use Rattle.pcode_model.specs.WellFormed.{AreSpaces, IsRegister}
+use Rattle.worlds.proofs.Declared.{kind_at, size_most, ram_not_constant}
 use Rattle.whole_memory.specs.Course.{CanRun}
 use Rattle.runp.specs.Used.{IsInside, IsStack}
-
--- the space with the number of the first one of a kind is of that kind
-pub kind_at : (k : SpaceKind) (ss : List Space) → 1 ≤ how_many k ss → same_kind k (kind_in (slice_get ss (number_of k ss))) ≡ true
-kind_at k [] some = absurd (omega (arith, some))
-kind_at k (s ∷ ss) some = step (same_kind k s.kind) refl some (kind_at k ss) where
-  step : (b : Bool) → same_kind k s.kind ≡ b → 1 ≤ cond b (suc (how_many k ss)) (how_many k ss) → (1 ≤ how_many k ss → same_kind k (kind_in (slice_get ss (number_of k ss))) ≡ true) → same_kind k (kind_in (slice_get (s ∷ ss) (cond b 0 (suc (number_of k ss))))) ≡ true
-  step true e some below = e
-  step false e some below = below some
 
 pub ram_size : (l : Listing) → CanRun l → size_of l (first_ram l) ≤ 2 ^ 64
 ram_size l can = size_most l.spaces (first_ram l) can.formed.spaces (ram_not_constant (kind_in (slice_get l.spaces (first_ram l))) (kind_at Ram l.spaces can.formed.complete.ram))

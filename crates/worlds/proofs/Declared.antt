@@ -19,6 +19,14 @@ number_below k (s ∷ ss) some = step (same_kind k s.kind) some (number_below k 
   step true some below = omega arith
   step false some below = omega (arith, below some)
 
+-- the space with the number of the first one of a kind is of that kind
+pub kind_at : (k : SpaceKind) (ss : List Space) → 1 ≤ how_many k ss → same_kind k (kind_in (slice_get ss (number_of k ss))) ≡ true
+kind_at k [] some = absurd (omega (arith, some))
+kind_at k (s ∷ ss) some = step (same_kind k s.kind) refl some (kind_at k ss) where
+  step : (b : Bool) → same_kind k s.kind ≡ b → 1 ≤ cond b (suc (how_many k ss)) (how_many k ss) → (1 ≤ how_many k ss → same_kind k (kind_in (slice_get ss (number_of k ss))) ≡ true) → same_kind k (kind_in (slice_get (s ∷ ss) (cond b 0 (suc (number_of k ss))))) ≡ true
+  step true e some below = e
+  step false e some below = below some
+
 size_small : (n : ℕ) → n ≤ 8 → 256 ^ n ≤ 2 ^ 64
 size_small n few =
     let most : 256 ^ n ≤ 256 ^ 8 = pow-le-pow_right (lit< tt) {i = n} {j = 8} few in
