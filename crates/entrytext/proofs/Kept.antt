@@ -3,6 +3,7 @@ use Rattle.std.proofs.Common.{◌≡◌, ℕ, ◌+◌, ◌<◌, ◌≤◌, true,
 use Rattle.std.specs.Prelude.{Option, Some, None, IfSome}
 use Rattle.std.specs.List.{AllByRecursion}
 use Rattle.std.specs.Option.{is_none, option_map, option_to_list}
+use Rattle.std.proofs.lemmas.Bool.{ltb-false}
 use Rattle.pcode_model.specs.declared.listing.Listing.{Listing}
 use Rattle.pcode_model.specs.declared.listing.SpaceKind.TheVariants.{Ram}
 use Rattle.pcode_model.specs.Ranges.{is_kind}
@@ -19,7 +20,7 @@ use Rattle.entrytext.specs.Lies.{AnswerLiesIn, IsIn, IsInRam, IsInside, IsOfStat
 use Rattle.entrytext.specs.Meaning.{after, bytes_from, bytes_in, number, with_part}
 use Rattle.entrytext.proofs.Bytes.{IsSmall, from_all, none_at}
 use Rattle.entrytext.proofs.Good.{IsGood, IsLine, IsOfPart}
-use Rattle.entrytext.proofs.Passing.{AllFalse, all_false, all_joined, lt_false, never}
+use Rattle.entrytext.proofs.Passing.{AllFalse, all_false, all_joined, never}
 use Rattle.entrytext.proofs.Named.{IsReal}
 
 pub record IsKept (l : Listing) (s : Said) : Type 0 where
@@ -39,7 +40,7 @@ state_bytes l None offset bytes real small known leaves free = absurd (never kno
 state_bytes l (Some n) offset bytes real small known leaves free = from_all (IsOfState l) n bytes offset each small
   where
     fits : offset + length bytes ≤ size_of l n
-    fits = lt_false _ _ leaves
+    fits = ltb-false _ _ leaves
 
     each : (i b : ℕ) → i < length bytes → b < 256 → IsOfState l (record { space = n; offset = offset + i; value = b })
     each i b within less = record { inside = inside l n offset i b (length bytes) fits within less; space = real; free = none_at (size_of l n) (is_fixed l n) (length bytes) offset fits free i within }
@@ -50,7 +51,7 @@ in_bytes l m None offset bytes is small known leaves = absurd (never known)
 in_bytes l m (Some n) offset bytes is small known leaves = from_all (IsIn l m) n bytes offset each small
   where
     each : (i b : ℕ) → i < length bytes → b < 256 → IsIn l m (record { space = n; offset = offset + i; value = b })
-    each i b within less = record { inside = inside l n offset i b (length bytes) (lt_false _ _ leaves) within less; space = is }
+    each i b within less = record { inside = inside l n offset i b (length bytes) (ltb-false _ _ leaves) within less; space = is }
 
 ram_bytes : (l : Listing) (o : Option ℕ) (offset : ℕ) (bytes : List ℕ) → IfSome o (λ n. is_kind Ram l.spaces n ≡ true) → AllByRecursion IsSmall bytes → is_none o ≡ false
     → leaves_known l o offset (length bytes) ≡ false → AllByRecursion (IsInRam l) (bytes_from (number o) offset bytes)
@@ -58,7 +59,7 @@ ram_bytes l None offset bytes is small known leaves = absurd (never known)
 ram_bytes l (Some n) offset bytes is small known leaves = from_all (IsInRam l) n bytes offset each small
   where
     each : (i b : ℕ) → i < length bytes → b < 256 → IsInRam l (record { space = n; offset = offset + i; value = b })
-    each i b within less = record { inside = inside l n offset i b (length bytes) (lt_false _ _ leaves) within less; ram = is }
+    each i b within less = record { inside = inside l n offset i b (length bytes) (ltb-false _ _ leaves) within less; ram = is }
 
 -- ---- answers
 

@@ -1,6 +1,6 @@
 -- In a listing without a bad op each op breaks no rule.
 use Rattle.std.proofs.Common.{◌≡◌, ◌⊎◌, ℕ, suc, Bool, true, false, List, [], ◌∷◌, Option, Some, None, refl, inl, inr, sym, subst}
-use Rattle.std.specs.Prelude.{◌&&◌, if◌then◌else◌}
+use Rattle.std.specs.Prelude.{if◌then◌else◌}
 use Rattle.pcode_model.specs.declared.listing.Op.{Op}
 use Rattle.pcode_model.specs.declared.listing.Instruction.{Instruction}
 use Rattle.pcode_model.specs.declared.listing.Listing.{Listing}
@@ -9,10 +9,6 @@ use Rattle.pcode_model.specs.declared.rules.OpFault.{OpFault}
 use Rattle.pcode_model.specs.Flow.{IsIn}
 use Rattle.pcode_model.specs.Spaces.{or}
 use Rattle.pcode_model.specs.Rules.{at_place, breaks, first_bad, first_bad_in, first_bad_of, first_broken, first_broken_of, rules}
-
-pub both : (a b : Bool) → (a && b) ≡ true → (a ≡ true) × (b ≡ true)
-both true b h = (refl, h)
-both false b h = absurd (cc)
 
 pub neither : (a b : Bool) → or a b ≡ false → (a ≡ false) × (b ≡ false)
 neither true b h = absurd (cc)

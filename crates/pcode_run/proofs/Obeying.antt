@@ -5,7 +5,7 @@ use Rattle.std.specs.List.{AllByRecursion}
 use Rattle.std.proofs.lemmas.Bool.Decides.{nat_tests}
 use Rattle.std.proofs.Math.Nat.{pow-le-pow_right}
 use Rattle.std.proofs.Math.Seq.{take-length}
-use Rattle.std.proofs.lemmas.Bool.{ltb-false}
+use Rattle.std.proofs.lemmas.Bool.{ltb-false, and_parts}
 use Rattle.bits_core.specs.declared.ops.Unary.{Unary}
 use Rattle.bits_core.specs.declared.ops.Binary.{Binary}
 use Rattle.bits_core.specs.declared.ops.Divide.{Divide}
@@ -26,7 +26,7 @@ use Rattle.pcode_model.specs.Rules.{any_leaves, any_wide, breaks, has_operands, 
 use Rattle.pcode_model.specs.Spaces.{kind_in, kind_of, or, same_kind, size_in, size_of}
 use Rattle.pcode_model.specs.Step.{size_out, varnode_at}
 use Rattle.pcode_model.specs.WellFormed.{AreSpaces, IsDeclared, IsOperand}
-use Rattle.op_laws.proofs.Rules.{both, neither, none_broken}
+use Rattle.op_laws.proofs.Rules.{neither, none_broken}
 use Rattle.op_laws.proofs.Sizes.{binary_is, same_three, unary_is}
 use Rattle.worlds.proofs.Declared.{ram_not_constant, size_most}
 use Rattle.runp.specs.Used.{IsInside, IsUsed}
@@ -115,7 +115,7 @@ module _ (l : Listing) (op : Op) (code : Opcode) (kind : op.code ≡ code) (obey
   sized = let P : Opcode → Type 0 = λ c. sizes_fit c (size_out op.out) op.inputs ≡ true in subst P kind (not_not _ (keeps SizeRule (inr (inr (inr (inr (inr (inr (inr (inl refl))))))))))
 
   pub placed : inputs_stand l code op.inputs ≡ true
-  placed = let P : Opcode → Type 0 = λ c. inputs_stand l c op.inputs ≡ true in subst P kind (both _ _ (not_not _ (keeps BadSpace (inr (inr (inr (inr (inl refl)))))))).1
+  placed = let P : Opcode → Type 0 = λ c. inputs_stand l c op.inputs ≡ true in subst P kind (and_parts _ _ (not_not _ (keeps BadSpace (inr (inr (inr (inr (inl refl)))))))).1
 
   narrow : or (any_wide (input_ranges code op.inputs)) (output_wide op.out) ≡ false
   narrow = let P : Opcode → Type 0 = λ c. or (any_wide (input_ranges c op.inputs)) (output_wide op.out) ≡ false in subst P kind (keeps TooWide (inr (inr (inr (inr (inr (inl refl)))))))
@@ -159,8 +159,8 @@ module _ (l : Listing) (op : Op) (code : Opcode) (kind : op.code ≡ code) (obey
 module _ (op : Op) where
   pub least : (n m : ℕ) (o : _) → has_operands (record { least = n; most = m; output = o }) op.out (length op.inputs) ≡ true → (n ≤ length op.inputs) × ((length op.inputs ≤ m) × (has_output o op.out ≡ true))
   least n m o h =
-      let p = both _ _ h in
-      let q = both _ _ p.1 in
+      let p = and_parts _ _ h in
+      let q = and_parts _ _ p.1 in
       let a : nat_le n (length op.inputs) ≡ true = p.0 in
       let b : nat_le (length op.inputs) m ≡ true = q.0 in
       (grind (arith, nat_tests, a), (grind (arith, nat_tests, b), q.1))
@@ -262,7 +262,7 @@ module _ (l : Listing) (op : Op) (obeys : Obeys l op) (good : AreSpaces l.spaces
   load_output kind = let n = least op 2 2 output.Has (counted l op O.Load kind obeys) in output_of l op (out_used l op O.Load kind obeys good) n.1.1
 
   pub load_ram : op.code ≡ O.Load → same_kind Ram (kind_of l (varnode_at op.inputs 0).offset) ≡ true
-  load_ram kind = (both _ _ (placed l op O.Load kind obeys)).1
+  load_ram kind = (and_parts _ _ (placed l op O.Load kind obeys)).1
 
   -- and a STORE: a ram space's number, an offset and a word
   pub store_inputs : op.code ≡ O.Store → (length op.inputs ≡ 3) × (IsUsed l (varnode_at op.inputs 1) × IsUsed l (varnode_at op.inputs 2))
@@ -272,7 +272,7 @@ module _ (l : Listing) (op : Op) (obeys : Obeys l op) (good : AreSpaces l.spaces
       (omega (arith, n.0, n.1.0), (second_used l op.inputs all (omega (arith, n.0)), third_used l op.inputs all n.0))
 
   pub store_ram : op.code ≡ O.Store → same_kind Ram (kind_of l (varnode_at op.inputs 0).offset) ≡ true
-  store_ram kind = (both _ _ (placed l op O.Store kind obeys)).1
+  store_ram kind = (and_parts _ _ (placed l op O.Store kind obeys)).1
 
   pub call_some : op.code ≡ O.Call → 1 ≤ length op.inputs
   call_some kind = (least op 1 1 output.Lacks (counted l op O.Call kind obeys)).0

@@ -2,7 +2,7 @@
 use Rattle.std.proofs.Common.{◌≡◌, ◌==◌, ℕ, Bool, true, false, cond, List, [], ◌∷◌, Option, Some, IsSome, refl, subst}
 use Rattle.std.specs.Prelude.{◌&&◌, not}
 use Rattle.std.specs.List.{AllByRecursion}
-use Rattle.std.proofs.lemmas.Bool.{eqb-true}
+use Rattle.std.proofs.lemmas.Bool.{eqb-true, and_parts}
 use Rattle.pcode_model.specs.declared.listing.Instruction.{Instruction}
 use Rattle.pcode_model.specs.declared.listing.Listing.{Listing}
 use Rattle.pcode_model.specs.declared.listing.Op.{Op}
@@ -10,7 +10,6 @@ use Rattle.pcode_model.specs.declared.listing.Place.{Place}
 use Rattle.pcode_model.specs.Places.{Does, Standing, standing}
 use Rattle.pcode_model.specs.Spaces.{first_ram, or}
 use Rattle.pcode_model.specs.Step.{varnode_at}
-use Rattle.op_laws.proofs.Rules.{both}
 use Rattle.whole_memory.specs.declared.frame.Frame.{Frame}
 use Rattle.whole_memory.specs.declared.frame.OwnAccess.{OwnAccess}
 use Rattle.whole_memory.specs.Frame.{frame_of, own_in}
@@ -23,8 +22,8 @@ in_space false m n is h = absurd (cc)
 
 here : (l : Listing) (a : OwnAccess) (p : Place) (i : Instruction) (op : Op) → lies_in_ram l a ≡ true → (a.place.address == p.address && (a.place.index == p.index && a.argument == 0)) ≡ true → standing l p ≡ Does i op → by_pointer op.code ≡ true → (varnode_at op.inputs 0).offset ≡ first_ram l
 here l a p i op lies is stands pointer =
-    let x = both _ _ is in
-    let y = both _ _ x.1 in
+    let x = and_parts _ _ is in
+    let y = and_parts _ _ x.1 in
     let P : Bool → Type 0 = λ b. cond b (accesses (first_ram l) (standing l a.place)) true ≡ true in
     let Q : Place → Type 0 = λ q. accesses (first_ram l) (standing l q) ≡ true in
     let R : Standing → Type 0 = λ s. accesses (first_ram l) s ≡ true in

@@ -3,7 +3,7 @@ use Rattle.std.proofs.Common.{◌≡◌, ◌≤◌, ◌<◌, ◌+◌, ◌^◌, �
 use Rattle.std.specs.Prelude.{◌&&◌, ◌==◌, if◌then◌else◌, not, slice_get, IfSome}
 use Rattle.std.specs.List.{AllByRecursion}
 use Rattle.std.proofs.lemmas.Bool.Decides.{nat_tests}
-use Rattle.std.proofs.lemmas.Bool.{not-false, not-true, ltb-false, eqb-true}
+use Rattle.std.proofs.lemmas.Bool.{not-false, not-true, ltb-false, eqb-true, and_parts}
 use Rattle.pcode_model.specs.declared.listing.Instruction.{Instruction}
 use Rattle.pcode_model.specs.declared.listing.Listing.{Listing}
 use Rattle.pcode_model.specs.declared.listing.Op.{Op}
@@ -28,7 +28,7 @@ use Rattle.pcodetext.specs.Formed.{HasKnownOps, IsKnown, IsKnownOp, IsRead}
 use Rattle.supported.specs.Ranges.{code_ranges, is_local, is_local_kind, local_of, locals_of, named_ranges, op_ranges, ops_ranges, output_of, result_range, storage_range, storage_ranges}
 use Rattle.plain_laws.proofs.Accessed.{in_either}
 use Rattle.plain_laws.proofs.Formed.{IsFormed, IsInput, IsWritten, Inside}
-use Rattle.op_laws.proofs.Rules.{both, breaks_none, neither}
+use Rattle.op_laws.proofs.Rules.{breaks_none, neither}
 use Rattle.plain_laws.proofs.Standing.{StandsIn}
 use Rattle.pipeline.proofs.Spaces.{constant_is, first_constant, kind_of_first, low, only}
 
@@ -261,11 +261,11 @@ module _ (l : Listing) (read : IsRead l) (good : first_bad l ≡ None) where
     output v is =
         let operand = one_in IsOperand op.out formed.out v is in
         let small = one_in (IsKnown l.spaces) op.out known.out v is in
-        record { some = operand.some; variable = λ e. no_output_constant op.out (not-true _ (both _ _ spaces).0) v is (constant_is l.spaces read.formed.spaces v.space small e) }
+        record { some = operand.some; variable = λ e. no_output_constant op.out (not-true _ (and_parts _ _ spaces).0) v is (constant_is l.spaces read.formed.spaces v.space small e) }
 
     input_inside : (v : Varnode) → Local l op.inputs v → Inside l v
     input_inside v h =
-        let at = looked_at op.code op.inputs (both _ _ spaces).1 v h.local h.is in
+        let at = looked_at op.code op.inputs (and_parts _ _ spaces).1 v h.local h.is in
         let stays = stays_in l (input_ranges op.code op.inputs) (neither _ _ (neither _ _ leaving).1).0 v at in
         inside v h.local (input v h.is).some (narrow_in (input_ranges op.code op.inputs) (neither _ _ wide).0 v at) (local_stays v h.local stays)
 

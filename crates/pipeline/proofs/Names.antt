@@ -3,11 +3,10 @@ use Rattle.std.proofs.Common.{◌≡◌, ℕ, suc, Bool, true, false, List, [], 
 use Rattle.std.specs.Prelude.{◌==◌, ◌&&◌, ◌||◌, nat_le, IsTrue}
 use Rattle.std.specs.List.{list_all}
 use Rattle.std.proofs.lemmas.Bool.Decides.{nat_tests}
-use Rattle.std.proofs.lemmas.Bool.{and_from}
+use Rattle.std.proofs.lemmas.Bool.{and_from, and_parts}
 use Rattle.pcode_model.specs.Spaces.{or}
 use Rattle.listing_lines.specs.Tokens as lines
 use Rattle.cmeaning.specs.Valid as tree
-use Rattle.op_laws.proofs.Rules.{both}
 
 turned : (a b c : Bool) → (a || (b || c)) ≡ true → or b (or c a) ≡ true
 turned true true c h = refl
@@ -30,7 +29,7 @@ byte_is b h = by_letter (lines.is_letter b) (tree.is_letter b) (nat_le 48 b && n
 
 bytes_are : (bs : List ℕ) → list_all lines.is_name_byte bs ≡ true → tree.all_letters_or_digits bs ≡ true
 bytes_are [] h = refl
-bytes_are (b ∷ bs) h = let p = both _ _ h in and_from _ _ (byte_is b p.0) (bytes_are bs p.1)
+bytes_are (b ∷ bs) h = let p = and_parts _ _ h in and_from _ _ (byte_is b p.0) (bytes_are bs p.1)
 
 one_more : (n : ℕ) → nat_le n 63 ≡ true → nat_le (suc n) 64 ≡ true
 one_more n h = grind (arith, nat_tests)
@@ -45,7 +44,7 @@ first_is b h = by_letter (tree.is_letter b) (nat_le 48 b && nat_le b 57) (letter
 pub name_is : (name : List ℕ) → lines.is_name name ≡ true → IsTrue (tree.is_name name)
 name_is [] h = absurd (cc)
 name_is (b ∷ bs) h =
-    let p = both _ _ h in
-    let q = both _ _ p.1 in
+    let p = and_parts _ _ h in
+    let q = and_parts _ _ p.1 in
     let all = and_from _ _ (first_is b p.0) (bytes_are bs q.1) in
     and_from _ _ (letter_is b p.0) (and_from _ _ all (one_more (length bs) q.0))

@@ -2,6 +2,7 @@
 -- space, and is equal to or apart from every other.
 use Rattle.std.proofs.Common.{◌≡◌, ◌⊎◌, ℕ, Bool, true, false, List, [], ◌∷◌, ◌++◌, Option, Some, None, refl, inl, inr, sym, subst}
 use Rattle.std.specs.Prelude.{if◌then◌else◌}
+use Rattle.std.proofs.lemmas.Bool.{and_parts}
 use Rattle.pcode_model.specs.declared.opcode.Opcode.{Opcode}
 use Rattle.pcode_model.specs.declared.opcode.Opcode.TheVariants as O
 use Rattle.pcode_model.specs.declared.listing.SpaceKind.{SpaceKind}
@@ -19,7 +20,6 @@ use Rattle.pcode_model.specs.Atoms.{Accesses, IsLocal, further_ranges, one_range
 use Rattle.supported.specs.Ranges as named
 use Rattle.supported.specs.Ranges.{code_ranges, is_local, is_local_kind, local_of, locals_of, named_ranges, ops_ranges, output_of, result_range, storage_ranges}
 use Rattle.supported.specs.Supported.{IsSupported, is_supported_code}
-use Rattle.op_laws.proofs.Rules.{both}
 use Rattle.plain_laws.proofs.Standing.{StandsIn, stands_in, supported_in}
 use Rattle.plain_laws.proofs.Formed.{Inside, IsFormed}
 
@@ -126,7 +126,7 @@ in_code l (x ∷ code) i op s v h = elim s.code_has [
 -- a space with the number of the register space or of the unique space
 pub named_op : (l : Listing) → IsSupported l → (i : Instruction) (op : Op) → StandsIn l.code i op → (v : Varnode) → is_local l v ≡ true → IsIn v (op_ranges l None op) → IsIn v (named_ranges l)
 named_op l sup i op s v local h =
-    let code = (both _ _ (supported_in l l.code sup.ops i op s)).0 in
+    let code = (and_parts _ _ (supported_in l l.code sup.ops i op s)).0 in
     let rest : List Varnode = storage_ranges (proto_of l None).args ++ result_range (proto_of l None).gives in
     let of_op : IsIn v (named.op_ranges l op) → IsIn v (named_ranges l) = λ q. in_front (code_ranges l l.code) rest v (in_code l l.code i op s v q) in
     elim (in_either (ranges_read (operands l op.code op.inputs)) (one_range op.out ++ further_ranges l None op.code op.inputs) v h) [

@@ -2,6 +2,7 @@
 use Rattle.std.proofs.Common.{◌≡◌, ◌≢◌, ◌⊎◌, ◌≤◌, ◌<◌, ℕ, zero, suc, true, false, List, [], ◌∷◌, Some, None, length, refl, inl, inr, sym, subst, ap, ◌∙◌, arith}
 use Rattle.std.specs.Prelude.{◌==◌, slice_get}
 use Rattle.std.proofs.lemmas.Bool.Decides.{nat_tests}
+use Rattle.std.proofs.lemmas.Option.{none-some}
 use Rattle.pcode_model.specs.declared.storage.ParamStorage.{ParamStorage}
 use Rattle.pcode_model.specs.declared.storage.ParamStorage.TheVariants as P
 use Rattle.pcode_model.specs.declared.atoms.Atom.{Atom}
@@ -40,13 +41,10 @@ in_range l a h = by_storage l a.storage a.size h where
   by_storage l (P.Unique o) k h = refl
   by_storage l (P.Stack o) k h = absurd h
 
-no_none : {A : Type 0} (x : A) → None ≡ Some x → ⊥
-no_none x h = cc
-
 local_storage : (l : Listing) (s : ParamStorage) (k : ℕ) (v : Varnode) → listed.range_at l s k ≡ Some v → IsLocalStorage s × (range_at l s k ≡ v)
 local_storage l (P.Register o) k v h = (tt, cc)
 local_storage l (P.Unique o) k v h = (tt, cc)
-local_storage l (P.Stack o) k v h = absurd (no_none v h)
+local_storage l (P.Stack o) k v h = absurd (none-some v h)
 
 size_at : (l : Listing) (s : ParamStorage) (k : ℕ) → IsLocalStorage s → (range_at l s k).size ≡ k
 size_at l (P.Register o) k h = refl

@@ -2,6 +2,7 @@
 use Rattle.std.proofs.Common.{◌≡◌, ◌≤◌, ◌<◌, ℕ, suc, Bool, true, false, List, [], ◌∷◌, Option, Some, None, length, refl, inl, inr, sym, subst, arith}
 use Rattle.std.specs.Prelude.{◌&&◌, if◌then◌else◌, nat_le, nat_lt, not}
 use Rattle.std.proofs.lemmas.Bool.Decides.{nat_tests}
+use Rattle.std.proofs.lemmas.Bool.{and_parts, eqb-true, not-false}
 use Rattle.bits_core.specs.Value.{limit}
 use Rattle.bits_core.specs.declared.ops.Unary.{Unary}
 use Rattle.bits_core.specs.declared.ops.Binary.{Binary}
@@ -28,8 +29,8 @@ use Rattle.pcode_model.specs.Rules.{any_wide, breaks, first_bad, has_operands, h
 use Rattle.supported.specs.Ranges.{code_ranges, is_local, is_local_kind, named_ranges, result_range, storage_ranges}
 use Rattle.supported.specs.Supported.{IsSupported, is_ram, is_supported_binary, is_supported_code, none_in_ram, output_off_ram, read_inputs, rest_of}
 use Rattle.plaincode.specs.Form.{HasNode, IsOperand, IsOperandBy, IsOutput, IsOutputBy, IsPlain, IsPlainOp, IsResult}
-use Rattle.op_laws.proofs.Rules.{both, breaks_none, neither}
-use Rattle.op_laws.proofs.Sizes.{binary_is, equal, unary_is}
+use Rattle.op_laws.proofs.Rules.{breaks_none, neither}
+use Rattle.op_laws.proofs.Sizes.{binary_is, unary_is}
 use Rattle.plain_laws.proofs.Standing.{StandsIn, stands_in, supported_in}
 use Rattle.plain_laws.proofs.Formed.{IsFormed, IsInput}
 use Rattle.plain_laws.proofs.Accessed.{behind, in_front, named_op}
@@ -52,8 +53,8 @@ narrow_in (x ∷ vs) h v (inr is) = narrow_in vs (neither _ _ h).1 v is
 
 off_ram : (l : Listing) (vs : List Varnode) → none_in_ram l vs ≡ true → (v : Varnode) → IsIn v vs → not (is_ram l v) ≡ true
 off_ram l [] h v is = absurd is
-off_ram l (x ∷ vs) h v (inl e) = let P : Varnode → Type 0 = λ y. not (is_ram l y) ≡ true in subst P (sym e) (both _ _ h).0
-off_ram l (x ∷ vs) h v (inr is) = off_ram l vs (both _ _ h).1 v is
+off_ram l (x ∷ vs) h v (inl e) = let P : Varnode → Type 0 = λ y. not (is_ram l y) ≡ true in subst P (sym e) (and_parts _ _ h).0
+off_ram l (x ∷ vs) h v (inr is) = off_ram l vs (and_parts _ _ h).1 v is
 
 in_rest : (vs : List Varnode) (v : Varnode) → IsIn v (rest_of vs) → IsIn v (past_first vs)
 in_rest [] v h = h
@@ -163,18 +164,14 @@ output_by l ranges v Unique e not_constant off has = has (let P : SpaceKind → 
 
 -- ---- the form of an op
 
-true_of : (b : Bool) → not b ≡ false → b ≡ true
-true_of true h = refl
-true_of false h = absurd (cc)
-
 one_input : (n : ℕ) (b : Bool) → (nat_le 1 n && (nat_le n 1 && b)) ≡ true → n ≡ 1
-one_input n b h = let p = both _ _ h in let q = both _ _ p.1 in let e : nat_le 1 n ≡ true = p.0 in let f : nat_le n 1 ≡ true = q.0 in grind (arith, nat_tests)
+one_input n b h = let p = and_parts _ _ h in let q = and_parts _ _ p.1 in let e : nat_le 1 n ≡ true = p.0 in let f : nat_le n 1 ≡ true = q.0 in grind (arith, nat_tests)
 
 two_inputs : (n : ℕ) (b : Bool) → (nat_le 2 n && (nat_le n 2 && b)) ≡ true → n ≡ 2
-two_inputs n b h = let p = both _ _ h in let q = both _ _ p.1 in let e : nat_le 2 n ≡ true = p.0 in let f : nat_le n 2 ≡ true = q.0 in grind (arith, nat_tests)
+two_inputs n b h = let p = and_parts _ _ h in let q = and_parts _ _ p.1 in let e : nat_le 2 n ≡ true = p.0 in let f : nat_le n 2 ≡ true = q.0 in grind (arith, nat_tests)
 
 third : (a b c : Bool) → (a && (b && c)) ≡ true → c ≡ true
-third a b c h = (both _ _ (both _ _ h).1).1
+third a b c h = (and_parts _ _ (and_parts _ _ h).1).1
 
 too_many_for_one : {P : Type 0} (n : ℕ) → suc (suc n) ≡ 1 → P
 too_many_for_one n h = absurd (omega arith)
@@ -206,7 +203,7 @@ module _ (l : Listing) (ranges : List Varnode) where
   test_form (Some z) vs ar sz ins = let h : has_output output.Lacks (Some z) ≡ true = third _ _ _ ar in absurd (cc)
   test_form None [] ar sz ins = let h : 0 ≡ 2 = two_inputs 0 true ar in absurd (cc)
   test_form None (x ∷ []) ar sz ins = let h : 1 ≡ 2 = two_inputs 1 true ar in absurd (cc)
-  test_form None (x ∷ y ∷ []) ar sz ins = (equal y.size 1 sz, ins y (inl refl))
+  test_form None (x ∷ y ∷ []) ar sz ins = (eqb-true y.size 1 sz, ins y (inl refl))
   test_form None (x ∷ y ∷ w ∷ vs) ar sz ins = too_many_for_two (length vs) (two_inputs _ true ar)
 
   return_form : (out : Option Varnode) (vs : List Varnode) → has_operands (operands_of O.Return) out (length vs) ≡ true → ((v : Varnode) → IsIn v vs → IsOperand l ranges v) → IsResult l ranges (proto_of l None).gives → IsPlainOp l ranges O.Return out vs
@@ -282,7 +279,7 @@ module _ (l : Listing) (good : first_bad l ≡ None) (sup : IsSupported l) (form
   facts = supported_in l l.code sup.ops i op stand
 
   code : is_supported_code op.code ≡ true
-  code = (both _ _ facts).0
+  code = (and_parts _ _ facts).0
 
   operand : (v : Varnode) → IsRead op.code op.inputs v → IsOperand l ranges v
   unfolding stand
@@ -290,7 +287,7 @@ module _ (l : Listing) (good : first_bad l ≡ None) (sup : IsSupported l) (form
       let read = read_of op.code op.inputs v is in
       let input = formed.inputs i op stand v (read_is op.code op.inputs code v read) in
       let narrow = narrow_in (input_ranges op.code op.inputs) (neither _ _ wide).0 v (looked_at op.code op.inputs code v read) in
-      let off = off_ram l (read_inputs op.code op.inputs) (both _ _ (both _ _ facts).1).0 v read in (
+      let off = off_ram l (read_inputs op.code op.inputs) (and_parts _ _ (and_parts _ _ facts).1).0 v read in (
         (input.some, narrow),
         operand_by l ranges v (kind_of l v.space) refl input off (λ local. variable v local (in_front (ranges_read (operands l op.code op.inputs)) _ v (operand_in l op.code op.inputs code v is))),
       )
@@ -300,7 +297,7 @@ module _ (l : Listing) (good : first_bad l ≡ None) (sup : IsSupported l) (form
   written v is =
       let output = formed.outputs i op stand v is in
       let narrow = wide_output op.out (neither _ _ wide).1 v is in
-      let off = output_off l op.out (both _ _ (both _ _ facts).1).1 v is in (
+      let off = output_off l op.out (and_parts _ _ (and_parts _ _ facts).1).1 v is in (
         (output.some, narrow),
         output_by l ranges v (kind_of l v.space) refl output.variable off (λ local. variable v local (behind (ranges_read (operands l op.code op.inputs)) _ v (in_front (one_range op.out) _ v is))),
       )
@@ -319,7 +316,7 @@ module _ (l : Listing) (good : first_bad l ≡ None) (sup : IsSupported l) (form
       ((inside.some, inside.narrow), local_kind l ranges v (kind_of l v.space) inside.local (variable v inside.local accessed))
 
   pub op_form : IsPlainOp l ranges op.code op.out op.inputs
-  op_form = form_of l ranges op.code op.out op.inputs code (true_of _ (obeys Arity (inr (inr (inr (inl refl)))))) (true_of _ (obeys SizeRule (inr (inr (inr (inr (inr (inr (inr (inl refl)))))))))) operand written (given (proto_of l None).gives refl)
+  op_form = form_of l ranges op.code op.out op.inputs code (not-false _ (obeys Arity (inr (inr (inr (inl refl)))))) (not-false _ (obeys SizeRule (inr (inr (inr (inr (inr (inr (inr (inl refl)))))))))) operand written (given (proto_of l None).gives refl)
 
 by_standing : (l : Listing) → first_bad l ≡ None → IsSupported l → IsFormed l → NoFault l [] → (ranges : List Varnode) → ((v : Varnode) → Accesses l [] v → IsIn v ranges) → (p : Place) → Reached l [] p → (s : Standing) → standing l p ≡ s → IsPlain l ranges s
 by_standing l good sup formed fine ranges has p reached Nothing e =

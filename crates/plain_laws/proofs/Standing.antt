@@ -1,6 +1,7 @@
 -- What stands at a place is an op of an instruction of the code, and what holds of each op holds of it.
 use Rattle.std.proofs.Common.{◌≡◌, ◌⊎◌, ℕ, zero, suc, Bool, true, false, List, [], ◌∷◌, Option, Some, None, refl, inl, inr, sym, subst, ap}
 use Rattle.std.specs.Prelude.{◌==◌, if◌then◌else◌, slice_get}
+use Rattle.std.proofs.lemmas.Bool.{and_parts}
 use Rattle.pcode_model.specs.declared.listing.Op.{Op}
 use Rattle.pcode_model.specs.declared.listing.Place.{Place}
 use Rattle.pcode_model.specs.declared.listing.Instruction.{Instruction}
@@ -8,7 +9,6 @@ use Rattle.pcode_model.specs.declared.listing.Listing.{Listing}
 use Rattle.pcode_model.specs.Flow.{IsIn}
 use Rattle.pcode_model.specs.Places.{Does, instruction_in, op_in, standing, standing_in, standing_of}
 use Rattle.supported.specs.Supported.{are_supported_ops, is_supported_code_of, is_supported_op}
-use Rattle.op_laws.proofs.Rules.{both}
 
 got_in : {A : Type 0} (xs : List A) (n : ℕ) (x : A) → slice_get xs n ≡ Some x → IsIn x xs
 got_in [] n x h = absurd (cc)
@@ -52,12 +52,12 @@ stands_in l p i op h = of_option l.code (instruction_in l.code p.address) p.inde
 
 supported_op : (l : Listing) (ops : List Op) → are_supported_ops l ops ≡ true → (op : Op) → IsIn op ops → is_supported_op l op ≡ true
 supported_op l [] h op is = absurd is
-supported_op l (x ∷ ops) h op (inl e) = let P : Op → Type 0 = λ y. is_supported_op l y ≡ true in subst P (sym e) (both _ _ h).0
-supported_op l (x ∷ ops) h op (inr is) = supported_op l ops (both _ _ h).1 op is
+supported_op l (x ∷ ops) h op (inl e) = let P : Op → Type 0 = λ y. is_supported_op l y ≡ true in subst P (sym e) (and_parts _ _ h).0
+supported_op l (x ∷ ops) h op (inr is) = supported_op l ops (and_parts _ _ h).1 op is
 
 pub supported_in : (l : Listing) (code : List Instruction) → is_supported_code_of l code ≡ true → (i : Instruction) (op : Op) → StandsIn code i op → is_supported_op l op ≡ true
 supported_in l [] h i op s = absurd s.code_has
 supported_in l (x ∷ code) h i op s = elim s.code_has [
-  | inl e ↦ let P : Instruction → Type 0 = λ y. IsIn op y.ops in supported_op l x.ops (both _ _ h).0 op (subst P e s.ops_have)
-  | inr is ↦ supported_in l code (both _ _ h).1 i op (record { code_has = is; ops_have = s.ops_have })
+  | inl e ↦ let P : Instruction → Type 0 = λ y. IsIn op y.ops in supported_op l x.ops (and_parts _ _ h).0 op (subst P e s.ops_have)
+  | inr is ↦ supported_in l code (and_parts _ _ h).1 i op (record { code_has = is; ops_have = s.ops_have })
 ]
