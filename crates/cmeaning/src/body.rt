@@ -1,6 +1,6 @@
 //! Whether the statements of a body obey the rules of a valid tree.
 
-ghost use Rattle.std.specs.Prelude.{◌≡◌, ◌&&◌, map, true, false, Bool, List, ℕ, None, IfOk, IsOk};
+ghost use Rattle.std.specs.Prelude.{◌≡◌, ◌&&◌, map, true, false, Bool, ℕ, None, IfOk, IsOk};
 ghost use Rattle.cmeaning.specs.declared.tree.CFunction.{CFunction as Function};
 ghost use Rattle.cmeaning.specs.Do.{widths_in};
 ghost use Rattle.cmeaning.specs.Kinds.{kind_of, computes, calls, nests};

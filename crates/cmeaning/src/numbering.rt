@@ -1,9 +1,9 @@
 //! How a body numbers variables, callees and labels: by first appearance in the order of its text.
 
-ghost use Rattle.std.specs.Prelude.{◌≡◌, ◌<◌, ◌^◌, map, true, false, List, Option, Some, None};
+ghost use Rattle.std.specs.Prelude.{◌≡◌, ◌<◌, ◌^◌, true, false, List, Option, Some, None};
 ghost use Rattle.cmeaning.specs.declared.tree.CalleeDecl.{CalleeDecl};
 ghost use Rattle.cmeaning.specs.Kinds.{kind_of, computes, calls, nests};
-ghost use Rattle.cmeaning.specs.Mentions.{with_variable, with_callee, with_label, met as met_by, met_once, mentioned, numbered, in_expr, in_exprs, in_option, in_target, in_stmt, in_body, in_arm, in_arms, Variable, Callee, LabelLine};
+ghost use Rattle.cmeaning.specs.Mentions.{met as met_by, mentioned, numbered, in_expr, in_exprs, in_option, in_target, in_stmt, in_body, in_arm, in_arms, Variable, Callee, LabelLine};
 
 use crate::callees::CalleeDecls;
 use crate::tree::{Arm, Expr, Stmt};

@@ -1,6 +1,6 @@
 //! The rules of parameters.
 
-ghost use Rattle.std.specs.Prelude.{◌≡◌, ℕ, List, [], ℤ, None, IsTrue, IfOk, IsOk};
+ghost use Rattle.std.specs.Prelude.{◌≡◌, List, None, IsTrue, IfOk, IsOk};
 ghost use Rattle.cmeaning.specs.declared.tree.Param.{Param as Variable};
 ghost use Rattle.cmeaning.specs.Valid.{is_storage, is_before, may_precede, precedes_all, are_params};
 ghost use Rattle.cmeaning.specs.Entries.{key_of};

@@ -1,11 +1,10 @@
 //! The rules of a valid tree, but for those of parameters, expressions, case values and bodies.
 
-ghost use Rattle.std.specs.Prelude.{◌≡◌, ◌==◌, ◌++◌, ◌&&◌, ◌<◌, ◌^◌, ◌↔◌, IsTrue, List, length, map, nat_le, nat_lt, not, true, false, None, IfOk, IsOk};
-ghost use Rattle.cmeaning.specs.declared.tree.CFunction.{CFunction as Function};
+ghost use Rattle.std.specs.Prelude.{◌≡◌, ◌==◌, ◌&&◌, ◌<◌, ◌↔◌, IsTrue, true, false, None, IfOk, IsOk};
 ghost use Rattle.cmeaning.specs.Do.{widths_in};
-ghost use Rattle.cmeaning.specs.Shape.{shape_of, is_right, has_width as is_wide, is_condition};
+ghost use Rattle.cmeaning.specs.Shape.{shape_of, is_right, has_width as is_wide};
 ghost use Rattle.cmeaning.specs.Firsts.{are_firsts};
-ghost use Rattle.cmeaning.specs.Valid.{is_letter, is_letter_or_digit, all_letters_or_digits, begins_well, is_name, are_params, is_callee_name, result_fits, is_callee, are_callees, declared_in, is_variable, is_target, is_space, are_right, have_widths, takes, is_call, is_assigned, is_returned, is_long, is_complete, IsValid};
+ghost use Rattle.cmeaning.specs.Valid.{is_letter, is_letter_or_digit, all_letters_or_digits, begins_well, is_name, are_params, is_callee_name, is_callee, are_callees, declared_in, is_variable, is_target, is_space, are_right, have_widths, takes, is_call, is_assigned, is_returned, is_long, is_complete, IsValid};
 
 use crate::body::body_holds;
 use crate::callees::CalleeDecls;

@@ -1,9 +1,9 @@
 //! The rules of an expression in a valid tree.
 
-ghost use Rattle.std.specs.Prelude.{◌≡◌, ◌+◌, ◌==◌, ◌-◌, true, false, not, nat_le, nat_lt, ◌&&◌};
+ghost use Rattle.std.specs.Prelude.{◌≡◌, ◌+◌, ◌==◌, ◌-◌, true, false, nat_lt, ◌&&◌};
 ghost use Rattle.bits_core.specs.Value.{limit};
 ghost use Rattle.cmeaning.specs.Do.{widths_in};
-ghost use Rattle.cmeaning.specs.Shape.{leaf, above, one_shape, two_shape, variable_shape, same_width as agree, by_constant, by_signed, may_divide, may_divide_signed, may_join, is_part, left_width, shape_of, is_right, has_width as is_wide, is_condition};
+ghost use Rattle.cmeaning.specs.Shape.{leaf, above, one_shape, two_shape, variable_shape, same_width as agree, may_divide, may_divide_signed, may_join, is_part, left_width, shape_of, is_right, has_width as is_wide, is_condition};
 
 use crate::tree::{CFunction, Expr};
 use bits_core::{Width, Word};

@@ -1,8 +1,8 @@
 //! The text of an expression.
 
-ghost use Rattle.std.specs.Prelude.{◌≡◌, ◌<◌, ◌+◌, ◌*◌, ◌∷◌, [], ◌++◌, true, min, codes, OnOk, IsTrue, ◌↔◌};
+ghost use Rattle.std.specs.Prelude.{◌≡◌, ◌<◌, ◌+◌, ◌*◌, [], ◌++◌, true, min, codes, OnOk};
 ghost use Rattle.ctext.specs.Names.{scope_of, variable};
-ghost use Rattle.ctext.specs.Expressions.{form, shown, before, behind, front, open_test, shut_test, constant, compound, simple, comparison, variable_form, suffix, unary_sign, arithmetic_sign, division_sign, signed_division_sign, compare_sign, signed_compare_sign, shift_word, shift_form, shift_sign, overflow_word, count_word, between, enclosed, call_of_two, extend_text, part_text, cast, unsigned_cast, signed_cast, is_below};
+ghost use Rattle.ctext.specs.Expressions.{form, shown, before, behind, front, open_test, shut_test, constant, compound, simple, comparison, variable_form, suffix, unary_sign, arithmetic_sign, division_sign, signed_division_sign, compare_sign, signed_compare_sign, shift_word, shift_form, overflow_word, count_word, between, enclosed, call_of_two, extend_text, part_text, cast, unsigned_cast, is_below};
 
 use crate::digits::{put, put_decimal, put_hex};
 use crate::names::{put_type, put_variable, variable_signed, variable_width};

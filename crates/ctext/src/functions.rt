@@ -1,6 +1,6 @@
 //! The text of a whole function.
 
-ghost use Rattle.std.specs.Prelude.{◌≡◌, ◌+◌, ◌++◌, ◌<◌, ◌^◌, length, map, codes, OnOk, IfOk};
+ghost use Rattle.std.specs.Prelude.{◌≡◌, ◌+◌, ◌++◌, ◌<◌, map, codes, OnOk, IfOk};
 ghost use Rattle.ctext.specs.Names.{scope_of, further, separated_or_void};
 ghost use Rattle.ctext.specs.Statements.{body_text};
 ghost use Rattle.ctext.specs.Text.{callee_line, callee_lines, param_text, local_lines, function_line, text_of, width_types, returns_mark, callee_head, address_text};

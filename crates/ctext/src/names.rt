@@ -1,7 +1,7 @@
 //! The names and types of the C text.
 
 ghost use Rattle.std.specs.Prelude.{◌≡◌, ◌++◌, ◌-◌, length, slice_get, option_copied, OnOk};
-ghost use Rattle.ctext.specs.Names.{type_text, unsigned_type, result_type, param_name, storage_text, callee_name, scope_of, variable, callee_at, name_at, goes_on};
+ghost use Rattle.ctext.specs.Names.{type_text, result_type, param_name, storage_text, callee_name, scope_of, variable, callee_at, name_at, goes_on};
 
 use crate::digits::{put, put_decimal, put_hex};
 use bits_core::{Memory, Width};

@@ -3,7 +3,7 @@
 ghost use Rattle.std.specs.Prelude.{◌≡◌, ◌++◌, codes, OnOk, Some, None};
 ghost use Rattle.std.specs.Fmt.{decimal};
 ghost use Rattle.ctext.specs.Names.{scope_of, variable, further, separated};
-ghost use Rattle.ctext.specs.Expressions.{form, call_of_two};
+ghost use Rattle.ctext.specs.Expressions.{form};
 ghost use Rattle.ctext.specs.Statements.{target_text, target_width, assigned, access_text, plain_texts, division_word, return_text, load_text, store_text, assign_text, call_text, call_ind_text, other_text, extra_text, divide_text};
 
 use crate::digits::{put, put_decimal, put_hex};

@@ -1,7 +1,8 @@
 //! The text of statements and of their bodies.
 
-ghost use Rattle.std.specs.Prelude.{◌≡◌, ◌++◌, codes, not, OnOk, IfOk};
-ghost use Rattle.ctext.specs.Names.{scope_of, callee_at, goes_on};
+ghost use Rattle.std.specs.Prelude.{◌≡◌, ◌++◌, ℕ, List, true, false, codes, OnOk, IfOk};
+ghost use Rattle.cmeaning.specs.Kinds.{kind_of, computes, calls, nests};
+ghost use Rattle.ctext.specs.Names.{scope_of};
 ghost use Rattle.ctext.specs.Expressions.{form, shown};
 ghost use Rattle.ctext.specs.Statements.{lines, body_text, body_leaves, arm_text, arms_text, deeper, case_lines, break_line, loop_head};
 
@@ -271,16 +272,16 @@ fn print_switch(
     put(out, b"}\n")
 }
 
-#[cycle(bodies)]
-#[tactic(auto, using(crate::proofs::Nested::lines_if_else, crate::proofs::Nested::lines_switch), unfolding(crate::specs::Statements::lines, crate::specs::Statements::body_text))]
-fn print_stmt(
+/// A statement that computes or moves a value.
+#[tactic(auto, unfolding(crate::specs::Statements::lines, cmeaning::specs::Kinds::kind_of))]
+fn print_computation(
     alloc: Global,
     out: &mut Vec<u8>,
     f: &CFunction,
     s: &Stmt,
-    indent: &[u8],
 ) -> Result<(), Memory>
-    ensures { OnOk result (out.new.items ≡ out.old.items ++ (lines (scope_of f.now) s.now).text indent.now) }
+    requires { computes (kind_of s.now) ≡ true }
+    ensures { (indent : List ℕ) → OnOk result (out.new.items ≡ out.old.items ++ (lines (scope_of f.now) s.now).text indent) }
 {
     match s {
         Stmt::Assign { target, value } => print_assign(alloc, out, f, *target, value),
@@ -294,6 +295,23 @@ fn print_stmt(
             address,
             value,
         } => print_store(alloc, out, f, space, address, value),
+        Stmt::Divide {
+            target,
+            op,
+            left,
+            right,
+        } => print_divide(alloc, out, f, *target, *op, left, right),
+        _ => unreachable!(),
+    }
+}
+
+/// A call, or a statement that takes what one has left.
+#[tactic(auto, unfolding(crate::specs::Statements::lines, cmeaning::specs::Kinds::kind_of))]
+fn print_calling(alloc: Global, out: &mut Vec<u8>, f: &CFunction, s: &Stmt) -> Result<(), Memory>
+    requires { calls (kind_of s.now) ≡ true }
+    ensures { (indent : List ℕ) → OnOk result (out.new.items ≡ out.old.items ++ (lines (scope_of f.now) s.now).text indent) }
+{
+    match s {
         Stmt::Call {
             target,
             callee,
@@ -310,12 +328,40 @@ fn print_stmt(
             args,
         } => print_other(alloc, out, f, *target, *index, args.as_slice()),
         Stmt::Extra { target, offset } => print_extra(alloc, out, f, *target, *offset),
-        Stmt::Divide {
-            target,
-            op,
-            left,
-            right,
-        } => print_divide(alloc, out, f, *target, *op, left, right),
+        _ => unreachable!(),
+    }
+}
+
+/// A statement without statements in it, which is one line.
+#[tactic(auto, unfolding(crate::specs::Statements::lines, cmeaning::specs::Kinds::kind_of))]
+fn print_simple(alloc: Global, out: &mut Vec<u8>, f: &CFunction, s: &Stmt) -> Result<(), Memory>
+    requires { nests (kind_of s.now) ≡ false }
+    ensures { (indent : List ℕ) → OnOk result (out.new.items ≡ out.old.items ++ (lines (scope_of f.now) s.now).text indent) }
+{
+    match s {
+        Stmt::Call { .. } | Stmt::CallInd { .. } | Stmt::Other { .. } | Stmt::Extra { .. } => {
+            print_calling(alloc, out, f, s)
+        }
+        Stmt::Break => put(out, b"break;\n"),
+        Stmt::Goto(label) => print_goto(alloc, out, *label),
+        Stmt::Label(label) => print_label(alloc, out, *label),
+        Stmt::Return(value) => print_return(alloc, out, f, value),
+        _ => print_computation(alloc, out, f, s),
+    }
+}
+
+#[cycle(bodies)]
+#[tactic(auto, using(crate::proofs::Nested::lines_if_else, crate::proofs::Nested::lines_switch), unfolding(crate::specs::Statements::lines, crate::specs::Statements::body_text, cmeaning::specs::Kinds::kind_of))]
+fn print_stmt(
+    alloc: Global,
+    out: &mut Vec<u8>,
+    f: &CFunction,
+    s: &Stmt,
+    indent: &[u8],
+) -> Result<(), Memory>
+    ensures { OnOk result (out.new.items ≡ out.old.items ++ (lines (scope_of f.now) s.now).text indent.now) }
+{
+    match s {
         Stmt::If { condition, body } => {
             print_block(alloc, out, f, b"if (", condition, body.as_slice(), indent)
         }
@@ -345,12 +391,9 @@ fn print_stmt(
             print_do_while(alloc, out, f, body.as_slice(), condition, indent)
         }
         Stmt::Loop { body } => print_loop(alloc, out, f, body.as_slice(), indent),
-        Stmt::Break => put(out, b"break;\n"),
         Stmt::Switch { value, arms } => {
             print_switch(alloc, out, f, value, arms.as_slice(), indent)
         }
-        Stmt::Goto(label) => print_goto(alloc, out, *label),
-        Stmt::Label(label) => print_label(alloc, out, *label),
-        Stmt::Return(value) => print_return(alloc, out, f, value),
+        _ => print_simple(alloc, out, f, s),
     }
 }
