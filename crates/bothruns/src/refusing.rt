@@ -1,6 +1,6 @@
 //! Why the inputs are refused.
 
-ghost use Rattle.std.specs.Prelude.{◌≡◌, ◌++◌, ◌∷◌, [], IfOk, OnOk};
+ghost use Rattle.std.specs.Prelude.{◌≡◌, ◌++◌, IfOk, OnOk};
 ghost use Rattle.bothruns.specs.Lines.{at_line, entry_words, line_of, words_of};
 
 use bits_core::Memory;

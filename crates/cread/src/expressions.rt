@@ -4,7 +4,7 @@ ghost use Rattle.std.specs.Prelude.{◌≡◌};
 ghost use Rattle.std.specs.Option.{option_map};
 ghost use Rattle.ctext.specs.Names.{scope_of};
 ghost use Rattle.cread.specs.Words.{Gives, hex_at};
-ghost use Rattle.cread.specs.Expressions.{unary_at, sign_at, test_at, constant_by, pair_at, count_at, unary_by, sign_by, binary_by, inner_by, cast_by, signed_by, typed_by, closed_by, paren_by, pair_by, count_by, part_by, named_at, atom_by, operand_at, expr_at};
+ghost use Rattle.cread.specs.Expressions.{unary_at, sign_at, test_at, constant_by, pair_at, count_at, binary_by, inner_by, cast_by, typed_by, closed_by, paren_by, pair_by, count_by, part_by, named_at, atom_by, operand_at, expr_at};
 
 use crate::item::{CFault, Item, Pair, Sign};
 use crate::made::{between, counted, pair, part, resize, signed, unary};

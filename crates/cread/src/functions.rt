@@ -2,7 +2,7 @@
 
 ghost use Rattle.std.specs.Prelude.{◌≡◌, Some};
 ghost use Rattle.cread.specs.Words.{Gives, behind};
-ghost use Rattle.cread.specs.Functions.{result_at, callee_name_at, marked_by, no_return_mark, head_at, width_at, further_width, more_widths, widths_at, callee_at, callees_at, param_at, further_param, more_params, params_at, local_at, locals_at, declared_name, frame_at, with_body, function_at};
+ghost use Rattle.cread.specs.Functions.{result_at, callee_name_at, marked_by, no_return_mark, head_at, width_at, further_width, more_widths, widths_at, callee_at, callees_at, param_at, further_param, more_params, params_at, local_at, locals_at, declared_name, frame_at, function_at};
 
 use crate::item::{CFault, Head};
 use crate::names::{entry, long, type_of};

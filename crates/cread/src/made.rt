@@ -1,6 +1,6 @@
 //! Expressions made of expressions.
 
-ghost use Rattle.std.specs.Prelude.{◌≡◌, min, Some};
+ghost use Rattle.std.specs.Prelude.{◌≡◌, Some};
 ghost use Rattle.cmeaning.specs.declared.tree.Expr.TheVariants as e;
 ghost use Rattle.cread.specs.Words.{Gives};
 ghost use Rattle.cread.specs.Expressions.{item, as_signed, resize as resized, divided as divided_by, compared as compared_by, joined, paired};

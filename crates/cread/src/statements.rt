@@ -5,7 +5,7 @@ ghost use Rattle.std.specs.Option.{option_map};
 ghost use Rattle.ctext.specs.Names.{scope_of};
 ghost use Rattle.ctext.specs.Statements.{loop_head};
 ghost use Rattle.cread.specs.Words.{Gives, after, behind, past_spaces as behind_spaces};
-ghost use Rattle.cread.specs.Statements.{plain_line_at, line_at, number_at, head_at, not_own as is_no_own_break, spaced_by, body_by, closed_by, if_by, else_by, while_by, loop_by, do_by, case_at, further_cases, cases_at, past_break, arm_by, arms_by, switch_by, line_by, statement_at};
+ghost use Rattle.cread.specs.Statements.{plain_line_at, line_at, number_at, head_at, not_own as is_no_own_break, spaced_by, body_by, closed_by, if_by, while_by, loop_by, do_by, case_at, further_cases, cases_at, past_break, arm_by, arms_by, switch_by, line_by, statement_at};
 
 use crate::expressions::expr;
 use crate::item::{CFault, Line};

@@ -1,5 +1,5 @@
 -- The text of a statement: its lines, each with its line feed. This project's own.
-use Rattle.std.specs.Prelude.{ℕ, ◌*◌, Bool, true, false, not, if◌then◌else◌, List, [], ◌∷◌, ◌++◌, map, codes, Option, Some, None}
+use Rattle.std.specs.Prelude.{ℕ, Bool, true, false, not, if◌then◌else◌, List, [], ◌∷◌, ◌++◌, map, codes, Option, Some, None}
 use Rattle.std.specs.Fmt.{decimal}
 use Rattle.cmeaning.specs.declared.tree.StatementDivision.{StatementDivision}
 use Rattle.cmeaning.specs.declared.tree.StatementDivision.TheVariants as D

@@ -1,6 +1,6 @@
 //! Statements of the body.
 
-ghost use Rattle.std.specs.Prelude.{◌≡◌, ◌+◌, ◌<◌, ◌^◌, ◌++◌, suc, [], ◌∷◌, OnOk, IfOk};
+ghost use Rattle.std.specs.Prelude.{◌≡◌, ◌+◌, ◌<◌, ◌^◌, ◌++◌, [], ◌∷◌, OnOk};
 ghost use Rattle.blockcode.specs.Laid.{label_at, label_line, goto_line, goto, exit_lines, laid_from};
 
 use bits_core::Memory;

@@ -1,6 +1,6 @@
 //! The form of a line.
 
-ghost use Rattle.std.specs.Prelude.{◌≡◌, ◌∷◌, IfOk, codes};
+ghost use Rattle.std.specs.Prelude.{◌≡◌, IfOk, codes};
 ghost use Rattle.listing_lines.specs.Text.{left};
 ghost use Rattle.pcodetext.specs.Forms.{at_form, bytes_form, callee_form, end_form, form_of, func_form, function_made, head_form, is_two, kind_of, op_form, op_made, order_of, pcode_form, proto_args, proto_form, proto_rest, returns_by, space_form, space_made, stack_form, word_by};
 ghost use Rattle.pcodetext.specs.Written.{place_of, ranges_of, ranges_until};

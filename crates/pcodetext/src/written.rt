@@ -1,6 +1,6 @@
 //! Ranges and places as they are written.
 
-ghost use Rattle.std.specs.Prelude.{◌≡◌, ◌∷◌, ◌<◌, IfOk, length};
+ghost use Rattle.std.specs.Prelude.{◌≡◌, ◌<◌, IfOk};
 ghost use Rattle.std.specs.Option.{option_map};
 ghost use Rattle.listing_lines.specs.Text.{left};
 ghost use Rattle.pcodetext.specs.Written.{named_by, place_of, range_of, range_or_none, ranges_of, ranges_until};

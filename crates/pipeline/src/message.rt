@@ -1,5 +1,5 @@
 // The line that names a refusal.
-ghost use Rattle.std.specs.Prelude.{◌≡◌, ◌++◌, ◌∷◌, [], IfOk, OnOk};
+ghost use Rattle.std.specs.Prelude.{◌≡◌, ◌++◌, IfOk, OnOk};
 ghost use Rattle.std.specs.Fmt.{decimal};
 ghost use Rattle.pipeline.specs.Message.{at_line, at_place, atom_words, flow_words, line_of, rule_word, text_words, words_of};
 

@@ -1,5 +1,5 @@
 // From the bytes of a listing to the text of its C: the passes in their order.
-ghost use Rattle.std.specs.Prelude.{◌≡◌, ◌-◌, ◌^◌, ◌≤◌, length, IfErr, IfOk, OnOk};
+ghost use Rattle.std.specs.Prelude.{◌-◌, ◌^◌, ◌≤◌, length, IfErr, IfOk, OnOk};
 ghost use Rattle.pipeline.specs.Outcome.{IsCause};
 ghost use Rattle.pipeline.specs.Passed.{HasPassed, Lowers};
 ghost use Rattle.pipeline.specs.Verdict.{IsAccepted, MayPrint};

@@ -1,6 +1,6 @@
 // Why an input isn't printed.
 
-ghost use Rattle.std.specs.Prelude.{◌≡◌, IfOk};
+ghost use Rattle.std.specs.Prelude.{◌≡◌};
 ghost use Rattle.pipeline.specs.Refused.{of_atoms, of_flow, of_text};
 
 use flow::FlowFault;

@@ -1,5 +1,5 @@
 // Which inputs are accepted, and why the others are refused.
-ghost use Rattle.std.specs.Prelude.{◌≡◌, ◌-◌, ◌^◌, ◌≤◌, length, IfErr, IfOk, List, [], None, OnOk};
+ghost use Rattle.std.specs.Prelude.{◌≡◌, ◌-◌, ◌^◌, ◌≤◌, length, IfErr, IfOk, [], None, OnOk};
 ghost use Rattle.pcode_model.specs.Flow.{IsFlow, NoFault};
 ghost use Rattle.pcode_model.specs.Rules.{first_bad};
 ghost use Rattle.pcode_model.specs.WellFormed.{IsWellFormed};

@@ -5,7 +5,7 @@ ghost use Rattle.std.specs.Option.{option_copied};
 ghost use Rattle.pcode_model.specs.Flow.{AreApart};
 ghost use Rattle.pcode_model.specs.Places.{standing};
 ghost use Rattle.plaincode.specs.Standing.{op_of};
-ghost use Rattle.plaincode.specs.Lowered.{body_of, exit_of, exit_by, condition_in, result_in, result as result_for, block_of};
+ghost use Rattle.plaincode.specs.Lowered.{body_of, exit_of, exit_by, condition_in, result as result_for, block_of};
 
 use crate::expressions::constant;
 use crate::statements::add_op;

@@ -2,7 +2,6 @@
 
 ghost use Rattle.std.specs.Prelude.{◌≡◌, ◌<◌, ◌^◌, length, map, IfOk};
 ghost use Rattle.pcode_model.specs.Flow.{AreApart, starts_of};
-ghost use Rattle.pcode_model.specs.Places.{place};
 ghost use Rattle.plaincode.specs.Lowered.{block_of, same_place as is_same, place_number, lowered, result_width as width_for};
 
 use crate::blocks::block;

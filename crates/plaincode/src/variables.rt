@@ -1,6 +1,6 @@
 //! The ranges that variables stand for.
 
-ghost use Rattle.std.specs.Prelude.{◌≡◌, ◌<◌, ◌≤◌, ◌^◌, length, map, IfOk};
+ghost use Rattle.std.specs.Prelude.{◌≡◌, ◌<◌, ◌^◌, length, map, IfOk};
 ghost use Rattle.plaincode.specs.Lowered.{range_of as range_for, ranges_of, same_range as is_same, variable_of, variable_for};
 
 use crate::expressions::width_by;

@@ -1,6 +1,6 @@
 //! Operands of ops.
 
-ghost use Rattle.std.specs.Prelude.{◌≡◌, ◌<◌, ◌^◌, length, None, ◌∷◌};
+ghost use Rattle.std.specs.Prelude.{◌≡◌, ◌<◌, ◌^◌, length, None};
 ghost use Rattle.pcode_model.specs.Spaces.{kind_of};
 ghost use Rattle.pcode_model.specs.Step.{varnode_at as varnode_of, size_out as size_of_out};
 ghost use Rattle.plaincode.specs.Lowered.{operand as operand_of};

@@ -14,7 +14,7 @@ pub struct Local<'a> {
 }
 
 impl<'a> Local<'a> {
-    ghost use Rattle.std.specs.Prelude.{List, ◌≡◌};
+    ghost use Rattle.std.specs.Prelude.{List};
     ghost use Rattle.cmeaning.specs.Do.{assigned, ends, widths_in, with_word};
     ghost use Rattle.machine.specs.Trace.{Undefined};
     ghost use Rattle.cvalue.specs.Held.{IsWide, number_in};

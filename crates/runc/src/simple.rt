@@ -1,6 +1,6 @@
 //! What simple statements do.
 
-ghost use Rattle.std.specs.Prelude.{◌≡◌, ◌+◌, ◌≤◌, ◌<◌, List, length, OnOk};
+ghost use Rattle.std.specs.Prelude.{◌≡◌, ◌+◌, ◌≤◌, ◌<◌, List, OnOk};
 ghost use Rattle.machine.specs.Trace as T;
 ghost use Rattle.pcode_model.specs.declared.listing.SpaceKind.TheVariants as K;
 ghost use Rattle.pcode_model.specs.Spaces.{kind_of, register_space, size_of};

@@ -1,9 +1,9 @@
 //! What a run begins with.
 
-ghost use Rattle.std.specs.Prelude.{◌≡◌, ◌+◌, ◌<◌, ◌≤◌, ◌%◌, ℕ, List, IfOk, IfSome, OnOk, length, slice_get, true, None};
+ghost use Rattle.std.specs.Prelude.{◌≡◌, ◌+◌, ◌<◌, ◌≤◌, ◌%◌, IfOk, OnOk, slice_get, true, None};
 ghost use Rattle.bits_core.specs.Bytes.{number, word_of as word_in};
 ghost use Rattle.pcode_model.specs.declared.storage.ParamStorage.TheVariants as P;
-ghost use Rattle.pcode_model.specs.Spaces.{bytes_at, first_ram, size_of, register_space, unique_space};
+ghost use Rattle.pcode_model.specs.Spaces.{bytes_at, first_ram, size_of};
 ghost use Rattle.pcode_model.specs.Step.{first_apart, local_word, stack_word};
 ghost use Rattle.pcode_model.specs.WellFormed.{IsRegister};
 ghost use Rattle.cmeaning.specs.Step.{first_word, start_c, word_at, wrapped as wrapped_at};

@@ -1,6 +1,6 @@
 //! A step.
 
-ghost use Rattle.std.specs.Prelude.{◌+◌, ◌<◌, ◌^◌, Some, ◌≡◌, List, map, slice_get, Option, IfOk, IfSome};
+ghost use Rattle.std.specs.Prelude.{◌+◌, ◌<◌, ◌^◌, Some, List, map, slice_get, Option, IfOk, IfSome};
 ghost use Rattle.cmeaning.specs.Do.{widths_in};
 ghost use Rattle.cmeaning.specs.Flat.{returns_by, found_in};
 ghost use Rattle.cmeaning.specs.Step.{carry_out as carried, given, gives, goes_by, tested};

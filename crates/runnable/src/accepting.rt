@@ -1,6 +1,6 @@
 //! The listing of an input that is run.
 
-ghost use Rattle.std.specs.Prelude.{◌≡◌, ◌-◌, ◌^◌, ◌≤◌, length, IfErr, IfOk, OnOk, [], List};
+ghost use Rattle.std.specs.Prelude.{◌-◌, ◌^◌, ◌≤◌, length, IfErr, IfOk, OnOk, []};
 ghost use Rattle.pcode_model.specs.Flow.{AreApart, NoFault};
 ghost use Rattle.pcodetext.specs.Formed.{IsRead};
 ghost use Rattle.runnable.specs.Runs.{HasFewBlocks, IsCause, Runs, StopsFlow};

@@ -1,10 +1,9 @@
 //! What an op reads.
 
-ghost use Rattle.std.specs.Prelude.{◌≡◌, ◌<◌, ◌≤◌, ◌^◌, Option, None, Some, false, length, IfOk, IfSome, IsSome};
+ghost use Rattle.std.specs.Prelude.{◌≡◌, ◌<◌, ◌≤◌, ◌^◌, Option, None, Some, length, IfOk, IfSome, IsSome};
 ghost use Rattle.std.specs.List.{AllByRecursion};
 ghost use Rattle.bits_core.specs.Bytes.{word_of as number_of};
 ghost use Rattle.pcode_model.specs.Memory.{whole};
-ghost use Rattle.pcode_model.specs.Places.{place};
 ghost use Rattle.pcode_model.specs.Spaces.{first_ram, kind_of, size_of};
 ghost use Rattle.pcode_model.specs.Step.{all_read, argument, arguments, as_word, local_word, read_all, read_at, read_operand, read_varnode, stack_address};
 ghost use Rattle.worlds.specs.Maps.{bytes_of};

@@ -1,7 +1,7 @@
 // The ranges of a listing, and whether any two of them are equal or apart.
-ghost use Rattle.std.specs.Prelude.{◌≡◌, ◌<◌, ◌^◌, ◌++◌, ◌↔◌, ◌∷◌, [], IfOk, IsTrue, OnOk};
+ghost use Rattle.std.specs.Prelude.{◌≡◌, ◌<◌, ◌^◌, ◌++◌, ◌↔◌, IfOk, IsTrue, OnOk};
 ghost use Rattle.pcode_model.specs.Spaces.{kind_of};
-ghost use Rattle.supported.specs.Ranges.{AllInSpace, EqualOrApart, begin_of, code_ranges, is_chain, is_local, is_local_kind, local_of, locals_of, may_follow, named_ranges, op_ranges, ops_ranges, output_of, result_range, storage_ranges};
+ghost use Rattle.supported.specs.Ranges.{AllInSpace, EqualOrApart, begin_of, code_ranges, is_chain, is_local, is_local_kind, local_of, may_follow, named_ranges, op_ranges, ops_ranges, result_range, storage_ranges};
 
 use pcode_model::{Instruction, Listing, Op, SpaceKind, Storage, Varnode};
 use std::alloc::{AllocError, Global};

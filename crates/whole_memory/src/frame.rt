@@ -1,6 +1,6 @@
 //! Frame variables: which accesses are theirs, and which bytes.
 
-ghost use Rattle.std.specs.Prelude.{◌≡◌, [], None};
+ghost use Rattle.std.specs.Prelude.{◌≡◌, None};
 ghost use Rattle.pcode_model.specs.Places.{place};
 ghost use Rattle.pcode_model.specs.Memory.{no_frame};
 ghost use Rattle.whole_memory.specs.Frame.{frame_of, framed_in, own_in};
