@@ -14,7 +14,7 @@ use Rattle.cmeaning.specs.declared.tree.CFunction.{CFunction}
 use Rattle.cmeaning.specs.Do.{widths_in}
 use Rattle.cmeaning.specs.Shape.{shape_of, is_condition}
 use Rattle.cmeaning.specs.Mentions.{Mention, in_expr, in_option, in_stmt, in_body, stmt_step, arm_step, with_label, numbered}
-use Rattle.cmeaning.specs.Valid.{Rule, Cased, all_hold, plainly, rule_step, cased_step, rule_of, is_body, is_returned, is_name, are_params, IsValid}
+use Rattle.cmeaning.specs.Valid.{Rule, Cased, all_hold, plainly, rule_step, cased_step, cased_of, rule_of, is_body, is_returned, is_name, are_params, IsValid}
 use Rattle.cmeaning.proofs.Mentions.{numbered_append, numbered_if}
 use Rattle.blockcode.specs.declared.code.Exit.{Exit}
 use Rattle.blockcode.specs.declared.code.Exit.TheVariants as X
@@ -27,9 +27,6 @@ use Rattle.layout_laws.proofs.Laid.{locals_none}
 use Rattle.layout_laws.proofs.Positions.{numbered_from}
 
 -- ---- rules and mentions of the lines
-
-cased_of : CFunction → ℕ → Arm → Cased
-cased_of f labels a = fold-Arm Rule Cased (rule_step f labels) cased_step a
 
 pub rule_roll : (f : CFunction) (labels : ℕ) (s : Stmt) (y : Stmt-F Stmt Arm) → roll-Stmt y ≡ s → rule_of f labels s ≡ rule_step f labels (map-Stmt Stmt Arm Rule Cased (rule_of f labels) (cased_of f labels) y)
 unfolding rule_of cased_of
