@@ -7,7 +7,7 @@ use Rattle.pcode_model.specs.declared.storage.ParamStorage.TheVariants as P
 use Rattle.pcode_model.specs.Atoms.{InOrder, StandsBefore}
 use Rattle.pcode_model.specs.Flow.{IsBefore, IsIn, Rising}
 use Rattle.plain_laws.proofs.Form.{before_trans}
-use Rattle.flow.proofs.Order.{before_trans, not_before}
+use Rattle.flow.proofs.Order.{before_trans as before_place, not_before}
 
 -- each member stands before the next one
 abbrev pub Ordered : {A : Type 0} → (A → A → Type 0) → List A → Type 0
@@ -55,7 +55,7 @@ ordered_places (p ∷ []) h = tt
 ordered_places (p ∷ q ∷ rest) h = (h.0, ordered_places (q ∷ rest) h.1)
 
 pub same_places : (ps qs : List Place) → Rising ps → Rising qs → ((p : Place) → IsIn p ps → IsIn p qs) → ((p : Place) → IsIn p qs → IsIn p ps) → ps ≡ qs
-same_places ps qs h g there back = same_list IsBefore not_before before_trans ps qs (ordered_places ps h) (ordered_places qs g) there back
+same_places ps qs h g there back = same_list IsBefore not_before before_place ps qs (ordered_places ps h) (ordered_places qs g) there back
 
 -- ---- atoms
 

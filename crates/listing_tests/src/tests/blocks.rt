@@ -56,7 +56,7 @@ const SECOND_OP: Place = Place {
     index: 1,
 };
 
-const FAULTY: [Faulty; 11] = [
+const FAULT_ROWS: [Faulty; 11] = [
     Faulty {
         code: b"at 0x1000 4
   BRANCH ram:0x3000:8
@@ -136,7 +136,7 @@ at 0x1008 4
     },
 ];
 
-const BUILT: [Built; 7] = [
+const BLOCK_ROWS: [Built; 7] = [
     Built {
         code: b"at 0x1000 4
   BRANCH ram:0x1000:8
@@ -237,7 +237,7 @@ fn followed(alloc: Global, code: &[u8]) -> Result<Result<Flow, FlowFault>, Fail>
 
 #[test]
 fn names_the_fault_that_counts(rt: HostRuntime) -> Result<(), Fail> {
-    for row in &FAULTY {
+    for row in &FAULT_ROWS {
         let flow = followed(rt.alloc(), row.code)?;
         assert_eq!(rt; flow.err(), Some(row.fault));
     }
@@ -256,7 +256,7 @@ fn left_by(exit: &Exit) -> Left {
 
 #[test]
 fn lists_the_blocks(rt: HostRuntime) -> Result<(), Fail> {
-    for row in &BUILT {
+    for row in &BLOCK_ROWS {
         let flow = followed(rt.alloc(), row.code)??;
         assert_eq!(rt; flow.len(), row.blocks.len());
         for (block, (address, index, places, exit)) in flow.as_slice().iter().zip(row.blocks) {

@@ -64,16 +64,16 @@ const STEPS: [Told; 12] = [
 // Values of the switch, and where they lead.
 const LED: [(u128, usize); 5] = [(0, 11), (1, 8), (2, 8), (3, 9), (4, 11)];
 
-fn told_of(s: &Stmt) -> Told {
+fn of_statement(s: &Stmt) -> Told {
     match s {
         Stmt::Assign { target, .. } => Told::Assigns(*target),
         _ => Told::DoesElse,
     }
 }
 
-fn told(step: &Step) -> Told {
+fn of_step(step: &Step) -> Told {
     match step {
-        Step::Do(s) => told_of(s),
+        Step::Do(s) => of_statement(s),
         Step::Test { yes, no, .. } => Told::Tests(*yes, *no),
         Step::Jump(to) => Told::Jumps(*to),
         Step::Goto(label) => Told::GoesTo(*label),
@@ -101,7 +101,7 @@ fn flat_steps(rt: HostRuntime) -> Result<(), Fail> {
     let code = flat(rt.alloc(), &f)?;
     assert_eq!(rt; code.steps.len(), STEPS.len());
     for i in 0..STEPS.len() {
-        assert_eq!(rt; told(&code.steps[i]), STEPS[i]);
+        assert_eq!(rt; of_step(&code.steps[i]), STEPS[i]);
     }
     assert_eq!(rt; code.end, STEPS.len());
     assert_eq!(rt; code.position(1), 11);
