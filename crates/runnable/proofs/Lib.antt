@@ -1,1 +1,2 @@
 mod Flow
+mod Search

@@ -1,7 +1,8 @@
 //! Which listings are run today.
 
 ghost use Rattle.std.specs.Prelude.{◌≡◌, ◌↔◌, IsTrue};
-ghost use Rattle.runnable.specs.Runnable.{IsRunnable, any_table, is_table, names_table};
+ghost use Rattle.runnable.specs.Runnable.{IsRunnable};
+ghost use Rattle.runnable.specs.Search.{FindsNone, any_table, is_table, names_table};
 
 use pcode_model::{Instruction, Listing, Op, Opcode};
 
@@ -33,9 +34,15 @@ fn any_table(code: &[Instruction]) -> bool
     false
 }
 
+fn finds_none(listing: &Listing) -> bool
+    ensures { IsTrue result ↔ FindsNone listing.now }
+{
+    listing.stack.is_none() && !any_table(listing.code.as_slice())
+}
+
 /// Whether a listing has no `stack` line and no BRANCHIND, so that its run is one without stack variables and jump tables.
 pub fn is_runnable(listing: &Listing) -> bool
     ensures { IsTrue result ↔ IsRunnable listing.now }
 {
-    listing.stack.is_none() && !any_table(listing.code.as_slice())
+    finds_none(listing)
 }

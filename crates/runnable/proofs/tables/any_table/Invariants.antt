@@ -1,5 +1,5 @@
 use Rattle.std.proofs.Common.{◌≡◌, drop}
-use Rattle.runnable.specs.Runnable.{any_table}
+use Rattle.runnable.specs.Search.{any_table}
 use Rattle.runnable.proofs.tables.any_table.Given as goal
 
 abbrev pub invariant-loop-instruction : goal.invariant-loop-instruction

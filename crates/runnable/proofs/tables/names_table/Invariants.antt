@@ -1,5 +1,5 @@
 use Rattle.std.proofs.Common.{◌≡◌, drop}
-use Rattle.runnable.specs.Runnable.{names_table}
+use Rattle.runnable.specs.Search.{names_table}
 use Rattle.runnable.proofs.tables.names_table.Given as goal
 
 abbrev pub invariant-loop-op : goal.invariant-loop-op
