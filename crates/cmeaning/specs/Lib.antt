@@ -14,3 +14,4 @@ pub mod Entries
 pub mod Arms
 pub mod Examples
 pub mod Worked
+pub mod Fits

@@ -1,6 +1,6 @@
 -- The run of a C function: one step carries out one step of its flat code. Running past the last step, and a value that
 -- is undefined, end the run Undefined. This project's own.
-use Rattle.std.specs.Prelude.{ℕ, zero, suc, ◌-◌, ◌%◌, Bool, slice_get, Option, Some, None, ℤ, pos, negsuc}
+use Rattle.std.specs.Prelude.{ℕ, zero, suc, Bool, slice_get, Option, Some, None}
 use Rattle.machine.specs.Trace.{Returned, Undefined, Trace}
 use Rattle.machine.specs.Machine.{Machine, seen}
 use Rattle.bits_core.specs.Bytes.{word_of}
@@ -8,6 +8,7 @@ use Rattle.pcode_model.specs.declared.storage.ParamStorage.{ParamStorage}
 use Rattle.pcode_model.specs.declared.storage.ParamStorage.TheVariants.{Register, Unique, Stack}
 use Rattle.pcode_model.specs.declared.listing.Listing.{Listing}
 use Rattle.pcode_model.specs.Spaces.{size_of, is_big, first_ram, register_space, unique_space, bytes_at}
+use Rattle.pcode_model.specs.Frame.{wrapped}
 use Rattle.pcode_model.specs.World.{Entry, first_world, shown, unless_over}
 use Rattle.pcode_model.specs.Step.{word_in_bytes, first_apart}
 use Rattle.cmeaning.specs.declared.tree.Param.{Param}
@@ -65,11 +66,6 @@ abbrev pub c_machine : Listing → CFunction → Machine CState
 c_machine l f = record { step = c_step l f; sight = λ s. shown s.local.world }
 
 -- ---- the start
-
--- an offset from the stack pointer's entry word, as a number below the size of the space
-abbrev pub wrapped : ℕ → ℤ → ℕ
-wrapped size (pos n) = n % size
-wrapped size (negsuc n) = size - suc (n % size)
 
 -- The entry's word at a parameter's storage. On the stack each byte is the hidden one, or the memory's where none is
 -- hidden, as for a frame variable's own bytes.

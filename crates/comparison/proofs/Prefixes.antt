@@ -2,8 +2,8 @@
 use Rattle.std.proofs.Common.{◌≡◌, ◌≤◌, ℕ, List, ◌++◌, drop, map, length, ap, sym, arith}
 use Rattle.std.proofs.lemmas.List.{nil_from_length, length-drop}
 use Rattle.machine.specs.TwoWay.{IsPrefix}
-use Rattle.worlds.specs.Meaning.{event_of}
-use Rattle.worlds.specs.declared.trace.Event.{Event}
+use Rattle.run_world.specs.Meaning.{event_of}
+use Rattle.run_world.specs.declared.trace.Event.{Event}
 
 none_left : (front : List Event) (i : ℕ) → length front ≤ i → length (drop i front) ≡ 0
 none_left front i past = omega (arith, length-drop i front, past)

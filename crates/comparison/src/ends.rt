@@ -3,11 +3,11 @@
 ghost use Rattle.std.specs.Prelude.{◌≡◌, ◌↔◌};
 ghost use Rattle.std.specs.Bool.{IsTrue};
 ghost use Rattle.machine.specs.TwoWay.{SameEnd, SameWord};
-ghost use Rattle.worlds.specs.Meaning.{over_of, returned};
+ghost use Rattle.run_world.specs.Meaning.{over_of, returned};
 ghost use Rattle.comparison.specs.Says.{left_away};
 
 use bits_core::Word;
-use worlds::End;
+use run_world::End;
 
 /// The end, where it isn't Outside.
 pub fn left_away(end: Option<End>) -> Option<End>

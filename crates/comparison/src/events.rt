@@ -4,10 +4,10 @@ ghost use Rattle.std.specs.Prelude.{◌≡◌, ◌↔◌, map};
 ghost use Rattle.std.specs.Bool.{IsTrue};
 ghost use Rattle.machine.specs.Trace.{Call, Other, Store};
 ghost use Rattle.machine.specs.TwoWay.{IsPrefix};
-ghost use Rattle.worlds.specs.Meaning.{event_of, value_of};
+ghost use Rattle.run_world.specs.Meaning.{event_of, value_of};
 
 use bits_core::Word;
-use worlds::Event;
+use run_world::Event;
 
 fn same_words(a: &[Word], b: &[Word]) -> bool
     ensures { IsTrue result ↔ (map value_of a.now ≡ map value_of b.now) }

@@ -3,14 +3,14 @@
 ghost use Rattle.std.specs.Prelude.{◌≡◌, ◌↔◌, ◌++◌, OnOk};
 ghost use Rattle.std.specs.Bool.{IsTrue};
 ghost use Rattle.machine.specs.TwoWay.{IsLooseFront};
-ghost use Rattle.worlds.specs.Meaning.{trace_of};
+ghost use Rattle.run_world.specs.Meaning.{trace_of};
 ghost use Rattle.comparison.specs.Says.{Says, comparison_text, within};
 
 use crate::ends::{left_away, same_end};
 use crate::events::begin_with;
 use bits_core::Memory;
 use ctext::digits::put;
-use worlds::Trace;
+use run_world::Trace;
 
 /// How the trace of the p-code run and that of the C run compare, where an end Outside is left away and returns compare
 /// by their words if both have one.

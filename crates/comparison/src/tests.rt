@@ -1,8 +1,8 @@
 use crate::*;
 use bits_core::{Width, Word};
+use run_world::{End, Event, Events, Trace};
 use sqlite_items::Items;
 use std::test::Fail;
-use worlds::{End, Event, Events, Trace};
 
 // A trace of stores of these bytes, one each.
 fn trace(rt: &HostRuntime, stores: &[u8], end: Option<End>) -> Result<Trace, Fail> {

@@ -8,7 +8,7 @@ use Rattle.std.proofs.lemmas.Bool.Decides.{nat_tests}
 use Rattle.listing_lines.specs.Text.{Line}
 use Rattle.listing_lines.specs.Tokens.{bytes_of, pairs_of}
 use Rattle.pcode_model.specs.Spaces.{any_at, is_some, next, or}
-use Rattle.worlds.specs.declared.entry.Byte.{Byte}
+use Rattle.run_world.specs.declared.entry.Byte.{Byte}
 use Rattle.entrytext.specs.Meaning.{bytes_from}
 
 abbrev pub IsSmall : ℕ → Type 0

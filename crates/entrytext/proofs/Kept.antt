@@ -8,7 +8,7 @@ use Rattle.pcode_model.specs.declared.listing.Listing.{Listing}
 use Rattle.pcode_model.specs.declared.listing.SpaceKind.TheVariants.{Ram}
 use Rattle.pcode_model.specs.Ranges.{is_kind}
 use Rattle.pcode_model.specs.Spaces.{first_ram, is_fixed, register_space, size_of}
-use Rattle.worlds.specs.declared.entry.Answer.{Answer}
+use Rattle.run_world.specs.declared.entry.Answer.{Answer}
 use Rattle.entrytext.specs.declared.form.BytesLine.{BytesLine}
 use Rattle.entrytext.specs.declared.form.Form.{Form}
 use Rattle.entrytext.specs.declared.form.Form.TheVariants as form

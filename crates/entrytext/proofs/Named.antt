@@ -10,7 +10,7 @@ use Rattle.pcode_model.specs.declared.listing.SpaceKind.TheVariants.{Constant, R
 use Rattle.pcode_model.specs.Ranges.{is_kind}
 use Rattle.pcode_model.specs.Spaces.{first_ram, kind_in, kind_of, register_space, same_kind, size_of, unique_space}
 use Rattle.pcode_model.specs.WellFormed.{IsWellFormed}
-use Rattle.worlds.proofs.Declared.{kind_at, ram_not_constant, size_most}
+use Rattle.run_world.proofs.Declared.{kind_at, ram_not_constant, size_most}
 use Rattle.entrytext.specs.Forms.{ram_from, ram_named}
 use Rattle.entrytext.proofs.Passing.{left_true}
 

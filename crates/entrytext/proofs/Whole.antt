@@ -5,7 +5,7 @@ use Rattle.std.specs.Option.{option_to_list}
 use Rattle.listing_lines.specs.Text.{Line, lines_of}
 use Rattle.pcode_model.specs.declared.listing.Listing.{Listing}
 use Rattle.pcode_model.specs.WellFormed.{IsWellFormed}
-use Rattle.worlds.specs.declared.entry.Entry.{Entry}
+use Rattle.run_world.specs.declared.entry.Entry.{Entry}
 use Rattle.entrytext.specs.declared.said.Said.{Said}
 use Rattle.entrytext.specs.declared.fault.EntryFault.{EntryFault}
 use Rattle.entrytext.specs.declared.fault.EntryFault.TheVariants.{Syntax}

@@ -5,9 +5,9 @@ use Rattle.pcode_model.specs.declared.listing.Listing.{Listing}
 use Rattle.pcode_model.specs.declared.listing.SpaceKind.TheVariants.{Constant, Ram}
 use Rattle.pcode_model.specs.Ranges.{is_kind}
 use Rattle.pcode_model.specs.Spaces.{first_ram, is_fixed, kind_of, register_space, same_kind, size_of}
-use Rattle.worlds.specs.declared.entry.Answer.{Answer}
-use Rattle.worlds.specs.declared.entry.Byte.{Byte}
-use Rattle.worlds.specs.declared.entry.Entry.{Entry}
+use Rattle.run_world.specs.declared.entry.Answer.{Answer}
+use Rattle.run_world.specs.declared.entry.Byte.{Byte}
+use Rattle.run_world.specs.declared.entry.Entry.{Entry}
 
 -- a byte at an offset of its space
 pub record IsInside (l : Listing) (b : Byte) : Type 0 where

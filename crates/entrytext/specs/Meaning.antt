@@ -3,9 +3,9 @@ use Rattle.std.specs.Prelude.{◌+◌, suc, ℕ, true, false, List, [], ◌∷�
 use Rattle.std.specs.Option.{option_map, option_to_list}
 use Rattle.listing_lines.specs.Text.{Line, lines_of}
 use Rattle.pcode_model.specs.declared.listing.Listing.{Listing}
-use Rattle.worlds.specs.declared.entry.Answer.{Answer}
-use Rattle.worlds.specs.declared.entry.Byte.{Byte}
-use Rattle.worlds.specs.declared.entry.Entry.{Entry}
+use Rattle.run_world.specs.declared.entry.Answer.{Answer}
+use Rattle.run_world.specs.declared.entry.Byte.{Byte}
+use Rattle.run_world.specs.declared.entry.Entry.{Entry}
 use Rattle.entrytext.specs.declared.fault.EntryFault.{EntryFault}
 use Rattle.entrytext.specs.declared.fault.EntryFault.TheVariants as entry_fault
 use Rattle.entrytext.specs.declared.fault.Why.{Why}

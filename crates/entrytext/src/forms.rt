@@ -3,7 +3,7 @@
 ghost use Rattle.std.specs.Prelude.{◌≡◌, ◌≤◌, length, IfOk};
 ghost use Rattle.listing_lines.specs.Text.{left, parts_of};
 ghost use Rattle.listing_lines.specs.Tokens.{bytes_of, hexadecimal_of};
-ghost use Rattle.worlds.specs.Setting.{IsSetting};
+ghost use Rattle.run_world.specs.Setting.{IsSetting};
 ghost use Rattle.entrytext.specs.Forms.{answer_form, end_form, entry_form, form_of, hidden_made, line_made, line_of, named_by, named_line_of, part_form, part_made, state_form, state_made};
 
 use crate::form::{BytesLine, Form, Part};
@@ -11,8 +11,8 @@ use crate::spaces::ram_named;
 use crate::words::word;
 use listing_lines::{first_part, hexadecimal, is_name, next_part, pairs};
 use pcode_model::{Listing, Space};
+use run_world::Setting;
 use std::alloc::{AllocError, Global};
-use worlds::Setting;
 
 /// The form of a line.
 pub fn form(

@@ -11,8 +11,8 @@ use crate::fault::{EntryFault, LineFault, Why};
 use crate::said::Said;
 use listing_lines::split_line;
 use pcode_model::Listing;
+use run_world::{Entry, Setting};
 use std::alloc::Global;
-use worlds::{Entry, Setting};
 
 /// The entry of a listing that a text stands for, which lies in the listing. Otherwise the first fault of the text's
 /// least faulty line, with the number of that line: Syntax, with the number of lines plus 1, where the text ends before

@@ -1,6 +1,6 @@
 //! What the lines of an entry have said so far.
 
-use worlds::{Answer, Answers, ByteList};
+use run_world::{Answer, Answers, ByteList};
 
 /// What the lines so far have said.
 #[derive(Drop)]

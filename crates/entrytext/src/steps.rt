@@ -4,7 +4,7 @@ ghost use Rattle.std.specs.Prelude.{◌≡◌, ◌≤◌, ◌+◌, ◌^◌, ◌<
 ghost use Rattle.pcode_model.specs.Ranges.{leaves};
 ghost use Rattle.pcode_model.specs.Spaces.{any_at, is_fixed, size_of};
 ghost use Rattle.pcode_model.specs.WellFormed.{IsWellFormed};
-ghost use Rattle.worlds.specs.Setting.{IsSetting};
+ghost use Rattle.run_world.specs.Setting.{IsSetting};
 ghost use Rattle.entrytext.specs.Faults.{is_out};
 ghost use Rattle.entrytext.specs.Meaning.{bytes_from, start, step, step_by, with_part};
 ghost use Rattle.entrytext.specs.Reader.{Does};
@@ -15,9 +15,9 @@ use crate::form::{BytesLine, Form, Part};
 use crate::forms::form;
 use crate::said::Said;
 use pcode_model::Listing;
+use run_world::{Answer, Byte, ByteList, Setting, Shape};
 use sqlite_items::Items;
 use std::alloc::{AllocError, Global};
-use worlds::{Answer, Byte, ByteList, Setting, Shape};
 
 impl Said {
     /// What is said before the first line.

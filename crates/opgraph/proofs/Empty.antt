@@ -1,7 +1,7 @@
 -- The graph with nothing in it.
 use Rattle.std.proofs.Common.{ℕ, Option, Some, None, arith, refl}
-use Rattle.lists.specs.Chains.{IsIn, Apart}
-use Rattle.lists.specs.Families.{list_at, IsFull, nothing}
+use Rattle.node_lists.specs.Chains.{IsIn, Apart}
+use Rattle.node_lists.specs.Families.{list_at, IsFull, nothing}
 use Rattle.opgraph.specs.declared.code.Body.{Body}
 use Rattle.opgraph.specs.Parts.{Good}
 use Rattle.opgraph.proofs.Tables.{none_some}

@@ -1,8 +1,8 @@
 -- The slots that read a value have numbers of slots.
 use Rattle.std.proofs.Common.{ℕ, ◌<◌, List, [], ◌∷◌, length, inl, inr, Some, refl}
 use Rattle.opgraph.specs.declared.code.Body.{Body}
-use Rattle.lists.specs.Chains.{IsIn}
-use Rattle.lists.specs.Families.{Family, list_at, key_at}
+use Rattle.node_lists.specs.Chains.{IsIn}
+use Rattle.node_lists.specs.Families.{Family, list_at, key_at}
 use Rattle.opgraph.specs.Parts.{Good, AreLow}
 use Rattle.opgraph.proofs.Tables.{some_of, value_of}
 

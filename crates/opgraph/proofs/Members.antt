@@ -2,7 +2,7 @@
 use Rattle.std.proofs.Common.{◌≡◌, ℕ, ◌↔◌, Option, Some, None, IsSome, IfSome, sym, subst, refl}
 use Rattle.bits_core.specs.declared.word.Width.{Width}
 use Rattle.opgraph.specs.declared.code.Body.{Body}
-use Rattle.lists.specs.Families.{Family, key_at}
+use Rattle.node_lists.specs.Families.{Family, key_at}
 use Rattle.opgraph.specs.Graph.{OpRow, IsOp, has_width}
 use Rattle.opgraph.specs.Parts.{graph_of, Good}
 use Rattle.opgraph.proofs.Tables.{op_at_is, some_of, value_of}

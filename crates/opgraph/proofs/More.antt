@@ -5,10 +5,10 @@ use Rattle.std.proofs.lemmas.Bool.{cases_eq}
 use Rattle.std.proofs.lemmas.List.{length-set}
 use Rattle.opgraph.specs.declared.code.Code.{Code}
 use Rattle.opgraph.specs.declared.code.Body.{Body}
-use Rattle.lists.specs.Chains.{put_at}
-use Rattle.lists.proofs.Chains.{put_here, put_away, key_here, key_away}
-use Rattle.lists.proofs.Fields.{get_set, get_other}
-use Rattle.lists.specs.Families.{Family, list_at, key_at, MoreSpare, MoreLists}
+use Rattle.node_lists.specs.Chains.{put_at}
+use Rattle.node_lists.proofs.Chains.{put_here, put_away, key_here, key_away}
+use Rattle.node_lists.proofs.Fields.{get_set, get_other}
+use Rattle.node_lists.specs.Families.{Family, list_at, key_at, MoreSpare, MoreLists}
 use Rattle.opgraph.specs.Graph.{OpRow, op_at, block_at, Same, Rewritten}
 use Rattle.opgraph.specs.Parts.{or_zero, row_slot, inputs_of, row_of, uses_of, slot_of, graph_of, has_value, HasValue, Good, Kept, KeptNodes}
 use Rattle.opgraph.proofs.Tables.{some_same, none_some, some_of, below_or, op_at_is, uses_at_is}
@@ -162,7 +162,7 @@ module _ (o : Family Body) (i i' : Family ℕ) (u u' : Family (Unit {0})) (g : G
       slots_uses = omega arith;
       reads = λ s h. g.reads s (subst (λ (f : ℕ → Option ℕ). IsSome (f s)) m.keys h);
       spare = λ s h. subst (λ (f : ℕ → Option ℕ). IsSome (f s)) (sym m.keys) (g.spare s h);
-      places = λ x n s z. let old = g.places x n s (ap (λ ps. slice_get ps n) (sym (list_same x)) ∙ z) in held_slot s (Rattle.lists.proofs.Fields.low_of i.held s n old) ∙ old;
+      places = λ x n s z. let old = g.places x n s (ap (λ ps. slice_get ps n) (sym (list_same x)) ∙ z) in held_slot s (Rattle.node_lists.proofs.Fields.low_of i.held s n old) ∙ old;
       owners = λ s x z. g.owners s x (ap (λ (f : ℕ → Option ℕ). f s) (sym m.keys) ∙ z);
       values = g.values;
     }
@@ -170,10 +170,10 @@ module _ (o : Family Body) (i i' : Family ℕ) (u u' : Family (Unit {0})) (g : G
     slot_same : (v : ℕ) → uses_of i' u v ≡ uses_of i u v
     slot_same v = along (list_at u (Some v)) (λ s n. low s n)
       where
-        low : (s : ℕ) → Rattle.lists.specs.Chains.IsIn s (list_at u (Some v)) → s < length i.held
+        low : (s : ℕ) → Rattle.node_lists.specs.Chains.IsIn s (list_at u (Some v)) → s < length i.held
         low s n = let h = (g.full_uses.members (Some v) s n).1 in let x = Rattle.opgraph.proofs.Tables.value_of (key_at i s) (g.spare s (some_of h)) in g.full_inputs.low s x.0 x.1
 
-        along : (ps : List ℕ) → ((s : ℕ) → Rattle.lists.specs.Chains.IsIn s ps → s < length i.held) → map (slot_of i') ps ≡ map (slot_of i) ps
+        along : (ps : List ℕ) → ((s : ℕ) → Rattle.node_lists.specs.Chains.IsIn s ps → s < length i.held) → map (slot_of i') ps ≡ map (slot_of i) ps
         along [] h = refl
         along (p ∷ ps) h = λ j. record { op = record { 0 = or_zero (m.keys j p) }; slot = or_zero (held_slot p (h p (inl refl)) j) } ∷ along ps (λ s n. h s (inr n)) j
 

@@ -1,10 +1,10 @@
 -- All nodes of one list go to another.
 use Rattle.std.proofs.Common.{◌≡◌, ℕ, ◌<◌, List, [], ◌∷◌, length, inl, inr, Option, Some, None, refl, sym, ap, ◌∙◌, subst, cond, arith}
 use Rattle.std.proofs.lemmas.Bool.{cases_eq}
-use Rattle.lists.specs.Chains.{IsIn, removed, head_or}
-use Rattle.lists.proofs.Chains.{put_here, put_away, key_away, same_key_not, same_key_refl, head_none}
-use Rattle.lists.proofs.Families.{length_less}
-use Rattle.lists.specs.Families.{Family, list_at, key_at, IsFull, Moved}
+use Rattle.node_lists.specs.Chains.{IsIn, removed, head_or}
+use Rattle.node_lists.proofs.Chains.{put_here, put_away, key_away, same_key_not, same_key_refl, head_none}
+use Rattle.node_lists.proofs.Families.{length_less}
+use Rattle.node_lists.specs.Families.{Family, list_at, key_at, IsFull, Moved}
 use Rattle.opgraph.specs.Parts.{moved_key, MovedAll}
 use Rattle.opgraph.proofs.Tables.{some_same, none_some}
 

@@ -4,11 +4,11 @@ use Rattle.std.proofs.Math.Path.{fun_ext}
 use Rattle.std.proofs.lemmas.Bool.{cases_eq}
 use Rattle.std.proofs.lemmas.List.{length-set}
 use Rattle.opgraph.specs.declared.code.Body.{Body}
-use Rattle.lists.specs.Chains.{IsIn, removed, head_or, put_at}
-use Rattle.lists.proofs.Chains.{put_here, put_away, key_here, key_away, removed_absent, head_none}
-use Rattle.lists.proofs.Fields.{get_set, get_other}
-use Rattle.lists.proofs.Families.{length_less}
-use Rattle.lists.specs.Families.{Family, list_at, key_at, Moved}
+use Rattle.node_lists.specs.Chains.{IsIn, removed, head_or, put_at}
+use Rattle.node_lists.proofs.Chains.{put_here, put_away, key_here, key_away, removed_absent, head_none}
+use Rattle.node_lists.proofs.Fields.{get_set, get_other}
+use Rattle.node_lists.proofs.Families.{length_less}
+use Rattle.node_lists.specs.Families.{Family, list_at, key_at, Moved}
 use Rattle.opgraph.specs.Graph.{OpRow, block_at, IsOp, Added, Removed}
 use Rattle.opgraph.specs.Parts.{or_zero, row_slot, inputs_of, row_of, uses_of, slot_of, graph_of, has_value, Good}
 use Rattle.opgraph.proofs.Tables.{some_same, none_some, some_of, get_low, op_at_is}

@@ -4,9 +4,9 @@ use Rattle.std.proofs.Math.Path.{fun_ext}
 use Rattle.std.proofs.lemmas.Bool.{cases_eq}
 use Rattle.opgraph.specs.declared.code.Body.{Body}
 use Rattle.opgraph.specs.declared.ids.Slot.{Slot}
-use Rattle.lists.specs.Chains.{IsIn, Apart, removed, last_or, same_key}
-use Rattle.lists.proofs.Chains.{put_here, put_away, key_here, key_away, removed_absent, removed_within, apart_sides, key_away}
-use Rattle.lists.specs.Families.{Family, list_at, key_at, Moved}
+use Rattle.node_lists.specs.Chains.{IsIn, Apart, removed, last_or, same_key}
+use Rattle.node_lists.proofs.Chains.{put_here, put_away, key_here, key_away, removed_absent, removed_within, apart_sides, key_away}
+use Rattle.node_lists.specs.Families.{Family, list_at, key_at, Moved}
 use Rattle.opgraph.specs.Graph.{OpRow, op_at, uses_at, IsOp, IsValue, Rewritten, Renamed, inputs_in, renamed, renamed_row, front}
 use Rattle.opgraph.specs.Parts.{or_zero, row_slot, inputs_of, slot_of, graph_of, HasValue, Good, moved_key, MovedAll}
 use Rattle.opgraph.proofs.Tables.{some_same, none_some, some_of, value_of, op_at_is, uses_at_is}
@@ -128,7 +128,7 @@ module _ (o : Family Body) (i : Family ℕ) (u : Family (Unit {0})) (g : Good o 
 
   module _ (s x : ℕ) (ps : List ℕ) (e : list_at i (Some x) ≡ ps ++ s ∷ []) (i' : Family ℕ) (u' : Family (Unit {0})) (m : Moved s None (s ∷ removed s (list_at i None)) i i') (n : Moved s None (s ∷ removed s (list_at u None)) u u') where
     here : IsIn s (list_at i (Some x))
-    here = subst (IsIn s) (sym e) (Rattle.lists.proofs.Chains.in_right s ps (s ∷ []) (inl refl))
+    here = subst (IsIn s) (sym e) (Rattle.node_lists.proofs.Chains.in_right s ps (s ∷ []) (inl refl))
 
     owner : key_at i s ≡ Some x
     owner = (g.full_inputs.members (Some x) s here).1

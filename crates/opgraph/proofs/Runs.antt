@@ -3,8 +3,8 @@ use Rattle.std.proofs.Common.{◌≡◌, ℕ, zero, suc, ◌+◌, ◌-◌, ◌<�
 use Rattle.std.proofs.Math.Path.{fun_ext}
 use Rattle.std.proofs.lemmas.Bool.{cases_eq}
 use Rattle.std.proofs.lemmas.List.{append-nil}
-use Rattle.lists.specs.Chains.{put_at}
-use Rattle.lists.proofs.Chains.{put_here, put_away}
+use Rattle.node_lists.specs.Chains.{put_at}
+use Rattle.node_lists.proofs.Chains.{put_here, put_away}
 use Rattle.opgraph.specs.declared.ids.ValueId.{ValueId}
 use Rattle.opgraph.specs.Graph.{OpRow, Graph, op_at, IsOp, IsValue, IsWhole, AreValues, numbers, Rewritten, inputs_in, front}
 use Rattle.opgraph.proofs.Tables.{some_same, value_of}

@@ -2,8 +2,8 @@
 use Rattle.std.proofs.Common.{◌≡◌, ℕ, List, [], ◌∷◌, inl, inr, Option, Some, None, IsSome, refl, sym, ap, ◌∙◌, subst}
 use Rattle.std.proofs.Math.Path.{fun_ext}
 use Rattle.std.proofs.lemmas.Bool.{cases_eq}
-use Rattle.lists.specs.Chains.{put_at}
-use Rattle.lists.proofs.Chains.{put_here, put_away}
+use Rattle.node_lists.specs.Chains.{put_at}
+use Rattle.node_lists.proofs.Chains.{put_here, put_away}
 use Rattle.opgraph.specs.Graph.{OpRow, Graph, op_at, block_at, uses_at, IsOp, IsValue, AreValues, Same, Rewritten, Added, Removed, inputs_in, has_width}
 use Rattle.opgraph.proofs.Tables.{some_same}
 
@@ -71,7 +71,7 @@ rewritten_after x row g h k s w = record { ops = w.ops ∙ ap (put_at (Some x) (
 pub removed_after : (x : ℕ) (r now : OpRow) (g h k : Graph) → Rewritten x now g h → Removed x now h k → now.block ≡ r.block → Removed x r g k
 removed_after x r now g h k w m e = record {
   ops = m.ops ∙ ap (put_at (Some x) None) w.ops ∙ put_twice x None (Some now) (op_at g);
-  blocks = m.blocks ∙ (λ j. put_at (Some (e j)) (Rattle.lists.specs.Chains.removed x (w.blocks j (e j))) (w.blocks j));
+  blocks = m.blocks ∙ (λ j. put_at (Some (e j)) (Rattle.node_lists.specs.Chains.removed x (w.blocks j (e j))) (w.blocks j));
   count = m.count ∙ w.count;
   whole = m.whole;
 }

@@ -4,10 +4,10 @@ use Rattle.std.proofs.Math.Path.{fun_ext}
 use Rattle.std.proofs.lemmas.Bool.{cases_eq}
 use Rattle.std.proofs.lemmas.List.{length-set}
 use Rattle.opgraph.specs.declared.code.Body.{Body}
-use Rattle.lists.specs.Chains.{IsIn, removed, head_or, put_at}
-use Rattle.lists.proofs.Chains.{put_here, put_away, key_here, key_away, removed_absent, head_none}
-use Rattle.lists.proofs.Fields.{get_set, get_other}
-use Rattle.lists.specs.Families.{Family, list_at, key_at, Moved}
+use Rattle.node_lists.specs.Chains.{IsIn, removed, head_or, put_at}
+use Rattle.node_lists.proofs.Chains.{put_here, put_away, key_here, key_away, removed_absent, head_none}
+use Rattle.node_lists.proofs.Fields.{get_set, get_other}
+use Rattle.node_lists.specs.Families.{Family, list_at, key_at, Moved}
 use Rattle.opgraph.specs.Graph.{OpRow, op_at, IsOp, IsValue, Rewritten, has_width}
 use Rattle.opgraph.specs.Parts.{or_zero, row_slot, inputs_of, row_of, graph_of, has_value, HasValue, Good}
 use Rattle.opgraph.proofs.Tables.{some_same, none_some, some_of, value_of, get_low, op_at_is}
@@ -171,4 +171,4 @@ module _ (o : Family Body) (i : Family ℕ) (u : Family (Unit {0})) (g : Good o 
     attached_spares =
         let e : list_at i' None ≡ removed s (list_at i None) = ap (λ (h : Option ℕ → List ℕ). h None) m.lists ∙ key_away (removed s (list_at i1 (Some x)) ++ s ∷ []) (Some x) (λ j. removed s (list_at i1 j)) None (λ e. none_some (sym e)) ∙ ap (λ (z : Family ℕ). removed s (list_at z None)) e1 in
         let h = subst (λ k. IsIn s (list_at i k)) f.key (g.full_inputs.everyone s f.low) in
-        let l = Rattle.lists.proofs.Families.length_less s (list_at i None) h in let k = ap length e in omega arith
+        let l = Rattle.node_lists.proofs.Families.length_less s (list_at i None) h in let k = ap length e in omega arith

@@ -3,7 +3,7 @@ use Rattle.std.proofs.Common.{◌≡◌, ℕ, zero, suc, ◌<◌, ◌≤◌, Lis
 use Rattle.std.proofs.Math.Path.{fun_ext}
 use native.Mathlib.Nat.{not-suc-le-zero, le_of_suc-le-suc}
 use Rattle.opgraph.specs.declared.code.Body.{Body}
-use Rattle.lists.specs.Families.{Family, key_at}
+use Rattle.node_lists.specs.Families.{Family, key_at}
 use Rattle.opgraph.specs.Graph.{op_slot, list_slot, op_at, uses_at}
 use Rattle.opgraph.specs.Parts.{table, row_slot, row_of, uses_of, slot_of, graph_of}
 
@@ -73,4 +73,4 @@ module _ (o : Family Body) (i : Family ℕ) (u : Family (Unit {0})) where
     where
       by_size : (v : ℕ) → (v < length u.lists) ⊎ (length u.lists ≤ v) → uses_at (graph_of o i u) v ≡ uses_of i u v
       by_size v (inl h) = ap list_slot (table_in (length u.lists) (uses_of i u) v h)
-      by_size v (inr h) = ap list_slot (table_out (length u.lists) (uses_of i u) v h) ∙ sym (ap (λ l. map (slot_of i) (Rattle.lists.specs.Families.list_slot l)) (get_past u.lists v h))
+      by_size v (inr h) = ap list_slot (table_out (length u.lists) (uses_of i u) v h) ∙ sym (ap (λ l. map (slot_of i) (Rattle.node_lists.specs.Families.list_slot l)) (get_past u.lists v h))

@@ -2,8 +2,8 @@
 use Rattle.std.proofs.Common.{◌≡◌, ℕ, zero, suc, List, [], ◌∷◌, map, inl, inr, Option, Some, None, refl, sym, ap, ◌∙◌, subst, slice_get}
 use Rattle.opgraph.specs.declared.code.Body.{Body}
 use Rattle.opgraph.specs.declared.ids.Slot.{Slot}
-use Rattle.lists.specs.Chains.{IsIn, Apart}
-use Rattle.lists.specs.Families.{Family, list_at, key_at}
+use Rattle.node_lists.specs.Chains.{IsIn, Apart}
+use Rattle.node_lists.specs.Families.{Family, list_at, key_at}
 use Rattle.opgraph.specs.Graph.{OpRow, op_at, block_at, uses_at, Reads, IsAmong, IsOnce, IsWhole, inputs_in, in_block, has_width}
 use Rattle.opgraph.specs.Parts.{or_zero, row_slot, inputs_of, row_of, uses_of, slot_of, graph_of, has_value, HasValue, Good}
 use Rattle.opgraph.proofs.Tables.{some_same, none_some, some_of, value_of, get_low, get_map, of_map, op_at_is, uses_at_is}

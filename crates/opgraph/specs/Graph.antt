@@ -4,7 +4,7 @@ use Rattle.bits_core.specs.declared.word.Width.{Width}
 use Rattle.opgraph.specs.declared.code.Code.{Code}
 use Rattle.opgraph.specs.declared.ids.Slot.{Slot}
 use Rattle.opgraph.specs.declared.ids.ValueId.{ValueId}
-use Rattle.lists.specs.Chains.{IsIn, Apart, removed, put_at}
+use Rattle.node_lists.specs.Chains.{IsIn, Apart, removed, put_at}
 
 -- what the graph says of an op: the number of its block, what it does, the
 -- numbers of the values that its slots read, in order, and its value's width
@@ -37,7 +37,7 @@ op_at g x = op_slot (slice_get g.ops x)
 
 -- the ops of a block, in order
 abbrev pub block_at : Graph → ℕ → List ℕ
-block_at g b = Rattle.lists.specs.Families.list_slot (slice_get g.blocks b)
+block_at g b = Rattle.node_lists.specs.Families.list_slot (slice_get g.blocks b)
 
 -- the slots that read a value
 abbrev pub uses_at : Graph → ℕ → List Slot

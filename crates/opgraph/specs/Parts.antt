@@ -4,8 +4,8 @@ use Rattle.std.specs.Prelude.{◌≡◌, ℕ, zero, suc, ◌<◌, ◌≤◌, if�
 use Rattle.opgraph.specs.declared.code.Body.{Body}
 use Rattle.opgraph.specs.declared.ids.Slot.{Slot}
 use Rattle.opgraph.specs.declared.ids.OpId.{OpId}
-use Rattle.lists.specs.Families.{Family, list_at, key_at, IsFull}
-use Rattle.lists.specs.Chains.{same_key}
+use Rattle.node_lists.specs.Families.{Family, list_at, key_at, IsFull}
+use Rattle.node_lists.specs.Chains.{same_key}
 use Rattle.opgraph.specs.Graph.{OpRow, Graph}
 
 -- the n values of f, from 0 on

@@ -1,6 +1,6 @@
 //! New ops.
 ghost use Rattle.std.specs.Prelude.{◌≡◌, ◌+◌, ◌<◌, ◌≤◌, ◌^◌, [], ◌∷◌, ◌++◌, length, Some, IsOk, IfOk, IfErr};
-ghost use Rattle.lists.specs.Families.{inserted};
+ghost use Rattle.node_lists.specs.Families.{inserted};
 ghost use Rattle.opgraph.specs.Graph.{OpRow, Same, Added, Rewritten, op_at, block_at, IsOp, IsBlock, IsValue, AreValues, numbers};
 
 use crate::code::{Body, Code};

@@ -1,13 +1,13 @@
 //! Edits that take no memory.
 ghost use Rattle.std.specs.Prelude.{◌≡◌, ◌+◌, ◌<◌, ◌≤◌, ◌≢◌, [], length, Some, None, slice_set};
 ghost use Rattle.opgraph.specs.Graph.{OpRow, op_at, uses_at, IsOp, IsValue, AreValues, numbers, inputs_in, Rewritten, Renamed, Removed, SameSpares};
-ghost use Rattle.lists.specs.Families.{IsFull};
+ghost use Rattle.node_lists.specs.Families.{IsFull};
 ghost use Rattle.opgraph.specs.Parts.{MovedAll};
 
 use crate::code::Code;
 use crate::graph::OpGraph;
 use crate::ids::{OpId, ValueId};
-use lists::Lists;
+use node_lists::Lists;
 
 /// Each node of the list `before` goes to the list `after`.
 fn move_all(uses: &mut Lists<()>, before: u32, after: u32)

@@ -3,7 +3,7 @@ ghost use Rattle.std.specs.Prelude.{◌≡◌, []};
 ghost use Rattle.opgraph.specs.Graph.{op_at, block_at, uses_at};
 
 use crate::code::Body;
-use lists::Lists;
+use node_lists::Lists;
 use std::alloc::Global;
 use std::marker::Model;
 

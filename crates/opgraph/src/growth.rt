@@ -7,7 +7,7 @@ use crate::code::{Body, Code};
 use crate::graph::OpGraph;
 use crate::ids::BlockId;
 use bits_core::Memory;
-use lists::Lists;
+use node_lists::Lists;
 
 /// Makes sure of a list of this number.
 fn ensure_list<T: Copy + Drop>(lists: &mut Lists<T>, number: u32) -> Result<(), Memory>

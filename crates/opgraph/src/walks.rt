@@ -7,7 +7,7 @@ ghost use Rattle.opgraph.specs.Parts.{op_ids};
 use crate::code::Body;
 use crate::graph::OpGraph;
 use crate::ids::{BlockId, OpId, Slot, ValueId};
-use lists::{Lists, Walk};
+use node_lists::{Lists, Walk};
 use std::marker::Model;
 
 /// The ops of a block, in order.

@@ -1,8 +1,9 @@
-//! Where bytes come from and go to: traits with a count of faults, forms in memory, and the
-//! standard streams.
+//! Where bytes come from and go to: traits with a count of faults, forms in memory, the standard
+//! streams, and the files of the file system.
 #![tactic(auto)]
 
 mod calls;
+mod file_shelf;
 mod files;
 mod mem_shelf;
 mod mem_sink;
@@ -13,6 +14,7 @@ mod std_streams;
 mod traits;
 mod writing;
 
+pub use file_shelf::FileShelf;
 pub use files::{File, Files};
 pub use mem_shelf::MemShelf;
 pub use mem_sink::MemSink;

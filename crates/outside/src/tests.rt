@@ -136,3 +136,14 @@ fn the_streams_of_std_pass_bytes_on(rt: HostRuntime) -> Result<(), Fail> {
     assert!(rt; write_all(&mut out, b"!").is_err(), "the slice is full");
     Ok(())
 }
+
+#[test]
+fn file_shelf_opens_files_by_their_paths(rt: HostRuntime) -> Result<(), Fail> {
+    let mut shelf = FileShelf::new(&rt);
+    let mut room = [0u8; 8];
+    assert!(rt; matches!(shelf.read(&mut room[..]), Ok(0)));
+    assert!(rt; shelf.select("no/such/file").is_err());
+    assert!(rt; shelf.select("/dev/null").is_ok());
+    assert!(rt; matches!(shelf.read(&mut room[..]), Ok(0)));
+    Ok(())
+}

@@ -1,2 +1,4 @@
-pub mod Grows
 pub mod Ends
+pub mod Grows
+pub mod Rules
+pub mod Sizes

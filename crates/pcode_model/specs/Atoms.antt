@@ -1,6 +1,6 @@
--- The ranges of the register space and the unique space that reached ops access, and the atoms: the coarsest ranges such
--- that each access is a whole number of them. This project's own.
-use Rattle.std.specs.Prelude.{◌≡◌, ℕ, ◌+◌, ◌<◌, ◌≤◌, List, [], ◌∷◌, ◌++◌, Option, Some, None, ◌⊎◌, ◌↔◌}
+-- The ranges of the register space, the unique space and the frame that reached ops access, and the atoms: the coarsest
+-- ranges such that each access is a whole number of them. This project's own.
+use Rattle.std.specs.Prelude.{◌≡◌, ℕ, ◌+◌, ◌<◌, ◌≤◌, List, [], ◌∷◌, ◌++◌, Option, Some, None, ◌⊎◌, ◌↔◌, ℤ, pos, ◌+ℤ◌, ◌<ℤ◌}
 use Rattle.pcode_model.specs.declared.listing.Op.{Op}
 use Rattle.pcode_model.specs.declared.listing.Place.{Place}
 use Rattle.pcode_model.specs.declared.listing.Varnode.{Varnode}
@@ -15,6 +15,8 @@ use Rattle.pcode_model.specs.declared.storage.ParamStorage.TheVariants as P
 use Rattle.pcode_model.specs.declared.tables.Table.{Table}
 use Rattle.pcode_model.specs.declared.tables.TableAt.{TableAt}
 use Rattle.pcode_model.specs.declared.atoms.Atom.{Atom}
+use Rattle.pcode_model.specs.declared.frame.Frame.{Frame}
+use Rattle.pcode_model.specs.declared.frame.FrameAccess.{FrameAccess}
 use Rattle.pcode_model.specs.Spaces.{register_space, unique_space}
 use Rattle.pcode_model.specs.Places.{Standing, Nothing, Passes, Does, standing}
 use Rattle.pcode_model.specs.Step.{Operand, Reads, ReadsStack, operands, callee_at, proto_of, varnode_at}
@@ -67,55 +69,100 @@ pub record Accesses (l : Listing) (t : List TableAt) (v : Varnode) : Type 0 wher
   pub range : IsIn v (ranges_at l t at)
   pub is_local : IsLocal l v.space
 
--- ---- atoms
+-- ---- atoms: ranges of storage, in one of three areas
 
-abbrev pub argument_ranges : List Storage → List Varnode
+-- where a storage is: the register space, the unique space, or the frame
+pub data Area : Type 0 where
+  Registers : Area
+  Uniques : Area
+  Stacked : Area
+
+abbrev pub area_of : ParamStorage → Area
+area_of (P.Register o) = Registers
+area_of (P.Unique o) = Uniques
+area_of (P.Stack o) = Stacked
+
+-- an offset in its space, or from the stack pointer's entry word
+abbrev pub offset_of : ParamStorage → ℤ
+offset_of (P.Register o) = pos o
+offset_of (P.Unique o) = pos o
+offset_of (P.Stack o) = o
+
+-- so many bytes of storage
+abbrev pub Range : Type 0
+Range = Atom
+
+abbrev pub range : ParamStorage → ℕ → Range
+range s k = record { storage = s; size = k }
+
+abbrev pub varnode : ℕ → ℕ → ℕ → Varnode
+varnode s o k = record { space = s; offset = o; size = k }
+
+-- an access of a frame variable
+abbrev pub IsFrameAccess : Frame → ℤ → ℕ → Type 0
+IsFrameAccess f o k = (a : FrameAccess) × (IsIn a f.accesses × ((a.offset ≡ o) × (a.size ≡ k)))
+
+-- this range is accessed at a reached place
+abbrev pub IsAccessed : Listing → List TableAt → Frame → Range → Type 0
+IsAccessed l t f r = accessed r.storage r.size where
+  accessed : ParamStorage → ℕ → Type 0
+  accessed (P.Register o) k = Accesses l t (varnode (register_space l) o k)
+  accessed (P.Unique o) k = Accesses l t (varnode (unique_space l) o k)
+  accessed (P.Stack o) k = IsFrameAccess f o k
+
+-- the storage of an argument of the function: on the stack it is so far above the stack pointer's entry word
+abbrev pub argument_range : Storage → Range
+argument_range (At v) = range (P.Register v.offset) v.size
+argument_range (Stack offset size) = range (P.Stack (pos offset)) size
+
+abbrev pub argument_ranges : List Storage → List Range
 argument_ranges [] = []
-argument_ranges (At v ∷ rest) = v ∷ argument_ranges rest
-argument_ranges (Stack offset size ∷ rest) = argument_ranges rest
+argument_ranges (a ∷ rest) = argument_range a ∷ argument_ranges rest
 
-abbrev pub kept_ranges : List Proto → List Varnode
+abbrev pub registers_at : List Varnode → List Range
+registers_at [] = []
+registers_at (v ∷ rest) = range (P.Register v.offset) v.size ∷ registers_at rest
+
+abbrev pub kept_ranges : List Proto → List Range
 kept_ranges [] = []
-kept_ranges (p ∷ rest) = p.keep ++ kept_ranges rest
+kept_ranges (p ∷ rest) = registers_at p.keep ++ kept_ranges rest
 
 -- The ends of these ranges cut: of each access, of the function's argument storages, and of the kept ranges of every
 -- prototype, used or not.
-abbrev pub Cuts : Listing → List TableAt → Varnode → Type 0
-Cuts l t v = Accesses l t v ⊎ (IsIn v (argument_ranges (proto_of l None).args) ⊎ IsIn v (kept_ranges l.protos))
+abbrev pub Cuts : Listing → List TableAt → Frame → Range → Type 0
+Cuts l t f r = IsAccessed l t f r ⊎ (IsIn r (argument_ranges (proto_of l None).args) ⊎ IsIn r (kept_ranges l.protos))
 
-abbrev pub IsEnd : ℕ → ℕ → Varnode → Type 0
-IsEnd s o v = (v.space ≡ s) × ((o ≡ v.offset) ⊎ (o ≡ v.offset + v.size))
+abbrev pub IsEnd : Area → ℤ → Range → Type 0
+IsEnd area o r = (area_of r.storage ≡ area) × ((o ≡ offset_of r.storage) ⊎ (o ≡ offset_of r.storage +ℤ pos r.size))
 
-abbrev pub IsCut : Listing → List TableAt → ℕ → ℕ → Type 0
-IsCut l t s o = (v : Varnode) × (Cuts l t v × IsEnd s o v)
+abbrev pub IsCut : Listing → List TableAt → Frame → Area → ℤ → Type 0
+IsCut l t f area o = (r : Range) × (Cuts l t f r × IsEnd area o r)
 
--- A range of a space that lies in an access, from one cut to the next one.
-pub record IsPart (l : Listing) (t : List TableAt) (s o k : ℕ) : Type 0 where
-  pub some : 0 < k
-  pub begins : IsCut l t s o
-  pub ends : IsCut l t s (o + k)
-  pub whole : (c : ℕ) → o < c → c < o + k → IsCut l t s c → ⊥
-  pub access : Varnode
-  pub accessed : Accesses l t access
-  pub in_space : access.space ≡ s
-  pub from : access.offset ≤ o
-  pub to : o + k ≤ access.offset + access.size
+-- the bytes of the one are bytes of the other
+abbrev pub LiesIn : Range → Range → Type 0
+LiesIn a b = (area_of a.storage ≡ area_of b.storage) × ((d : ℕ) × ((offset_of a.storage ≡ offset_of b.storage +ℤ pos d) × (d + a.size ≤ b.size)))
 
--- Ranges of the frame aren't among these.
-abbrev pub IsAtomOf : Listing → List TableAt → ParamStorage → ℕ → Type 0
-IsAtomOf l t (P.Register o) k = IsPart l t (register_space l) o k
-IsAtomOf l t (P.Unique o) k = IsPart l t (unique_space l) o k
-IsAtomOf l t (P.Stack o) k = ⊥
+-- A range that lies in an access, from one cut to the next one.
+pub record IsAtom (l : Listing) (t : List TableAt) (f : Frame) (a : Atom) : Type 0 where
+  pub some : 0 < a.size
+  pub begins : IsCut l t f (area_of a.storage) (offset_of a.storage)
+  pub ends : IsCut l t f (area_of a.storage) (offset_of a.storage +ℤ pos a.size)
+  pub whole : (d : ℕ) → 0 < d → d < a.size → IsCut l t f (area_of a.storage) (offset_of a.storage +ℤ pos d) → ⊥
+  pub access : Range
+  pub accessed : IsAccessed l t f access
+  pub inside : LiesIn a access
 
-abbrev pub IsAtom : Listing → List TableAt → Atom → Type 0
-IsAtom l t a = IsAtomOf l t a.storage a.size
-
--- register ranges before unique ones, each by rising offset
+-- register ranges before unique ones, and these before those of the frame, each by rising offset
 abbrev pub StandsBefore : ParamStorage → ParamStorage → Type 0
 StandsBefore (P.Register m) (P.Register n) = m < n
 StandsBefore (P.Register m) (P.Unique n) = Unit {0}
+StandsBefore (P.Register m) (P.Stack n) = Unit {0}
+StandsBefore (P.Unique m) (P.Register n) = ⊥
 StandsBefore (P.Unique m) (P.Unique n) = m < n
-StandsBefore a b = ⊥
+StandsBefore (P.Unique m) (P.Stack n) = Unit {0}
+StandsBefore (P.Stack m) (P.Register n) = ⊥
+StandsBefore (P.Stack m) (P.Unique n) = ⊥
+StandsBefore (P.Stack m) (P.Stack n) = m <ℤ n
 
 abbrev pub InOrder : List Atom → Type 0
 InOrder [] = Unit {0}
@@ -123,6 +170,6 @@ InOrder (a ∷ []) = Unit {0}
 InOrder (a ∷ b ∷ rest) = StandsBefore a.storage b.storage × InOrder (b ∷ rest)
 
 -- all atoms of a listing, each once and in their order
-pub record AreAtoms (l : Listing) (t : List TableAt) (atoms : List Atom) : Type 0 where
-  pub each : (a : Atom) → IsIn a atoms ↔ IsAtom l t a
+pub record AreAtoms (l : Listing) (t : List TableAt) (f : Frame) (atoms : List Atom) : Type 0 where
+  pub each : (a : Atom) → IsIn a atoms ↔ IsAtom l t f a
   pub in_order : InOrder atoms

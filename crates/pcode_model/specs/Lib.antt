@@ -1,6 +1,9 @@
+pub mod Limits
+pub mod Names
 pub mod Spaces
 pub mod Places
 pub mod Memory
+pub mod Frame
 pub mod World
 pub mod Step
 pub mod Flow

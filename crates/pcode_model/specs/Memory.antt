@@ -34,6 +34,10 @@ abbrev pub unless : {A : Type 0} → Bool → End → Result A End → Result A 
 unless true e x = Err e
 unless false e x = x
 
+-- whether one of so many bytes from an address on is read-only
+abbrev pub any_fixed : Listing → (space address count : ℕ) → Bool
+any_fixed l s a k = any_at (size_of l s) (is_fixed l s) a k
+
 -- ---- frame variables
 
 -- Which accesses are those of frame variables, and which bytes are theirs.
@@ -74,7 +78,7 @@ poke s a b m = put_in s a b m
 abbrev pub plain : Listing → Acts Bytes
 plain l = record {
   read = λ s a k m. Ok (bytes_at (size_of l s) (m s) a k);
-  write = λ s a bs m. unless (any_at (size_of l s) (is_fixed l s) a (length bs)) ReadOnlyWrite (Ok (each_at (size_of l s) (poke s) a bs m));
+  write = λ s a bs m. unless (any_fixed l s a (length bs)) ReadOnlyWrite (Ok (each_at (size_of l s) (poke s) a bs m));
   read_own = λ a c k m. Ok (bytes_at (size_of l (first_ram l)) (m (first_ram l)) a k);
   write_own = λ a c bs m. each_at (size_of l (first_ram l)) (poke (first_ram l)) a bs m;
   answer = λ x m. unless (is_fixed l x.space x.offset) ReadOnlyWrite (Ok (poke x.space x.offset x.value m));
@@ -114,15 +118,52 @@ tuck a b w = record { bytes = w.bytes; hidden = put w.hidden a (Some b); spoiled
 abbrev pub conceal : Layout → ℕ → ℕ → Whole → Whole
 conceal y a b w = record { bytes = w.bytes; hidden = put w.hidden a (Some b); spoiled = put w.spoiled a (or (is_framed y (first_ram y.listing) a) (w.spoiled a)) }
 
--- At one access, and at one byte that an answer writes, Outside goes before ReadOnlyWrite.
+-- ---- the acts of the p-code run, one test a line, in the order in which they count: at one access, and at one byte that
+-- an answer writes, Outside goes before ReadOnlyWrite
+
+abbrev pub any_framed : Layout → (space address count : ℕ) → Bool
+any_framed y s a k = any_at (size_of y.listing s) (is_framed y s) a k
+
+abbrev pub any_hidden : Listing → Whole → (space address count : ℕ) → Bool
+any_hidden l w s a k = any_at (size_of l s) (is_hidden l w s) a k
+
+abbrev pub any_spoiled : Listing → Whole → (address count : ℕ) → Bool
+any_spoiled l w a k = any_at (size_of l (first_ram l)) w.spoiled a k
+
+-- A pointer access or a direct ram varnode doesn't meet a byte of a frame variable, and doesn't read a hidden byte.
+abbrev pub read_whole : Layout → (space address count : ℕ) → Whole → Result (List ℕ) End
+read_whole y s a k w = unless (any_framed y s a k) Outside
+    (unless (any_hidden y.listing w s a k) Outside
+    (Ok (bytes_at (size_of y.listing s) (w.bytes s) a k)))
+
+-- It writes no read-only byte. What it writes is hidden no longer.
+abbrev pub write_whole : Layout → (space address : ℕ) → List ℕ → Whole → Result Whole End
+write_whole y s a bs w = unless (any_framed y s a (length bs)) Outside
+    (unless (any_fixed y.listing s a (length bs)) ReadOnlyWrite
+    (Ok (each_at (size_of y.listing s) (poke_whole y.listing s) a bs w)))
+
+-- An access of a frame variable doesn't read a spoiled byte.
+abbrev pub read_own_whole : Layout → (address count : ℕ) → Whole → Result (List ℕ) End
+read_own_whole y a k w = unless (any_spoiled y.listing w a k) Outside
+    (Ok (bytes_at (size_of y.listing (first_ram y.listing)) (found y.listing w) a k))
+
+abbrev pub write_own_whole : Layout → (address : ℕ) → List ℕ → Whole → Whole
+write_own_whole y a bs w = each_at (size_of y.listing (first_ram y.listing)) tuck a bs w
+
+-- A byte that an answer writes is none of a frame variable, and isn't read-only.
+abbrev pub answer_whole : Layout → ByteWrite → Whole → Result Whole End
+answer_whole y x w = unless (is_framed y x.space x.offset) Outside
+    (unless (is_fixed y.listing x.space x.offset) ReadOnlyWrite
+    (Ok (poke_whole y.listing x.space x.offset x.value w)))
+
 abbrev pub whole : Layout → Acts Whole
 whole y = record {
-  read = λ s a k w. unless (any_at (size_of y.listing s) (λ x. or (is_framed y s x) (is_hidden y.listing w s x)) a k) Outside (Ok (bytes_at (size_of y.listing s) (w.bytes s) a k));
-  write = λ s a bs w. unless (any_at (size_of y.listing s) (is_framed y s) a (length bs)) Outside (unless (any_at (size_of y.listing s) (is_fixed y.listing s) a (length bs)) ReadOnlyWrite (Ok (each_at (size_of y.listing s) (poke_whole y.listing s) a bs w)));
-  read_own = λ a c k w. unless (any_at (size_of y.listing (first_ram y.listing)) w.spoiled a k) Outside (Ok (bytes_at (size_of y.listing (first_ram y.listing)) (found y.listing w) a k));
-  write_own = λ a c bs w. each_at (size_of y.listing (first_ram y.listing)) tuck a bs w;
-  answer = λ x w. unless (is_framed y x.space x.offset) Outside (unless (is_fixed y.listing x.space x.offset) ReadOnlyWrite (Ok (poke_whole y.listing x.space x.offset x.value w)));
-  hide = λ x w. conceal y x.offset x.value w;
+  read = read_whole y;
+  write = write_whole y;
+  read_own = λ a c. read_own_whole y a;
+  write_own = λ a c. write_own_whole y a;
+  answer = answer_whole y;
+  hide = λ x. conceal y x.offset x.value;
 }
 
 -- ---- the memory of the frame run: bytes, and the frame variables' own bytes by offset from the stack pointer's entry word
@@ -141,7 +182,7 @@ keep_own c b w = record { bytes = w.bytes; own = put w.own c b }
 abbrev pub apart : Listing → Acts Apart
 apart l = record {
   read = λ s a k w. Ok (bytes_at (size_of l s) (w.bytes s) a k);
-  write = λ s a bs w. unless (any_at (size_of l s) (is_fixed l s) a (length bs)) ReadOnlyWrite (Ok (each_at (size_of l s) (poke_apart s) a bs w));
+  write = λ s a bs w. unless (any_fixed l s a (length bs)) ReadOnlyWrite (Ok (each_at (size_of l s) (poke_apart s) a bs w));
   read_own = λ a c k w. Ok (bytes_at (size_of l (first_ram l)) w.own c k);
   write_own = λ a c bs w. each_at (size_of l (first_ram l)) keep_own c bs w;
   answer = λ x w. unless (is_fixed l x.space x.offset) ReadOnlyWrite (Ok (poke_apart x.space x.offset x.value w));

@@ -24,6 +24,10 @@ size_in (Some s) = 256 ^ s.size
 abbrev pub size_of : Listing → ℕ → ℕ
 size_of l n = size_in (slice_get l.spaces n)
 
+abbrev pub offset_bytes_in : Option Space → ℕ
+offset_bytes_in None = 0
+offset_bytes_in (Some s) = s.size
+
 abbrev pub big_in : Option Space → Bool
 big_in None = false
 big_in (Some s) = s.big
@@ -60,6 +64,10 @@ register_space l = number_of Register l.spaces
 
 abbrev pub unique_space : Listing → ℕ
 unique_space l = number_of Unique l.spaces
+
+-- the bytes of an offset in the first ram space
+abbrev pub address_bytes : List Space → ℕ
+address_bytes spaces = offset_bytes_in (slice_get spaces (number_of Ram spaces))
 
 -- ---- bytes of a space, whose offsets go on at 0 past its last one
 

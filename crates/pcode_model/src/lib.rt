@@ -3,7 +3,9 @@
 
 pub mod atoms;
 pub mod flow;
+pub mod frame;
 pub mod inputs;
+pub mod limits;
 pub mod listing;
 pub mod opcode;
 pub mod ranges;
@@ -13,7 +15,9 @@ pub mod tables;
 
 pub use atoms::{Atom, Atoms};
 pub use flow::{Block, Exit, Flow, FlowWhy, Numbers, Places, Turn};
+pub use frame::{Frame, FrameAccess, FrameVariable, OffsetFact};
 pub use inputs::Inputs;
+pub use limits::{MAX_ATOMS, MAX_BLOCKS, MAX_INPUT};
 pub use listing::{
     Bytes, Fixed, Fixeds, Function, Functions, Instruction, Instructions, Listing, Name, Op, Ops,
     Place, Proto, Protos, Space, SpaceKind, Spaces, Storage, Storages, Text, Varnode, Varnodes,

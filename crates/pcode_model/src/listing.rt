@@ -1,5 +1,11 @@
 //! The listing of one function: its spaces, prototypes, fixed bytes and code.
 
+ghost use Rattle.std.specs.Prelude.{◌≡◌, ◌<◌, length, None};
+ghost use Rattle.std.specs.Option.{option_copied};
+ghost use Rattle.pcode_model.specs.Rules.{past_first};
+ghost use Rattle.pcode_model.specs.Spaces.{kind_of};
+ghost use Rattle.pcode_model.specs.Step.{callee_at, proto_at, proto_of, size_out, varnode_at};
+
 use crate::inputs::Inputs;
 use crate::opcode::Opcode;
 use sqlite_items::Items;
@@ -134,4 +140,80 @@ pub struct Listing {
     pub callees: Functions,
     pub fixed: Fixeds,
     pub code: Instructions,
+}
+
+impl Op {
+    /// The input of that number, counted from 0; an empty constant past the last one.
+    pub fn input(&self, number: usize) -> Varnode
+        ensures { result ≡ varnode_at self.now.inputs number }
+    {
+        match self.inputs.as_slice().get(number) {
+            Some(varnode) => *varnode,
+            None => Varnode {
+                space: 0,
+                offset: 0,
+                size: 0,
+            },
+        }
+    }
+
+    /// The inputs but the first one.
+    pub fn past_first(&self) -> &[Varnode]
+        ensures { result.now ≡ past_first self.now.inputs }
+    {
+        match self.inputs.as_slice() {
+            [] => &[],
+            [_, rest @ ..] => rest,
+        }
+    }
+
+    /// Bytes of the output, 0 where there is none.
+    pub fn size_out(&self) -> u32
+        ensures { result ≡ size_out self.now.out }
+    {
+        match self.out {
+            Some(varnode) => varnode.size,
+            None => 0,
+        }
+    }
+}
+
+impl Listing {
+    /// The kind of the space with that number. A number past the last space is read as the constant space.
+    pub fn space_kind(&self, number: u8) -> SpaceKind
+        ensures { result ≡ kind_of self.now number }
+    {
+        match self.spaces.get(usize::from(number)) {
+            Some(space) => space.kind,
+            None => SpaceKind::Constant,
+        }
+    }
+
+    /// The prototype with that number.
+    pub fn proto_at(&self, number: u32) -> &Proto
+        requires { number < length self.now.protos }
+        ensures { result.now ≡ proto_at self.now number }
+    {
+        &self.protos.as_slice()[number as usize]
+    }
+
+    /// The prototype of the function itself, which each callee has that isn't declared.
+    pub fn own_proto(&self) -> &Proto
+        requires { self.now.func.proto < length self.now.protos }
+        ensures { result.now ≡ proto_of self.now None }
+    {
+        self.proto_at(self.func.proto)
+    }
+
+    /// The callee that is declared at an address.
+    pub fn callee_at(&self, address: u64) -> Option<&Function>
+        ensures { option_copied result ≡ callee_at self.now address }
+    {
+        for callee in self.callees.as_slice() {
+            if callee.address == address {
+                return Some(callee);
+            }
+        }
+        None
+    }
 }

@@ -18,7 +18,7 @@ use Rattle.pcode_model.specs.Places.{Does, next_place}
 use Rattle.pcode_model.specs.Spaces.{kind_of}
 use Rattle.pcode_model.specs.Step.{State, Reads, Writes, all_but_first, all_read, apply, divided, effect_at, in_world, operands, read_all, read_varnode, size_out, step_at, varnode_at, with_first}
 use Rattle.pcode_model.specs.World.{ended}
-use Rattle.runp.specs.Words.{got_word}
+use Rattle.pcode_operands.specs.Words.{got_word}
 use Rattle.pcode_run.specs.Steps.{got_two}
 
 -- ---- widths of words that were read

@@ -26,10 +26,10 @@ use Rattle.pcode_model.specs.Rules.{any_leaves, any_wide, breaks, has_operands, 
 use Rattle.pcode_model.specs.Spaces.{kind_in, kind_of, or, same_kind, size_in, size_of}
 use Rattle.pcode_model.specs.Step.{size_out, varnode_at}
 use Rattle.pcode_model.specs.WellFormed.{AreSpaces, IsDeclared, IsOperand}
-use Rattle.op_laws.proofs.Rules.{neither, none_broken}
-use Rattle.op_laws.proofs.Sizes.{binary_is, same_three, unary_is}
-use Rattle.worlds.proofs.Declared.{ram_not_constant, size_most}
-use Rattle.runp.specs.Used.{IsInside, IsUsed}
+use Rattle.pcode_laws.proofs.Rules.{neither, none_broken}
+use Rattle.pcode_laws.proofs.Sizes.{binary_is, same_three, unary_is}
+use Rattle.run_world.proofs.Declared.{ram_not_constant, size_most}
+use Rattle.pcode_operands.specs.Used.{IsInside, IsUsed}
 use Rattle.pcode_run.specs.Steps.{Obeys}
 
 -- ---- ranges

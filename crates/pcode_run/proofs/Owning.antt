@@ -10,9 +10,9 @@ use Rattle.pcode_model.specs.declared.listing.Place.{Place}
 use Rattle.pcode_model.specs.Places.{Does, Standing, standing}
 use Rattle.pcode_model.specs.Spaces.{first_ram, or}
 use Rattle.pcode_model.specs.Step.{varnode_at}
-use Rattle.whole_memory.specs.declared.frame.Frame.{Frame}
-use Rattle.whole_memory.specs.declared.frame.OwnAccess.{OwnAccess}
-use Rattle.whole_memory.specs.Frame.{frame_of, own_in}
+use Rattle.pcode_memory.specs.declared.frame.Frame.{Frame}
+use Rattle.pcode_memory.specs.declared.frame.OwnAccess.{OwnAccess}
+use Rattle.pcode_memory.specs.Frame.{frame_of, own_in}
 use Rattle.pcode_run.specs.Run.{LiesInRam, OwnsFirstRam, accesses, by_pointer, lies_in_ram}
 use Rattle.flow.proofs.Order.{same_place}
 

@@ -14,10 +14,10 @@ use Rattle.pcode_model.specs.Spaces.{kind_of, same_kind}
 use Rattle.pcode_model.specs.Step.{callee_at, callee_in, proto_at, proto_in, proto_of}
 use Rattle.pcode_model.specs.WellFormed as formed
 use Rattle.pcode_model.specs.WellFormed.{AreSpaces, IsFunction, IsProto, IsRegister, IsStorage}
-use Rattle.whole_memory.specs.Course.{CanRun}
-use Rattle.runp.specs.Calls.{Ends}
-use Rattle.runp.specs.Used.{IsArgument, IsLocal, IsStack, IsUsed}
-use Rattle.runp.proofs.Registers.{register_inside, stack_is}
+use Rattle.pcode_memory.specs.Context.{CanRun}
+use Rattle.pcode_operands.specs.Calls.{Ends}
+use Rattle.pcode_operands.specs.Used.{IsArgument, IsLocal, IsStack, IsUsed}
+use Rattle.pcode_operands.proofs.Registers.{register_inside, stack_is}
 
 -- ---- ranges of registers
 

@@ -9,8 +9,8 @@ use Rattle.pcode_model.specs.Flow.{IsIn}
 use Rattle.pcode_model.specs.Places.{Does, instruction_at, instruction_in, op_in, place, standing, standing_in, standing_of}
 use Rattle.pcode_model.specs.Rules.{HasFewOps}
 use Rattle.pcode_model.specs.WellFormed.{HasOps, IsOp}
-use Rattle.op_laws.proofs.Rules.{in_code}
-use Rattle.whole_memory.specs.Course.{CanRun}
+use Rattle.pcode_laws.proofs.Rules.{in_code}
+use Rattle.pcode_memory.specs.Context.{CanRun}
 use Rattle.pcode_run.specs.Steps.{Obeys}
 
 either_in : (j i : Instruction) (rest : List Instruction) (o : Option Instruction) (b : Bool) → cond b (Some j) o ≡ Some i → (o ≡ Some i → IsIn i rest) → IsIn i (j ∷ rest)

@@ -9,8 +9,8 @@ use Rattle.pcode_model.specs.Memory.{Acts, Frame, Layout, Whole, whole}
 use Rattle.pcode_model.specs.Places.{standing}
 use Rattle.pcode_model.specs.Step.{State, first_whole, layout, machine, seen_p, start, step, step_at}
 use Rattle.pcode_model.specs.World.{Entry, shown, unless_over}
-use Rattle.worlds.specs.declared.trace.End as worlds
-use Rattle.worlds.specs.Meaning.{end_of, over_of}
+use Rattle.run_world.specs.declared.trace.End as worlds
+use Rattle.run_world.specs.Meaning.{end_of, over_of}
 
 module _ {M : Type 0} (m : Acts M) (l : Listing) (f : Frame) where
   now : (s : State M) → s.world.over ≡ None → step m l f s ≡ step_at m l f (standing l s.at) s

@@ -11,8 +11,8 @@ use Rattle.pcode_model.specs.Memory as M
 use Rattle.pcode_model.specs.Places.{Does, Nothing, Passes, Standing, standing}
 use Rattle.pcode_model.specs.Spaces.{first_ram, or}
 use Rattle.pcode_model.specs.Step.{varnode_at}
-use Rattle.whole_memory.specs.declared.frame.Frame.{Frame}
-use Rattle.whole_memory.specs.declared.frame.OwnAccess.{OwnAccess}
+use Rattle.pcode_memory.specs.declared.frame.Frame.{Frame}
+use Rattle.pcode_memory.specs.declared.frame.OwnAccess.{OwnAccess}
 
 abbrev pub by_pointer : Opcode → Bool
 by_pointer O.Load = true

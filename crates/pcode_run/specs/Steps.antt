@@ -11,9 +11,9 @@ use Rattle.pcode_model.specs.Rules.{first_broken}
 use Rattle.pcode_model.specs.Spaces.{first_ram}
 use Rattle.pcode_model.specs.Step.{State, step_at, varnode_at}
 use Rattle.pcode_model.specs.WellFormed.{IsOp}
-use Rattle.whole_memory.specs.declared.course.Course.{Course}
-use Rattle.whole_memory.specs.Course.{layout_of}
-use Rattle.whole_memory.specs.Frame.{frame_of}
+use Rattle.pcode_memory.specs.declared.context.PcodeContext.{PcodeContext}
+use Rattle.pcode_memory.specs.Context.{layout_of}
+use Rattle.pcode_memory.specs.Frame.{frame_of}
 
 -- an op that breaks no rule
 pub record Obeys (l : Listing) (op : Op) : Type 0 where
@@ -21,15 +21,15 @@ pub record Obeys (l : Listing) (op : Op) : Type 0 where
   pub checked : first_broken l op ≡ None
 
 -- what the step makes of a state at which this stands
-abbrev pub stepped : Course → Standing → State Whole → State Whole
+abbrev pub stepped : PcodeContext → Standing → State Whole → State Whole
 stepped c at s = step_at (whole (layout_of c)) c.listing.now (frame_of c.frame.now) at s
 
 -- what an op of an instruction makes of a state
-abbrev pub done : Course → Instruction → Op → State Whole → State Whole
+abbrev pub done : PcodeContext → Instruction → Op → State Whole → State Whole
 done c i op s = stepped c (Does i op) s
 
 -- The access of a LOAD or STORE at the state's place is in the first ram space where it is a frame variable's.
-abbrev pub OwnsRam : Course → Op → State Whole → Type 0
+abbrev pub OwnsRam : PcodeContext → Op → State Whole → Type 0
 OwnsRam c op s = IsSome ((frame_of c.frame.now).own s.at 0) → (varnode_at op.inputs 0).offset ≡ first_ram c.listing.now
 
 -- two words that were read, or the end Outside

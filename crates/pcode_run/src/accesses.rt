@@ -5,23 +5,23 @@ ghost use Rattle.pcode_model.specs.declared.opcode.Opcode.TheVariants as O;
 ghost use Rattle.pcode_model.specs.Memory.{whole};
 ghost use Rattle.pcode_model.specs.Spaces.{first_ram, size_of, word_size};
 ghost use Rattle.pcode_model.specs.Step.{byte_address, bytes_in, fetched, in_world, put_at};
-ghost use Rattle.whole_memory.specs.Course.{IsCourse, layout_of};
-ghost use Rattle.runp.specs.State.{state_of};
-ghost use Rattle.runp.specs.Used.{IsUsed};
-ghost use Rattle.runp.specs.Words.{got_word};
+ghost use Rattle.pcode_memory.specs.Context.{IsContext, layout_of};
+ghost use Rattle.pcode_operands.specs.State.{state_of};
+ghost use Rattle.pcode_operands.specs.Used.{IsUsed};
+ghost use Rattle.pcode_operands.specs.Words.{got_word};
 ghost use Rattle.pcode_run.specs.Steps.{Obeys, OwnsRam, done};
 
 use crate::ends::finish;
 use crate::inputs::{input, read_two, size_out};
 use crate::places::next_spot;
 use bits_core::{Memory, Word};
+use pcode_memory::PcodeContext;
 use pcode_model::{Instruction, Listing, Op, Varnode};
-use runp::operands::{read_varnode, word_at};
-use runp::state::State;
-use runp::writes::write_out;
-use whole_memory::Course;
-use worlds::words::word_bytes;
-use worlds::{End, Shape};
+use pcode_operands::operands::{read_varnode, word_at};
+use pcode_operands::state::State;
+use pcode_operands::writes::write_out;
+use run_world::words::word_bytes;
+use run_world::{End, Shape};
 
 // Bytes of a word of the space with that number.
 fn word_size(listing: &Listing, space: u8) -> u8
@@ -46,17 +46,17 @@ fn byte_address(listing: &Listing, space: u8, offset: u128) -> u64
 
 // Writes a word that was read to the output; none ends the run.
 fn put_fetched(
-    course: &Course,
+    context: &PcodeContext,
     state: &mut State,
     out: Option<Varnode>,
     word: Option<Word>,
 ) -> Result<(), Memory>
-    requires course { IsCourse course.now }
-    requires out { IfSome out (IsUsed course.now.listing.now) }
-    ensures { OnOk result (state_of course.now state.new ≡ fetched (whole (layout_of course.now)) course.now.listing.now out (got_word word) (state_of course.now state.old)) }
+    requires context { IsContext context.now }
+    requires out { IfSome out (IsUsed context.now.listing.now) }
+    ensures { OnOk result (state_of context.now state.new ≡ fetched (whole (layout_of context.now)) context.now.listing.now out (got_word word) (state_of context.now state.old)) }
 {
     match word {
-        Some(word) => write_out(course, state, out, word.value),
+        Some(word) => write_out(context, state, out, word.value),
         None => {
             finish(state, End::Outside);
             Ok(())
@@ -66,33 +66,33 @@ fn put_fetched(
 
 /// Carries out a LOAD.
 pub fn load(
-    course: &Course,
+    context: &PcodeContext,
     state: &mut State,
     instruction: &Instruction,
     op: &Op,
 ) -> Result<(), Memory>
-    requires course { IsCourse course.now }
+    requires context { IsContext context.now }
     requires few { length instruction.now.ops < 2 ^ 32 }
     requires kind { op.now.code ≡ O.Load }
-    requires obeys { Obeys course.now.listing.now op.now }
-    requires owns { OwnsRam course.now op.now (state_of course.now state.old) }
-    ensures { OnOk result (state_of course.now state.new ≡ done course.now instruction.now op.now (state_of course.now state.old)) }
+    requires obeys { Obeys context.now.listing.now op.now }
+    requires owns { OwnsRam context.now op.now (state_of context.now state.old) }
+    ensures { OnOk result (state_of context.now state.new ≡ done context.now instruction.now op.now (state_of context.now state.old)) }
 {
     let space = input(op, 0).offset as u8;
-    let Some(offset) = read_varnode(course, state, input(op, 1))? else {
+    let Some(offset) = read_varnode(context, state, input(op, 1))? else {
         finish(state, End::Outside);
         return Ok(());
     };
-    let address = byte_address(course.listing, space, offset.value);
-    let own = course.frame.own(state.at.address, state.at.index, 0);
-    let word = word_at(course, state, own, space, address, size_out(op.out))?;
+    let address = byte_address(context.listing, space, offset.value);
+    let own = context.frame.own(state.at.address, state.at.index, 0);
+    let word = word_at(context, state, own, space, address, size_out(op.out))?;
     state.at = next_spot(instruction, state.at.index);
-    put_fetched(course, state, op.out, word)
+    put_fetched(context, state, op.out, word)
 }
 
 // Writes so many bytes of a word to an address, by a pointer or as a frame variable's own.
 fn put_at(
-    course: &Course,
+    context: &PcodeContext,
     state: &mut State,
     own: Option<u64>,
     space: u8,
@@ -100,18 +100,18 @@ fn put_at(
     size: u32,
     word: u128,
 ) -> Result<(), Memory>
-    requires course { IsCourse course.now }
-    requires small { size_of course.now.listing.now space ≤ 2 ^ 64 }
-    requires inside { address < size_of course.now.listing.now space }
-    requires own { IsSome own → space ≡ first_ram course.now.listing.now }
-    ensures { OnOk result (state_of course.now state.new ≡ in_world (put_at (whole (layout_of course.now)) own space address (bytes_in course.now.listing.now space size word) (state_of course.now state.old).world) (state_of course.now state.old)) }
+    requires context { IsContext context.now }
+    requires small { size_of context.now.listing.now space ≤ 2 ^ 64 }
+    requires inside { address < size_of context.now.listing.now space }
+    requires own { IsSome own → space ≡ first_ram context.now.listing.now }
+    ensures { OnOk result (state_of context.now state.new ≡ in_world (put_at (whole (layout_of context.now)) own space address (bytes_in context.now.listing.now space size word) (state_of context.now state.old).world) (state_of context.now state.old)) }
 {
-    let shape = Shape::new(course.listing, space);
-    let bytes = word_bytes(course.alloc, shape.big, size, word)?;
+    let shape = Shape::new(context.listing, space);
+    let bytes = word_bytes(context.alloc, shape.big, size, word)?;
     match own {
-        Some(_) => state.memory.write_own(course, address, bytes.as_slice()),
-        None => whole_memory::store(
-            course,
+        Some(_) => state.memory.write_own(context, address, bytes.as_slice()),
+        None => pcode_memory::store(
+            context,
             &mut state.memory,
             &mut state.log,
             shape,
@@ -124,26 +124,26 @@ fn put_at(
 
 /// Carries out a STORE.
 pub fn store(
-    course: &Course,
+    context: &PcodeContext,
     state: &mut State,
     instruction: &Instruction,
     op: &Op,
 ) -> Result<(), Memory>
-    requires course { IsCourse course.now }
+    requires context { IsContext context.now }
     requires few { length instruction.now.ops < 2 ^ 32 }
     requires kind { op.now.code ≡ O.Store }
-    requires obeys { Obeys course.now.listing.now op.now }
-    requires owns { OwnsRam course.now op.now (state_of course.now state.old) }
-    ensures { OnOk result (state_of course.now state.new ≡ done course.now instruction.now op.now (state_of course.now state.old)) }
+    requires obeys { Obeys context.now.listing.now op.now }
+    requires owns { OwnsRam context.now op.now (state_of context.now state.old) }
+    ensures { OnOk result (state_of context.now state.new ≡ done context.now instruction.now op.now (state_of context.now state.old)) }
 {
     let space = input(op, 0).offset as u8;
     let value = input(op, 2);
-    let Some((offset, word)) = read_two(course, state, input(op, 1), value)? else {
+    let Some((offset, word)) = read_two(context, state, input(op, 1), value)? else {
         finish(state, End::Outside);
         return Ok(());
     };
-    let address = byte_address(course.listing, space, offset.value);
-    let own = course.frame.own(state.at.address, state.at.index, 0);
+    let address = byte_address(context.listing, space, offset.value);
+    let own = context.frame.own(state.at.address, state.at.index, 0);
     state.at = next_spot(instruction, state.at.index);
-    put_at(course, state, own, space, address, value.size, word.value)
+    put_at(context, state, own, space, address, value.size, word.value)
 }

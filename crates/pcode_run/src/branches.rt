@@ -5,12 +5,12 @@ ghost use Rattle.pcode_model.specs.declared.listing.Instruction.{Instruction};
 ghost use Rattle.pcode_model.specs.declared.opcode.Opcode.TheVariants as O;
 ghost use Rattle.pcode_model.specs.Places.{branch_place, next_place};
 ghost use Rattle.pcode_model.specs.Step.{result_of};
-ghost use Rattle.worlds.specs.Maps.{bytes_of};
-ghost use Rattle.worlds.specs.Meaning.{returned};
-ghost use Rattle.whole_memory.specs.declared.course.Course.{Course};
-ghost use Rattle.whole_memory.specs.Course.{IsCourse};
-ghost use Rattle.runp.specs.State.{places_of, state_of};
-ghost use Rattle.runp.specs.Used.{IsLocal};
+ghost use Rattle.run_world.specs.Maps.{bytes_of};
+ghost use Rattle.run_world.specs.Meaning.{returned};
+ghost use Rattle.pcode_memory.specs.declared.context.PcodeContext.{PcodeContext};
+ghost use Rattle.pcode_memory.specs.Context.{IsContext};
+ghost use Rattle.pcode_operands.specs.State.{places_of, state_of};
+ghost use Rattle.pcode_operands.specs.Used.{IsLocal};
 ghost use Rattle.pcode_run.specs.Steps.{Obeys, done};
 
 use crate::callees::own_proto;
@@ -18,24 +18,24 @@ use crate::ends::{finish, go};
 use crate::inputs::input;
 use crate::places::{branch_spot, next_spot};
 use bits_core::{Memory, Word};
+use pcode_memory::PcodeContext;
 use pcode_model::{Instruction, Op, Varnode};
-use runp::operands::{local_word, read_varnode};
-use runp::state::{Spot, State};
-use whole_memory::Course;
-use worlds::End;
+use pcode_operands::operands::{local_word, read_varnode};
+use pcode_operands::state::{State, WidePlace};
+use run_world::End;
 
 /// Carries out a BRANCH.
 pub fn branch(state: &mut State, instruction: &Instruction, op: &Op)
     requires few { length instruction.now.ops < 2 ^ 32 }
     requires kind { op.now.code ≡ O.Branch }
-    ensures { (c : Course) → state_of c state.new ≡ done c instruction.now op.now (state_of c state.old) }
+    ensures { (c : PcodeContext) → state_of c state.new ≡ done c instruction.now op.now (state_of c state.old) }
 {
     let to = branch_spot(instruction, state.at.index, input(op, 0));
     go(state, to);
 }
 
 // Where a CBRANCH leads by the word of its test.
-fn tested_spot(instruction: &Instruction, index: u32, to: Varnode, test: Word) -> Option<Spot>
+fn tested_spot(instruction: &Instruction, index: u32, to: Varnode, test: Word) -> Option<WidePlace>
     requires { length instruction.now.ops < 2 ^ 32 }
     ensures { places_of result ≡ if test.value == 0 then Some (next_place instruction.now index) else branch_place instruction.now index to }
 {
@@ -48,18 +48,18 @@ fn tested_spot(instruction: &Instruction, index: u32, to: Varnode, test: Word) -
 
 /// Carries out a CBRANCH.
 pub fn cbranch(
-    course: &Course,
+    context: &PcodeContext,
     state: &mut State,
     instruction: &Instruction,
     op: &Op,
 ) -> Result<(), Memory>
-    requires course { IsCourse course.now }
+    requires context { IsContext context.now }
     requires few { length instruction.now.ops < 2 ^ 32 }
     requires kind { op.now.code ≡ O.CBranch }
-    requires obeys { Obeys course.now.listing.now op.now }
-    ensures { OnOk result (state_of course.now state.new ≡ done course.now instruction.now op.now (state_of course.now state.old)) }
+    requires obeys { Obeys context.now.listing.now op.now }
+    ensures { OnOk result (state_of context.now state.new ≡ done context.now instruction.now op.now (state_of context.now state.old)) }
 {
-    match read_varnode(course, state, input(op, 1))? {
+    match read_varnode(context, state, input(op, 1))? {
         Some(test) => {
             let to = tested_spot(instruction, state.at.index, input(op, 0), test);
             go(state, to);
@@ -70,15 +70,15 @@ pub fn cbranch(
 }
 
 /// Carries out a BRANCHIND.
-pub fn branch_ind(course: &Course, state: &mut State, op: &Op) -> Result<(), Memory>
-    requires course { IsCourse course.now }
+pub fn branch_ind(context: &PcodeContext, state: &mut State, op: &Op) -> Result<(), Memory>
+    requires context { IsContext context.now }
     requires kind { op.now.code ≡ O.BranchInd }
-    requires obeys { Obeys course.now.listing.now op.now }
-    ensures { OnOk result ((i : Instruction) → state_of course.now state.new ≡ done course.now i op.now (state_of course.now state.old)) }
+    requires obeys { Obeys context.now.listing.now op.now }
+    ensures { OnOk result ((i : Instruction) → state_of context.now state.new ≡ done context.now i op.now (state_of context.now state.old)) }
 {
-    match read_varnode(course, state, input(op, 0))? {
+    match read_varnode(context, state, input(op, 0))? {
         Some(to) => {
-            state.at = Spot {
+            state.at = WidePlace {
                 address: to.value,
                 index: 0,
             };
@@ -90,16 +90,16 @@ pub fn branch_ind(course: &Course, state: &mut State, op: &Op) -> Result<(), Mem
 
 // The word of the result's range.
 fn word_given(
-    course: &Course,
+    context: &PcodeContext,
     state: &State,
     gives: Option<Varnode>,
 ) -> Result<Option<Word>, Memory>
-    requires { IfSome gives (IsLocal course.now.listing.now) }
-    ensures { IfOk result (λ w. returned w ≡ result_of course.now.listing.now (bytes_of state.now.local) gives) }
+    requires { IfSome gives (IsLocal context.now.listing.now) }
+    ensures { IfOk result (λ w. returned w ≡ result_of context.now.listing.now (bytes_of state.now.local) gives) }
 {
     match gives {
         Some(v) => {
-            let word = local_word(course, &state.local, v)?;
+            let word = local_word(context, &state.local, v)?;
             Ok(Some(word))
         }
         None => Ok(None),
@@ -107,15 +107,15 @@ fn word_given(
 }
 
 /// Carries out a RETURN.
-pub fn do_return(course: &Course, state: &mut State, op: &Op) -> Result<(), Memory>
-    requires course { IsCourse course.now }
+pub fn do_return(context: &PcodeContext, state: &mut State, op: &Op) -> Result<(), Memory>
+    requires context { IsContext context.now }
     requires kind { op.now.code ≡ O.Return }
-    requires obeys { Obeys course.now.listing.now op.now }
-    ensures { OnOk result ((i : Instruction) → state_of course.now state.new ≡ done course.now i op.now (state_of course.now state.old)) }
+    requires obeys { Obeys context.now.listing.now op.now }
+    ensures { OnOk result ((i : Instruction) → state_of context.now state.new ≡ done context.now i op.now (state_of context.now state.old)) }
 {
-    match read_varnode(course, state, input(op, 0))? {
+    match read_varnode(context, state, input(op, 0))? {
         Some(_) => {
-            let word = word_given(course, state, own_proto(course.listing).gives)?;
+            let word = word_given(context, state, own_proto(context.listing).gives)?;
             finish(state, End::Returned(word));
         }
         None => finish(state, End::Outside),

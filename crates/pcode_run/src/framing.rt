@@ -5,14 +5,14 @@ ghost use Rattle.pcode_model.specs.declared.listing.Instruction.{Instruction};
 ghost use Rattle.pcode_model.specs.Flow.{AreApart};
 ghost use Rattle.pcode_model.specs.Places.{Does, standing, standing_of};
 ghost use Rattle.pcode_model.specs.Spaces.{first_ram};
-ghost use Rattle.whole_memory.specs.declared.frame.Frame.{Frame};
+ghost use Rattle.pcode_memory.specs.declared.frame.Frame.{Frame};
 ghost use Rattle.pcode_run.specs.Run.{LiesInRam, accesses, lies_in_ram};
 
 use crate::inputs::input;
 use instructions::instruction;
+use pcode_memory::{Frame, OwnAccess};
 use pcode_model::ranges::number_of;
 use pcode_model::{Instruction, Listing, Op, Opcode, Place, SpaceKind};
-use whole_memory::{Frame, OwnAccess};
 
 // Whether an op is no LOAD or STORE, or one of the space with that number.
 fn accesses_space(op: &Op, ram: usize) -> bool

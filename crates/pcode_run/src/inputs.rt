@@ -3,17 +3,17 @@
 ghost use Rattle.std.specs.Prelude.{◌≡◌, ◌<◌, ◌≤◌, [], ◌∷◌, IfOk, IfSome};
 ghost use Rattle.pcode_model.specs.Memory.{whole};
 ghost use Rattle.pcode_model.specs.Step.{Reads, read_all, size_out, varnode_at};
-ghost use Rattle.whole_memory.specs.Course.{IsCourse, layout_of};
-ghost use Rattle.whole_memory.specs.Frame.{frame_of};
-ghost use Rattle.runp.specs.State.{state_of};
-ghost use Rattle.runp.specs.Used.{IsUsed};
+ghost use Rattle.pcode_memory.specs.Context.{IsContext, layout_of};
+ghost use Rattle.pcode_memory.specs.Frame.{frame_of};
+ghost use Rattle.pcode_operands.specs.State.{state_of};
+ghost use Rattle.pcode_operands.specs.Used.{IsUsed};
 ghost use Rattle.pcode_run.specs.Steps.{got_two};
 
 use bits_core::{Memory, Width, Word};
+use pcode_memory::PcodeContext;
 use pcode_model::{Op, Varnode};
-use runp::operands::read_varnode;
-use runp::state::State;
-use whole_memory::Course;
+use pcode_operands::operands::read_varnode;
+use pcode_operands::state::State;
 
 /// The input of that number.
 pub fn input(op: &Op, number: usize) -> Varnode
@@ -52,21 +52,21 @@ pub fn width_out(out: Option<Varnode>) -> Width
 
 /// The words of two varnodes. None where one of them is outside.
 pub fn read_two(
-    course: &Course,
+    context: &PcodeContext,
     state: &State,
     first: Varnode,
     second: Varnode,
 ) -> Result<Option<(Word, Word)>, Memory>
-    requires course { IsCourse course.now }
-    requires first { IsUsed course.now.listing.now first }
-    requires second { IsUsed course.now.listing.now second }
-    ensures value { IfOk result (λ r. got_two r ≡ read_all (whole (layout_of course.now)) course.now.listing.now (frame_of course.now.frame.now) (state_of course.now state.now) (Reads first ∷ Reads second ∷ [])) }
+    requires context { IsContext context.now }
+    requires first { IsUsed context.now.listing.now first }
+    requires second { IsUsed context.now.listing.now second }
+    ensures value { IfOk result (λ r. got_two r ≡ read_all (whole (layout_of context.now)) context.now.listing.now (frame_of context.now.frame.now) (state_of context.now state.now) (Reads first ∷ Reads second ∷ [])) }
     ensures widths { IfOk result (λ r. IfSome r (λ p. (p.0.width.bytes ≡ first.size) × (p.1.width.bytes ≡ second.size))) }
 {
-    let Some(a) = read_varnode(course, state, first)? else {
+    let Some(a) = read_varnode(context, state, first)? else {
         return Ok(None);
     };
-    match read_varnode(course, state, second)? {
+    match read_varnode(context, state, second)? {
         Some(b) => Ok(Some((a, b))),
         None => Ok(None),
     }

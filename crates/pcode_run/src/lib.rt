@@ -8,10 +8,12 @@ pub mod calls;
 pub mod ends;
 pub mod framing;
 pub mod inputs;
+pub mod listing_run;
 pub mod places;
 pub mod run;
 pub mod step;
 pub mod values;
 
 pub use framing::lies_in_ram;
+pub use listing_run::{NoRun, run_listing};
 pub use run::{can_run, run_p};

@@ -6,22 +6,22 @@ ghost use Rattle.pcode_model.specs.Memory.{whole};
 ghost use Rattle.pcode_model.specs.Rules.{first_bad};
 ghost use Rattle.pcode_model.specs.Step.{first_whole, layout, machine, seen_p, stack_word, start};
 ghost use Rattle.pcode_model.specs.WellFormed.{IsWellFormed};
-ghost use Rattle.worlds.specs.Maps.{bytes_of};
-ghost use Rattle.worlds.specs.Meaning.{entry_of, trace_of};
-ghost use Rattle.whole_memory.specs.declared.course.Course.{Course};
-ghost use Rattle.whole_memory.specs.Course.{CanRun, IsCourse, layout_of, whole_of};
-ghost use Rattle.whole_memory.specs.Frame.{frame_of};
-ghost use Rattle.runp.specs.State.{state_of};
+ghost use Rattle.run_world.specs.Maps.{bytes_of};
+ghost use Rattle.run_world.specs.Meaning.{entry_of, trace_of};
+ghost use Rattle.pcode_memory.specs.declared.context.PcodeContext.{PcodeContext};
+ghost use Rattle.pcode_memory.specs.Context.{CanRun, IsContext, layout_of, whole_of};
+ghost use Rattle.pcode_memory.specs.Frame.{frame_of};
+ghost use Rattle.pcode_operands.specs.State.{state_of};
 ghost use Rattle.pcode_run.specs.Run.{LiesInRam, OwnsFirstRam};
 
 use crate::step::step;
 use bits_core::Memory;
+use pcode_memory::{Frame, PcodeContext, Whole};
 use pcode_model::{Listing, Varnode};
-use runp::operands::local_word;
-use runp::state::{Spot, State};
+use pcode_operands::operands::local_word;
+use pcode_operands::state::{State, WidePlace};
+use run_world::{ByteMap, Entry, Events, Log, OffsetMap, Setting, Shape, Trace};
 use std::alloc::Global;
-use whole_memory::{Course, Frame, Whole};
-use worlds::{ByteMap, Entry, Events, Log, OffsetMap, Setting, Shape, Trace};
 
 /// Whether the run of a listing can be carried out: at most 256 spaces, and a stack pointer of at most 8 bytes.
 pub fn can_run(listing: &Listing) -> bool
@@ -59,12 +59,12 @@ fn first_memory(alloc: Global, listing: &Listing, entry: &Entry) -> Result<Whole
 fn start(alloc: Global, listing: &Listing, entry: &Entry) -> Result<State, Memory>
     requires { IsWellFormed listing.now }
     ensures local { IfOk result (λ state. bytes_of state.local ≡ (entry_of listing.now entry.now).bytes) }
-    ensures state { IfOk result (λ state. (c : Course) → c.answers.now ≡ entry.now.answers → state_of c state ≡ start listing.now (entry_of listing.now entry.now) (first_whole (entry_of listing.now entry.now))) }
+    ensures state { IfOk result (λ state. (c : PcodeContext) → c.answers.now ≡ entry.now.answers → state_of c state ≡ start listing.now (entry_of listing.now entry.now) (first_whole (entry_of listing.now entry.now))) }
 {
     let local = ByteMap::first(alloc, listing, entry.state.as_slice())?;
     let memory = first_memory(alloc, listing, entry)?;
     Ok(State {
-        at: Spot {
+        at: WidePlace {
             address: u128::from(listing.func.address),
             index: 0,
         },
@@ -79,13 +79,13 @@ fn start(alloc: Global, listing: &Listing, entry: &Entry) -> Result<State, Memor
 }
 
 // The stack pointer's word.
-fn stack_word(course: &Course, local: &ByteMap) -> Result<u64, Memory>
-    requires { IsCourse course.now }
-    ensures { IfOk result (λ n. n ≡ stack_word course.now.listing.now course.now.listing.now.stack (bytes_of local.now)) }
+fn stack_word(context: &PcodeContext, local: &ByteMap) -> Result<u64, Memory>
+    requires { IsContext context.now }
+    ensures { IfOk result (λ n. n ≡ stack_word context.now.listing.now context.now.listing.now.stack (bytes_of local.now)) }
 {
-    match course.listing.stack {
+    match context.listing.stack {
         Some(sp) => {
-            let word = local_word(course, local, sp)?;
+            let word = local_word(context, local, sp)?;
             Ok(word.value as u64)
         }
         None => Ok(0),
@@ -93,16 +93,16 @@ fn stack_word(course: &Course, local: &ByteMap) -> Result<u64, Memory>
 }
 
 // What stays the same during the run from a state on.
-fn course<'a>(
+fn context<'a>(
     alloc: Global,
     listing: &'a Listing,
     frame: &'a Frame,
     entry: &'a Entry,
     local: &ByteMap,
-) -> Result<Course<'a>, Memory>
+) -> Result<PcodeContext<'a>, Memory>
     requires can { CanRun listing.now }
     requires local { bytes_of local.now ≡ (entry_of listing.now entry.now).bytes }
-    ensures course { IfOk result IsCourse }
+    ensures context { IfOk result IsContext }
     ensures listing { IfOk result (λ c. c.listing.now ≡ listing.now) }
     ensures frame { IfOk result (λ c. c.frame.now ≡ frame.now) }
     ensures answers { IfOk result (λ c. c.answers.now ≡ entry.now.answers) }
@@ -110,7 +110,7 @@ fn course<'a>(
 {
     let setting = Setting::new(alloc, listing)?;
     let ram = Shape::new(listing, setting.first_ram);
-    let mut course = Course {
+    let mut context = PcodeContext {
         alloc,
         listing,
         frame,
@@ -119,22 +119,22 @@ fn course<'a>(
         ram,
         stack0: 0,
     };
-    course.stack0 = stack_word(&course, local)?;
-    Ok(course)
+    context.stack0 = stack_word(&context, local)?;
+    Ok(context)
 }
 
 // What the run has shown after n steps from a state on.
-fn run_from(course: &Course, state: State, n: u32) -> Result<Trace, Memory>
-    requires course { IsCourse course.now }
-    requires owns { OwnsFirstRam course.now.listing.now (frame_of course.now.frame.now) }
-    ensures { IfOk result (λ t. trace_of t ≡ seen (machine (whole (layout_of course.now)) course.now.listing.now (frame_of course.now.frame.now)) (state_of course.now state) n) }
+fn run_from(context: &PcodeContext, state: State, n: u32) -> Result<Trace, Memory>
+    requires context { IsContext context.now }
+    requires owns { OwnsFirstRam context.now.listing.now (frame_of context.now.frame.now) }
+    ensures { IfOk result (λ t. trace_of t ≡ seen (machine (whole (layout_of context.now)) context.now.listing.now (frame_of context.now.frame.now)) (state_of context.now state) n) }
 {
     let mut state = state;
     for _ in 0..n {
         if state.log.end.is_some() {
             break;
         }
-        step(course, &mut state)?;
+        step(context, &mut state)?;
     }
     let State { log, .. } = state;
     let Log { events, end, .. } = log;
@@ -154,6 +154,6 @@ pub fn run_p(
     ensures { IfOk result (λ t. trace_of t ≡ seen_p listing.now (frame_of frame.now) (entry_of listing.now entry.now) n) }
 {
     let state = start(alloc, listing, entry)?;
-    let course = course(alloc, listing, frame, entry, &state.local)?;
-    run_from(&course, state, n)
+    let context = context(alloc, listing, frame, entry, &state.local)?;
+    run_from(&context, state, n)
 }

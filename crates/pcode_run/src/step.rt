@@ -2,9 +2,9 @@
 
 ghost use Rattle.std.specs.Prelude.{◌≡◌, ◌<◌, ◌^◌, length, true, Some, OnOk};
 ghost use Rattle.pcode_model.specs.Places.{instruction_at, standing, standing_of};
-ghost use Rattle.whole_memory.specs.Course.{IsCourse};
-ghost use Rattle.whole_memory.specs.Frame.{frame_of};
-ghost use Rattle.runp.specs.State.{state_of};
+ghost use Rattle.pcode_memory.specs.Context.{IsContext};
+ghost use Rattle.pcode_memory.specs.Frame.{frame_of};
+ghost use Rattle.pcode_operands.specs.State.{state_of};
 ghost use Rattle.pcode_run.specs.Run.{OwnsFirstRam, by_pointer};
 ghost use Rattle.pcode_run.specs.Steps.{Obeys, OwnsRam, done, stepped};
 
@@ -16,40 +16,40 @@ use crate::places::next_instruction;
 use crate::values::{do_binary, do_divide, do_unary};
 use bits_core::Memory;
 use instructions::instruction;
+use pcode_memory::PcodeContext;
 use pcode_model::{Instruction, Op, Opcode};
-use runp::state::State;
-use whole_memory::Course;
-use worlds::End;
+use pcode_operands::state::State;
+use run_world::End;
 
 // Carries out an op of an instruction.
 fn carry_out(
-    course: &Course,
+    context: &PcodeContext,
     state: &mut State,
     instruction: &Instruction,
     op: &Op,
 ) -> Result<(), Memory>
-    requires course { IsCourse course.now }
+    requires context { IsContext context.now }
     requires few { length instruction.now.ops < 2 ^ 32 }
-    requires obeys { Obeys course.now.listing.now op.now }
-    requires owns { by_pointer op.now.code ≡ true → OwnsRam course.now op.now (state_of course.now state.old) }
-    ensures { OnOk result (state_of course.now state.new ≡ done course.now instruction.now op.now (state_of course.now state.old)) }
+    requires obeys { Obeys context.now.listing.now op.now }
+    requires owns { by_pointer op.now.code ≡ true → OwnsRam context.now op.now (state_of context.now state.old) }
+    ensures { OnOk result (state_of context.now state.new ≡ done context.now instruction.now op.now (state_of context.now state.old)) }
 {
     match &op.code {
-        Opcode::Unary(code) => do_unary(course, state, instruction, op, *code),
-        Opcode::Binary(code) => do_binary(course, state, instruction, op, *code),
-        Opcode::Divide(code) => do_divide(course, state, instruction, op, *code),
-        Opcode::Load => load(course, state, instruction, op),
-        Opcode::Store => store(course, state, instruction, op),
+        Opcode::Unary(code) => do_unary(context, state, instruction, op, *code),
+        Opcode::Binary(code) => do_binary(context, state, instruction, op, *code),
+        Opcode::Divide(code) => do_divide(context, state, instruction, op, *code),
+        Opcode::Load => load(context, state, instruction, op),
+        Opcode::Store => store(context, state, instruction, op),
         Opcode::Branch => {
             branch(state, instruction, op);
             Ok(())
         }
-        Opcode::CBranch => cbranch(course, state, instruction, op),
-        Opcode::BranchInd => branch_ind(course, state, op),
-        Opcode::Call => call(course, state, instruction, op),
-        Opcode::CallInd => call_ind(course, state, instruction, op),
-        Opcode::CallOther => call_other(course, state, instruction, op),
-        Opcode::Return => do_return(course, state, op),
+        Opcode::CBranch => cbranch(context, state, instruction, op),
+        Opcode::BranchInd => branch_ind(context, state, op),
+        Opcode::Call => call(context, state, instruction, op),
+        Opcode::CallInd => call_ind(context, state, instruction, op),
+        Opcode::CallOther => call_other(context, state, instruction, op),
+        Opcode::Return => do_return(context, state, op),
         Opcode::Float(_) | Opcode::FloatConversion(_) | Opcode::Analysis(_) | Opcode::LeftOut(_) =>
             {
                 finish(state, End::BadTarget);
@@ -59,18 +59,18 @@ fn carry_out(
 }
 
 // What stands at an index of an instruction.
-fn stand(course: &Course, state: &mut State, instruction: &Instruction) -> Result<(), Memory>
-    requires course { IsCourse course.now }
-    requires here { instruction_at course.now.listing.now state.old.at.address ≡ Some instruction.now }
-    requires owns { OwnsFirstRam course.now.listing.now (frame_of course.now.frame.now) }
-    ensures { OnOk result (state_of course.now state.new ≡ stepped course.now (standing_of (Some instruction.now) state.old.at.index) (state_of course.now state.old)) }
+fn stand(context: &PcodeContext, state: &mut State, instruction: &Instruction) -> Result<(), Memory>
+    requires context { IsContext context.now }
+    requires here { instruction_at context.now.listing.now state.old.at.address ≡ Some instruction.now }
+    requires owns { OwnsFirstRam context.now.listing.now (frame_of context.now.frame.now) }
+    ensures { OnOk result (state_of context.now state.new ≡ stepped context.now (standing_of (Some instruction.now) state.old.at.index) (state_of context.now state.old)) }
 {
     if instruction.ops.is_empty() && state.at.index == 0 {
         state.at = next_instruction(instruction);
         return Ok(());
     }
     match instruction.ops.get(state.at.index as usize) {
-        Some(op) => carry_out(course, state, instruction, op),
+        Some(op) => carry_out(context, state, instruction, op),
         None => {
             finish(state, End::BadTarget);
             Ok(())
@@ -79,13 +79,13 @@ fn stand(course: &Course, state: &mut State, instruction: &Instruction) -> Resul
 }
 
 /// Carries out what stands at the state's place.
-pub fn step(course: &Course, state: &mut State) -> Result<(), Memory>
-    requires course { IsCourse course.now }
-    requires owns { OwnsFirstRam course.now.listing.now (frame_of course.now.frame.now) }
-    ensures { OnOk result (state_of course.now state.new ≡ stepped course.now (standing course.now.listing.now (state_of course.now state.old).at) (state_of course.now state.old)) }
+pub fn step(context: &PcodeContext, state: &mut State) -> Result<(), Memory>
+    requires context { IsContext context.now }
+    requires owns { OwnsFirstRam context.now.listing.now (frame_of context.now.frame.now) }
+    ensures { OnOk result (state_of context.now state.new ≡ stepped context.now (standing context.now.listing.now (state_of context.now state.old).at) (state_of context.now state.old)) }
 {
-    match instruction(course.listing, state.at.address) {
-        Some(instruction) => stand(course, state, instruction),
+    match instruction(context.listing, state.at.address) {
+        Some(instruction) => stand(context, state, instruction),
         None => {
             finish(state, End::BadTarget);
             Ok(())

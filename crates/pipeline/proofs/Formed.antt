@@ -26,10 +26,10 @@ use Rattle.pcode_model.specs.Step.{proto_in, proto_of}
 use Rattle.pcode_model.specs.WellFormed.{HasOps, IsArgument, IsOp, IsOperand, IsProto, IsStorage}
 use Rattle.pcodetext.specs.Formed.{HasKnownOps, IsKnown, IsKnownOp, IsRead}
 use Rattle.supported.specs.Ranges.{code_ranges, is_local, is_local_kind, local_of, locals_of, named_ranges, op_ranges, ops_ranges, output_of, result_range, storage_range, storage_ranges}
-use Rattle.plain_laws.proofs.Accessed.{in_either}
-use Rattle.plain_laws.proofs.Formed.{IsFormed, IsInput, IsWritten, Inside}
-use Rattle.op_laws.proofs.Rules.{breaks_none, neither}
-use Rattle.plain_laws.proofs.Standing.{StandsIn}
+use Rattle.plain_form.proofs.Accessed.{in_either}
+use Rattle.plain_form.proofs.Formed.{IsFormed, IsInput, IsWritten, Inside}
+use Rattle.pcode_laws.proofs.Rules.{breaks_none, neither}
+use Rattle.plain_form.proofs.Standing.{StandsIn}
 use Rattle.pipeline.proofs.Spaces.{constant_is, first_constant, kind_of_first, low, only}
 
 -- ---- lists

@@ -29,9 +29,9 @@ use Rattle.plaincode.specs.Lowered.{lowered, plain_function, result_width}
 use Rattle.plaincode.proofs.Agrees.{plain_agrees}
 use Rattle.plain_valid.specs.Long.{AreLong, IsLong}
 use Rattle.plain_valid.proofs.Valid.{plain_valid}
-use Rattle.plain_laws.proofs.Formed.{IsFormed, Inside}
-use Rattle.plain_laws.proofs.Accessed.{accessed_inside}
-use Rattle.plain_laws.proofs.Form.{plain_form}
+use Rattle.plain_form.proofs.Formed.{IsFormed, Inside}
+use Rattle.plain_form.proofs.Accessed.{accessed_inside}
+use Rattle.plain_form.proofs.Form.{plain_form}
 use Rattle.stackvars.specs.declared.accessed.AtomFault.{AtomFault}
 use Rattle.stackvars.specs.declared.accessed.AtomFault.TheVariants as A
 use Rattle.flow.specs.Answer.{IsFlowFault}

@@ -6,7 +6,7 @@ use Rattle.pcode_model.specs.declared.storage.ParamStorage.{ParamStorage}
 use Rattle.pcode_model.specs.declared.storage.ParamStorage.TheVariants as P
 use Rattle.pcode_model.specs.Atoms.{InOrder, StandsBefore}
 use Rattle.pcode_model.specs.Flow.{IsBefore, IsIn, Rising}
-use Rattle.plain_laws.proofs.Form.{before_trans}
+use Rattle.plain_form.proofs.Form.{before_trans}
 use Rattle.flow.proofs.Order.{before_trans as before_place, not_before}
 
 -- each member stands before the next one

@@ -18,8 +18,8 @@ use Rattle.flow.specs.declared.answer.FlowFault.TheVariants as F
 use Rattle.stackvars.specs.Accessed as listed
 use Rattle.stackvars.specs.Accessed.{AccessesSoMany, ListsAccessed}
 use Rattle.stackvars.specs.declared.accessed.AtomFault.TheVariants as A
-use Rattle.plain_laws.proofs.Form.{spaces_differ}
-use Rattle.plain_laws.proofs.Formed.{IsFormed}
+use Rattle.plain_form.proofs.Form.{spaces_differ}
+use Rattle.plain_form.proofs.Formed.{IsFormed}
 use Rattle.pipeline.specs.Verdict.{Accepts, Bytes, IsAccepted, IsRefused, RefusedBy}
 use Rattle.pipeline.specs.declared.refusal.Refusal.{Refusal}
 use Rattle.pipeline.specs.declared.refusal.Refusal.TheVariants as R

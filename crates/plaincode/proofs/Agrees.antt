@@ -20,7 +20,7 @@ use Rattle.pcode_model.specs.World.{Entry, IsEntry, first_world}
 use Rattle.pcode_model.specs.Step.{local_word, machine, layout, first_whole, start, seen_p, proto_of, result_of}
 use Rattle.pcode_model.specs.Flow.{starts_of}
 use Rattle.pcode_laws.proofs.Ends.{Allows, ends_within}
-use Rattle.ranges.specs.Ranges.{Holds}
+use Rattle.range_words.specs.Ranges.{Holds}
 use Rattle.cmeaning.specs.Agree.{AgreesWith}
 use Rattle.cmeaning.specs.Step.{seen_c, word_at}
 use Rattle.blockcode.specs.Run.{widths, width_in, first_word, first_local, start_code, seen_code}

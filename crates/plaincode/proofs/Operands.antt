@@ -12,8 +12,8 @@ use Rattle.pcode_model.specs.Memory.{Acts, Bytes}
 use Rattle.pcode_model.specs.World.{World}
 use Rattle.pcode_model.specs.Step.{State, local_word, with_word, read_varnode, write_varnode}
 use Rattle.pcode_model.specs.Flow.{IsIn}
-use Rattle.ranges.specs.Ranges.{IsTable, Holds, AreBytes}
-use Rattle.ranges.proofs.Variables.{local_word_below}
+use Rattle.range_words.specs.Ranges.{IsTable, Holds, AreBytes}
+use Rattle.range_words.proofs.Variables.{local_word_below}
 use Rattle.cmeaning.specs.declared.tree.Expr.TheVariants as E
 use Rattle.cmeaning.specs.Do.{Local}
 use Rattle.cmeaning.proofs.Value.{width_of_var, value_of_var}

@@ -20,7 +20,7 @@ use Rattle.pcode_model.specs.Memory.{Acts, Frame, Bytes}
 use Rattle.pcode_model.specs.World.{unless_over}
 use Rattle.pcode_model.specs.Step.{State, moved, write_varnode, read_varnode, with_first, effect_at, apply, step_at}
 use Rattle.pcode_model.specs.Flow.{turn_of}
-use Rattle.ranges.proofs.Variables.{holds_written, bytes_written}
+use Rattle.range_words.proofs.Variables.{holds_written, bytes_written}
 use Rattle.cmeaning.specs.declared.tree.Expr.{Expr}
 use Rattle.cmeaning.specs.declared.tree.Stmt.TheVariants as S
 use Rattle.cmeaning.specs.Do.{Local, assigned, with_word, do_simple}

@@ -19,7 +19,7 @@ use Rattle.pcode_model.specs.declared.atoms.Atom.{Atom}
 use Rattle.pcode_model.specs.declared.tables.TableAt.{TableAt}
 use Rattle.pcode_model.specs.declared.flow.Block.{Block}
 use Rattle.pcode_model.specs.Flow.{IsIn, IsFlow, Reached}
-use Rattle.ranges.specs.Ranges.{IsTable}
+use Rattle.range_words.specs.Ranges.{IsTable}
 use Rattle.plaincode.specs.Lowered.{ranges_of}
 
 abbrev pub IsOperandBy : SpaceKind → List Varnode → Varnode → Type 0

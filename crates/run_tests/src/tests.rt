@@ -1,15 +1,16 @@
 mod flat;
+mod p_runs;
 mod texts;
 mod values;
 
+use c_run::{fits, run_c};
 use cread::read_c;
 use pcodetext::read_listing;
-use runc::{fits, run_c};
+use run_world::{Answer, Answers, Byte, ByteList, Entry};
 use std::alloc::{AllocError, Global};
 use std::test::Fail;
 use texts::{LISTING, RUNS, Run};
 use tracetext::put_trace;
-use worlds::{Answer, Answers, Byte, ByteList, Entry};
 
 // It gives 7, writes 2 at 0x80 of the first ram space, and leaves 3 in the register at 9.
 fn answer(alloc: Global) -> Result<Answer, AllocError> {

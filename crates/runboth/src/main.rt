@@ -1,9 +1,8 @@
 //! The program: the words of the command line, the file system, the standard streams, and the top call.
 #![tactic(auto)]
 
-use bothruns::runboth_words;
-use outside::{StdSink, Words};
-use shelves::FileShelf;
+use outside::{FileShelf, StdSink, Words};
+use side_by_side::runboth_words;
 use std::env;
 use std::io::{self, ErrorKind};
 use std::process::ExitCode;

@@ -1,7 +1,7 @@
 //! The top call over the forms in memory.
 
-use bothruns::runboth_words;
 use outside::{Bytes, Fails, File, Files, MemShelf, MemSink, Words};
+use side_by_side::runboth_words;
 use std::alloc::Global;
 use std::test::Fail;
 

@@ -4,9 +4,9 @@ use pcode_model::{
     Bytes, Fixeds, Function, Functions, Instructions, Listing, Name, Protos, Space, SpaceKind,
     Spaces,
 };
+use run_world::{End, Event, Events, Trace, WordList};
 use std::alloc::{AllocError, Global};
 use std::test::Fail;
-use worlds::{End, Event, Events, Trace, WordList};
 
 fn listing(alloc: Global) -> Result<Listing, AllocError> {
     let mut spaces = Spaces::new(alloc);

@@ -2,12 +2,12 @@
 
 ghost use Rattle.std.specs.Prelude.{◌≡◌, ◌++◌, map, OnOk};
 ghost use Rattle.tracetext.specs.Text.{end_text, event_text, events_text, number_text, over_text, pair_text, pairs_text, returned_text, space_text, store_text, trace_text, words_text};
-ghost use Rattle.worlds.specs.Meaning.{end_of, event_of, over_of, returned, trace_of, value_of};
+ghost use Rattle.run_world.specs.Meaning.{end_of, event_of, over_of, returned, trace_of, value_of};
 
 use bits_core::{Memory, Word};
 use ctext::digits::{put, put_hex};
 use pcode_model::Listing;
-use worlds::{End, Event, Trace};
+use run_world::{End, Event, Trace};
 
 fn put_number(out: &mut Vec<u8>, n: u128) -> Result<(), Memory>
     ensures { OnOk result (out.new.items ≡ out.old.items ++ number_text n) }

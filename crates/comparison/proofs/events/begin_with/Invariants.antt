@@ -1,6 +1,6 @@
 use Rattle.std.proofs.Common.{◌↔◌, drop, map}
 use Rattle.machine.specs.TwoWay.{IsPrefix}
-use Rattle.worlds.specs.Meaning.{event_of}
+use Rattle.run_world.specs.Meaning.{event_of}
 use Rattle.comparison.proofs.events.begin_with.Given as goal
 
 abbrev pub invariant-loop-i : goal.invariant-loop-i

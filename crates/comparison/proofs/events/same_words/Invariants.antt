@@ -1,5 +1,5 @@
 use Rattle.std.proofs.Common.{◌≡◌, ◌↔◌, drop, map}
-use Rattle.worlds.specs.Meaning.{value_of}
+use Rattle.run_world.specs.Meaning.{value_of}
 use Rattle.comparison.proofs.events.same_words.Given as goal
 
 abbrev pub invariant-loop-i : goal.invariant-loop-i

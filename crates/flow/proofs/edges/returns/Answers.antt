@@ -1,7 +1,7 @@
 use Rattle.std.proofs.Common.{ap, sym, ◌∙◌, List}
 use Rattle.pcode_model.specs.declared.listing.Function.{Function}
 use Rattle.pcode_model.specs.Step.{callee_in, returns as returns_of}
-use Rattle.flow.proofs.Callees.{callee_hit, callee_miss, callee_past}
+use Rattle.pcode_model.proofs.Callees.{callee_hit, callee_miss, callee_past}
 use Rattle.flow.proofs.edges.returns.Goals as goal
 
 pub loop-callee-preserved : goal.loop-callee-preserved

@@ -1,5 +1,5 @@
 use Rattle.std.proofs.Common.{Some, length}
-use Rattle.lists.specs.Families.{list_at}
+use Rattle.node_lists.specs.Families.{list_at}
 use Rattle.opgraph.proofs.MoveAll.{SoFar}
 use Rattle.opgraph.proofs.edits.move_all.Given as goal
 

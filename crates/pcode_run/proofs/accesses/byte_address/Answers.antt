@@ -1,5 +1,5 @@
 use Rattle.std.proofs.Common.{◌*◌, ◌%◌, ◌∙◌, ap}
-use Rattle.worlds.specs.Setting.{size}
+use Rattle.run_world.specs.Setting.{size}
 use Rattle.pcode_run.proofs.Accessing.{address_is}
 use Rattle.pcode_run.proofs.accesses.byte_address.Goals as goal
 

@@ -1,9 +1,9 @@
 use Rattle.std.proofs.Common.{◌∙◌, ℕ, List, Option, None, ap, false}
 use Rattle.pcode_model.specs.Spaces.{is_some}
-use Rattle.worlds.specs.declared.entry.Byte.{Byte}
-use Rattle.worlds.specs.Maps.{at_offset, bytes_of}
-use Rattle.worlds.specs.Meaning.{first_bytes, with_offsets}
-use Rattle.whole_memory.proofs.Memory.{whole_is}
+use Rattle.run_world.specs.declared.entry.Byte.{Byte}
+use Rattle.run_world.specs.Maps.{at_offset, bytes_of}
+use Rattle.run_world.specs.Meaning.{first_bytes, with_offsets}
+use Rattle.pcode_memory.proofs.Memory.{whole_is}
 use Rattle.pcode_run.proofs.run.first_memory.Goals as goal
 
 pub returns : goal.returns

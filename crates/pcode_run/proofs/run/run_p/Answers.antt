@@ -1,33 +1,33 @@
 use Rattle.std.proofs.Common.{◌≡◌, ◌∙◌, ap, subst, sym}
 use Rattle.std.proofs.lemmas.Result.{IfOk-weaker}
 use Rattle.pcode_model.specs.declared.listing.Listing.{Listing}
-use Rattle.whole_memory.specs.declared.frame.Frame.{Frame}
+use Rattle.pcode_memory.specs.declared.frame.Frame.{Frame}
 use Rattle.pcode_run.specs.Run.{OwnsFirstRam}
 use Rattle.pcode_run.proofs.Owning.{owns_ram}
 use Rattle.machine.specs.Machine.{seen}
 use Rattle.pcode_model.specs.Memory.{whole}
 use Rattle.pcode_model.specs.Step.{machine, seen_p}
-use Rattle.whole_memory.specs.Course.{layout_of}
-use Rattle.whole_memory.specs.Frame.{frame_of}
-use Rattle.worlds.specs.declared.trace.Trace.{Trace}
-use Rattle.worlds.specs.Meaning.{entry_of, trace_of}
-use Rattle.runp.specs.State.{state_of}
+use Rattle.pcode_memory.specs.Context.{layout_of}
+use Rattle.pcode_memory.specs.Frame.{frame_of}
+use Rattle.run_world.specs.declared.trace.Trace.{Trace}
+use Rattle.run_world.specs.Meaning.{entry_of, trace_of}
+use Rattle.pcode_operands.specs.State.{state_of}
 use Rattle.pcode_run.proofs.Turning.{seen_is}
 use Rattle.pcode_run.proofs.run.run_p.Goals as goal
 
 pub run_from-requires-clause-owns : goal.run_from-requires-clause-owns
 run_from-requires-clause-owns c =
     let q = c.args in
-    let made = c.in_ok-course.ensures {u = tt} in
+    let made = c.in_ok-context.ensures {u = tt} in
     let P : Listing → Type 0 = λ l. OwnsFirstRam l (frame_of q.frame.now) in
-    let Q : Frame → Type 0 = λ f. OwnsFirstRam c.in_ok-course.course.listing.now (frame_of f) in
+    let Q : Frame → Type 0 = λ f. OwnsFirstRam c.in_ok-context.context.listing.now (frame_of f) in
     subst Q (sym made.frame) (subst P (sym made.listing) (owns_ram q.listing.now q.frame.now c.requires.owns))
 
 pub returns : goal.returns
 returns c =
     let q = c.args in
-    let made = c.in_ok-course.ensures {u = tt} in
-    let y = c.in_ok-course.course in
+    let made = c.in_ok-context.ensures {u = tt} in
+    let y = c.in_ok-context.context in
     let s = state_of y c.in_ok-state.state in
     let e = entry_of q.listing.now q.entry.now in
     let P : Trace → Type 0 = λ t. trace_of t ≡ seen (machine (whole (layout_of y)) y.listing.now (frame_of y.frame.now)) s q.n in

@@ -1,4 +1,4 @@
-use Rattle.plain_laws.proofs.Form.{accessed_equal_or_apart, accessed_sized}
+use Rattle.plain_form.proofs.Form.{accessed_equal_or_apart, accessed_sized}
 use Rattle.pipeline.proofs.Formed.{formed_is}
 use Rattle.pipeline.proofs.verdict.ranges.Goals as goal
 

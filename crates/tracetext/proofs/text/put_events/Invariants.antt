@@ -1,6 +1,6 @@
 use Rattle.std.proofs.Common.{◌≡◌, ◌++◌, drop, map}
 use Rattle.tracetext.specs.Text.{events_text}
-use Rattle.worlds.specs.Meaning.{event_of}
+use Rattle.run_world.specs.Meaning.{event_of}
 use Rattle.tracetext.proofs.text.put_events.Given as goal
 
 abbrev pub invariant-loop-event : goal.invariant-loop-event

@@ -1,6 +1,6 @@
 use Rattle.std.proofs.Common.{◌≡◌, ◌++◌, drop, map}
 use Rattle.tracetext.specs.Text.{words_text}
-use Rattle.worlds.specs.Meaning.{value_of}
+use Rattle.run_world.specs.Meaning.{value_of}
 use Rattle.tracetext.proofs.text.put_words.Given as goal
 
 abbrev pub invariant-loop-w : goal.invariant-loop-w

@@ -1,5 +1,5 @@
 use Rattle.std.proofs.Common.{[], ℕ, List, Option, IsSome, ap, sym, subst, refl, ◌∙◌}
-use Rattle.lists.specs.Families.{inserted}
+use Rattle.node_lists.specs.Families.{inserted}
 use Rattle.opgraph.specs.Graph.{OpRow, op_at, block_at, numbers}
 use Rattle.opgraph.proofs.Tables.{value_of}
 use Rattle.opgraph.proofs.Sames.{same_op, same_value, values_stay, added_op, added_value, added_after, added_then}

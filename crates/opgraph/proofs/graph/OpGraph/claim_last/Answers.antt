@@ -1,8 +1,8 @@
 use Rattle.std.proofs.Common.{[], ◌∷◌, ◌++◌, ◌<◌, length, Some, sym, ap, ◌∙◌, subst}
 use Rattle.std.proofs.lemmas.List.{length-set}
 use Rattle.opgraph.specs.declared.code.Body.{Body}
-use Rattle.lists.specs.Chains.{removed}
-use Rattle.lists.specs.Families.{Family, list_at}
+use Rattle.node_lists.specs.Chains.{removed}
+use Rattle.node_lists.specs.Families.{Family, list_at}
 use Rattle.opgraph.specs.Graph.{Graph, block_at, Added}
 use Rattle.opgraph.specs.Parts.{graph_of}
 use Rattle.opgraph.proofs.Tables.{none_some}

@@ -1,5 +1,5 @@
 use Rattle.std.proofs.Common.{[], ◌<◌, ◌+◌, ◌∷◌, length, Some, sym, ap, ◌∙◌, subst}
-use Rattle.lists.specs.Families.{list_at, key_at}
+use Rattle.node_lists.specs.Families.{list_at, key_at}
 use Rattle.opgraph.specs.Graph.{Graph, op_at, IsOp, Rewritten, inputs_in, front}
 use Rattle.opgraph.specs.Parts.{graph_of}
 use Rattle.opgraph.proofs.Tables.{value_of}
@@ -13,12 +13,12 @@ last-requires c = op_list c.self.inside.ops c.self.inside.inputs c.self.inside.u
 pub move_first-requires-clause-node : goal.move_first-requires-clause-node
 move_first-requires-clause-node c =
     let l = last_split (list_at c.self.inside.inputs (Some c.args.op)) c.in-Some.slot (sym c.last.ensures ∙ c.in-Some.is) in
-    (c.self.invariant.full_inputs.members (Some c.args.op) c.in-Some.slot (subst (Rattle.lists.specs.Chains.IsIn c.in-Some.slot) (sym l.1) (Rattle.lists.proofs.Chains.in_right c.in-Some.slot l.0 (c.in-Some.slot ∷ []) (Rattle.std.proofs.Common.inl Rattle.std.proofs.Common.refl)))).0
+    (c.self.invariant.full_inputs.members (Some c.args.op) c.in-Some.slot (subst (Rattle.node_lists.specs.Chains.IsIn c.in-Some.slot) (sym l.1) (Rattle.node_lists.proofs.Chains.in_right c.in-Some.slot l.0 (c.in-Some.slot ∷ []) (Rattle.std.proofs.Common.inl Rattle.std.proofs.Common.refl)))).0
 
 pub move_first-requires-in-Some-clause-node : goal.move_first-requires-in-Some-clause-node
 move_first-requires-in-Some-clause-node c =
     let l = last_split (list_at c.self.inside.inputs (Some c.args.op)) c.in-Some.slot (sym c.last.ensures ∙ c.in-Some.is) in
-    let k = (c.self.invariant.full_inputs.members (Some c.args.op) c.in-Some.slot (subst (Rattle.lists.specs.Chains.IsIn c.in-Some.slot) (sym l.1) (Rattle.lists.proofs.Chains.in_right c.in-Some.slot l.0 (c.in-Some.slot ∷ []) (Rattle.std.proofs.Common.inl Rattle.std.proofs.Common.refl)))).1 in
+    let k = (c.self.invariant.full_inputs.members (Some c.args.op) c.in-Some.slot (subst (Rattle.node_lists.specs.Chains.IsIn c.in-Some.slot) (sym l.1) (Rattle.node_lists.proofs.Chains.in_right c.in-Some.slot l.0 (c.in-Some.slot ∷ []) (Rattle.std.proofs.Common.inl Rattle.std.proofs.Common.refl)))).1 in
     let w = value_of (key_at c.self.inside.uses c.in-Some.slot) (c.self.invariant.reads c.in-Some.slot (Rattle.opgraph.proofs.Tables.some_of k)) in
     c.self.invariant.full_uses.low c.in-Some.slot w.0 w.1
 

@@ -1,5 +1,5 @@
 use Rattle.std.proofs.Common.{◌≡◌, ◌<◌, ℕ, List, length, Option, Some, None, sym, ap, ◌∙◌, subst, slice_get, unwrap_or}
-use Rattle.lists.specs.Families.{list_at, key_at}
+use Rattle.node_lists.specs.Families.{list_at, key_at}
 use Rattle.opgraph.specs.Graph.{OpRow, Graph, op_at, IsOp, IsWhole, inputs_in}
 use Rattle.opgraph.specs.Parts.{or_zero}
 use Rattle.opgraph.proofs.Tables.{op_at_is, none_some, some_same, some_of, value_of, get_low, get_map}

@@ -1,6 +1,6 @@
 use Rattle.std.proofs.Common.{ℕ, length, Option, Some, sym, ap, ◌∙◌, subst}
 use Rattle.std.proofs.lemmas.List.{length-map}
-use Rattle.lists.specs.Families.{list_at, key_at}
+use Rattle.node_lists.specs.Families.{list_at, key_at}
 use Rattle.opgraph.specs.Graph.{OpRow, Graph, op_at, IsOp, inputs_in}
 use Rattle.opgraph.specs.Parts.{or_zero}
 use Rattle.opgraph.proofs.Tables.{op_at_is}

@@ -1,5 +1,5 @@
 use Rattle.std.proofs.Common.{sym, subst}
-use Rattle.lists.specs.Families.{nothing}
+use Rattle.node_lists.specs.Families.{nothing}
 use Rattle.opgraph.specs.Parts.{Good}
 use Rattle.opgraph.proofs.Empty.{empty_good}
 use Rattle.opgraph.proofs.graph.OpGraph.new.Goals as goal

@@ -1,5 +1,5 @@
 use Rattle.std.proofs.Common.{◌<◌, ℕ, set, length, Option, Some, sym, ap, ◌∙◌, subst}
-use Rattle.lists.specs.Families.{list_at, key_at}
+use Rattle.node_lists.specs.Families.{list_at, key_at}
 use Rattle.opgraph.specs.Graph.{OpRow, Graph, op_at, IsOp, IsValue, Rewritten, inputs_in}
 use Rattle.opgraph.specs.Parts.{graph_of, or_zero}
 use Rattle.opgraph.proofs.Tables.{op_at_is, none_some, get_low, some_of, value_of}

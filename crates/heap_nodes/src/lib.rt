@@ -1,0 +1,58 @@
+//! Nodes on the heap that reach one another by raw pointers. A row of owners owns them.
+#![tactic(auto)]
+
+ghost use Rattle.std.specs.Prelude.{◌≡◌, Some, None, IsSome, IfOk};
+ghost use Rattle.heap_nodes.specs.Owners.{value_at, set_at, places, IsApart, TakesRoom};
+
+use std::alloc::{AllocError, Allocator};
+
+pub mod arena;
+pub mod link;
+pub mod owner;
+pub mod place;
+
+pub use arena::Arena;
+pub use link::Link;
+pub use owner::Owner;
+pub use place::NodePtr;
+
+/// A new node.
+pub fn new_node<T: Drop, A: Allocator>(alloc: A, value: T) -> Result<Owner<T, A>, AllocError>
+where
+    A: Drop,
+    ensures { IfOk result (λ o. o.value ≡ value) }
+{
+    match Box::new(alloc, value) {
+        Ok(node) => Ok(Owner::of(node)),
+        Err(refused) => Err(refused.into()),
+    }
+}
+
+/// The node at `at`.
+pub fn node<T, A: Allocator>(owners: &[Owner<T, A>], at: NodePtr) -> &T
+    requires { IsSome (value_at at.ptr owners.now) }
+    ensures { value_at at.ptr owners.now ≡ Some result.now }
+{
+    unsafe { &*(at.ptr as *mut T) }
+}
+
+/// Puts a value at `at`, and returns the one that was there.
+pub fn replace<T, A: Allocator>(owners: &mut [Owner<T, A>], at: NodePtr, value: T) -> T
+    requires { IsSome (value_at at.ptr owners.old) }
+    ensures value { value_at at.ptr owners.old ≡ Some result }
+    ensures owners { owners.new ≡ set_at at.ptr value owners.old }
+{
+    unsafe {
+        let place = at.ptr as *mut T;
+        let old = place.read();
+        place.write(value);
+        old
+    }
+}
+
+/// No two nodes lie at one place.
+pub fn apart<T, A: Allocator>(owners: &mut [Owner<T, A>])
+    requires { TakesRoom T.row }
+    ensures same { owners.new ≡ owners.old }
+    ensures apart { IsApart (places owners.old) }
+{}

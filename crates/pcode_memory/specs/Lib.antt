@@ -1,0 +1,3 @@
+pub mod Frame
+pub mod Context
+pub mod Effects

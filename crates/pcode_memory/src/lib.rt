@@ -1,0 +1,15 @@
+//! The memory of the p-code run: bytes, hidden bytes and spoiled ones, and the effects on its world.
+#![tactic(auto)]
+
+pub mod context;
+pub mod effects;
+pub mod frame;
+pub mod whole;
+
+pub use context::PcodeContext;
+pub use effects::{store, take_answer};
+pub use frame::{Frame, FrameRange, OwnAccess};
+pub use whole::Whole;
+
+#[cfg(test)]
+mod tests;

@@ -1,0 +1,44 @@
+//! The listing of an input that is run.
+
+ghost use Rattle.std.specs.Prelude.{◌-◌, ◌^◌, ◌≤◌, length, IfErr, IfOk, OnOk, []};
+ghost use Rattle.pcode_model.specs.Flow.{AreApart, NoFault};
+ghost use Rattle.pcodetext.specs.Formed.{IsRead};
+ghost use Rattle.run_verdict.specs.Runs.{HasFewBlocks, IsCause, Runs, StopsFlow};
+
+use crate::tables::is_runnable;
+use flow::follow;
+use pcode_model::{Listing, Tables, check_ops};
+use pcodetext::read_listing;
+use pipeline::Refusal;
+use std::alloc::Global;
+
+// Whether the flow has no fault and few blocks, or why not.
+fn check_flow(alloc: Global, listing: &Listing) -> Result<(), Refusal>
+    requires { AreApart listing.now.code }
+    ensures no_fault { OnOk result (NoFault listing.now []) }
+    ensures few { OnOk result (HasFewBlocks listing.now) }
+    ensures stops { IfErr result (StopsFlow listing.now) }
+{
+    let tables = Tables::new(alloc);
+    match follow(alloc, listing, &tables) {
+        Ok(_) => Ok(()),
+        Err(fault) => Err(Refusal::from(fault)),
+    }
+}
+
+/// The listing of an input, or the first fault of the input: a fault of the text, an op that breaks a rule, a `stack` line
+/// or a BRANCHIND, a fault of the flow, or too many blocks.
+pub fn accept(alloc: Global, bytes: &[u8]) -> Result<Listing, Refusal>
+    requires { length bytes.now ≤ 2 ^ 32 - 2 }
+    ensures runs { IfOk result (Runs bytes.now) }
+    ensures read { IfOk result IsRead }
+    ensures refused { IfErr result (IsCause bytes.now) }
+{
+    let listing = read_listing(alloc, bytes)?;
+    check_ops(&listing)?;
+    if !is_runnable(&listing) {
+        return Err(Refusal::NotBuilt);
+    }
+    check_flow(alloc, &listing)?;
+    Ok(listing)
+}

@@ -1,5 +1,0 @@
-use Rattle.runc.proofs.Effects.{goes_lacks}
-use Rattle.runc.proofs.step.choose.Goals as goal
-
-pub returns-in-None : goal.returns-in-None
-returns-in-None c answers = goes_lacks answers c.args.local.now c.finish.new.self c.args.position c.value.result _ _ c.in-None.is c.value.ensures.value (c.finish.ensures answers)

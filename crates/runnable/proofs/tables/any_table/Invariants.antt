@@ -1,6 +1,0 @@
-use Rattle.std.proofs.Common.{◌≡◌, drop}
-use Rattle.runnable.specs.Search.{any_table}
-use Rattle.runnable.proofs.tables.any_table.Given as goal
-
-abbrev pub invariant-loop-instruction : goal.invariant-loop-instruction
-invariant-loop-instruction l = any_table (drop l.instruction-index l.code) ≡ any_table l.code

@@ -1,8 +1,0 @@
-use Rattle.std.proofs.Common.{◌≡◌, ℕ, Option, None, take}
-use Rattle.worlds.specs.Maps.{at}
-use Rattle.worlds.specs.Meaning.{with_offsets}
-use Rattle.runp.specs.Calls.{is_held, mixed}
-use Rattle.runp.proofs.calls.take_in.Given as goal
-
-abbrev pub invariant-loop-b : goal.invariant-loop-b
-invariant-loop-b l = (g : ℕ → ℕ → Option ℕ) → at l.initial.local ≡ mixed (is_held l.keep l.stack) l.space (λ o. None) g → at l.local ≡ mixed (is_held l.keep l.stack) l.space (with_offsets (take l.b-index l.bytes) (λ o. None)) g

@@ -1,9 +1,0 @@
-use Rattle.std.proofs.Common.{◌≤◌, ◌^◌, ℕ, subst, sym}
-use Rattle.pcode_model.specs.Spaces.{size_of}
-use Rattle.runp.proofs.Registers.{ram_size}
-use Rattle.runp.proofs.operands.read_argument.Goals as goal
-
-pub word_at-requires-clause-small : goal.word_at-requires-clause-small
-word_at-requires-clause-small c =
-    let P : ℕ → Type 0 = λ n. size_of c.args.course.now.listing.now n ≤ 2 ^ 64 in
-    subst P (sym c.requires.course.setting.first_ram) (ram_size c.args.course.now.listing.now c.requires.course.can)

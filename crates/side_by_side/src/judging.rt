@@ -1,0 +1,95 @@
+//! The runs of both machines, and what is told of them.
+
+ghost use Rattle.std.specs.Prelude.{◌≡◌, ◌++◌, IfOk, OnOk};
+ghost use Rattle.cmeaning.specs.Valid.{IsValid};
+ghost use Rattle.cmeaning.specs.Fits.{Fits};
+ghost use Rattle.pcode_memory.specs.Context.{CanRun};
+ghost use Rattle.run_world.specs.Meaning.{trace_of};
+ghost use Rattle.runwords.specs.Fetched.{AreShort};
+ghost use Rattle.runwords.specs.Table.{IsJudged};
+ghost use Rattle.side_by_side.specs.Judged.{Faults, IsLine, IsShown, IsTold, Shows, both_text};
+
+use crate::input_fault::{InputFault, fault_line};
+use crate::reading::{Parsed, parse};
+use bits_core::Memory;
+use c_run::run_c;
+use comparison::{Comparison, compare, put_comparison};
+use pcode_memory::Frame;
+use pcode_model::Listing;
+use pcode_run::run_p;
+use run_world::Trace;
+use runwords::{Inputs, Outcome};
+use std::alloc::Global;
+use tracetext::put_trace;
+
+// Puts the lines of both traces and of how they compare behind a text.
+fn put_both(
+    out: &mut Vec<u8>,
+    listing: &Listing,
+    p: &Trace,
+    c: &Trace,
+    comparison: Comparison,
+) -> Result<(), Memory>
+    ensures { OnOk result (out.new.items ≡ out.old.items ++ both_text listing.now (trace_of p.now) (trace_of c.now) comparison) }
+{
+    put_trace(out, listing, b"p ", p)?;
+    put_trace(out, listing, b"c ", c)?;
+    put_comparison(out, comparison)
+}
+
+// The traces of both machines after so many steps, and how they compare.
+fn show(alloc: Global, parsed: &Parsed, steps: u32) -> Result<Vec<u8>, Memory>
+    requires can { CanRun parsed.now.listing }
+    requires valid { IsValid parsed.now.function }
+    requires fits { Fits parsed.now.listing parsed.now.function }
+    ensures { IfOk result (λ text. IsShown parsed.now.listing parsed.now.function parsed.now.entry steps text.items) }
+{
+    let frame = Frame::empty(alloc);
+    let p = run_p(alloc, &parsed.listing, &frame, &parsed.entry, steps)?;
+    let c = run_c(
+        alloc,
+        &parsed.listing,
+        &parsed.function,
+        &parsed.entry,
+        steps,
+    )?;
+    let comparison = compare(&p, &c);
+    let mut text = Vec::new(alloc);
+    put_both(&mut text, &parsed.listing, &p, &c, comparison)?;
+    Ok(text)
+}
+
+fn refused(alloc: Global, input_fault: &InputFault) -> Outcome
+    ensures { IsLine input_fault.now result }
+{
+    if matches!(input_fault, InputFault::Memory) {
+        return Outcome::Memory;
+    }
+    match fault_line(alloc, input_fault) {
+        Ok(line) => Outcome::Refused(line),
+        Err(_) => Outcome::Memory,
+    }
+}
+
+fn shown(alloc: Global, parsed: &Parsed, steps: u32) -> Outcome
+    requires can { CanRun parsed.now.listing }
+    requires valid { IsValid parsed.now.function }
+    requires fits { Fits parsed.now.listing parsed.now.function }
+    ensures { IsTold parsed.now.listing parsed.now.function parsed.now.entry steps result }
+{
+    match show(alloc, parsed, steps) {
+        Ok(text) => Outcome::Shown(text),
+        Err(_) => Outcome::Memory,
+    }
+}
+
+/// What the inputs come to after so many steps of each machine.
+pub fn judge(alloc: Global, inputs: &Inputs, steps: u32) -> Outcome
+    requires { AreShort inputs.now }
+    ensures { IsJudged Shows Faults inputs.now steps result }
+{
+    match parse(alloc, inputs) {
+        Ok(parsed) => shown(alloc, &parsed, steps),
+        Err(input_fault) => refused(alloc, &input_fault),
+    }
+}

@@ -1,0 +1,89 @@
+//! The inputs in their order: the listing, the C text, the entry.
+
+ghost use Rattle.std.specs.Prelude.{◌≡◌, ◌≤◌, length, IfErr, IfOk};
+ghost use Rattle.cread.specs.Answer.{IsTreeOf};
+ghost use Rattle.pcode_model.specs.WellFormed.{IsWellFormed};
+ghost use Rattle.pcodetext.specs.Formed.{IsRead};
+ghost use Rattle.run_verdict.specs.Runs.{Runs};
+ghost use Rattle.entrytext.specs.Meaning.{reading};
+ghost use Rattle.entrytext.specs.Meaning.Read.{Good};
+ghost use Rattle.runwords.specs.Fetched.{AreShort, limit};
+ghost use Rattle.side_by_side.specs.Judged.{IsCause, IsEntryFault, IsFunctionFault, IsListingFault, IsParsed};
+
+use crate::input_fault::InputFault;
+use c_run::fits;
+use cmeaning::CFunction;
+use cread::{CFault, read_c};
+use entrytext::{EntryFault, read_entry};
+use pcode_model::Listing;
+use pipeline::Refusal;
+use run_verdict::accept;
+use run_world::Entry;
+use runwords::Inputs;
+use std::alloc::Global;
+
+/// What the inputs say.
+#[derive(Drop)]
+pub struct Parsed {
+    pub listing: Listing,
+    pub function: CFunction,
+    pub entry: Entry,
+}
+
+fn listing(alloc: Global, bytes: &[u8]) -> Result<Listing, InputFault>
+    requires { length bytes.now ≤ limit }
+    ensures runs { IfOk result (Runs bytes.now) }
+    ensures read { IfOk result IsRead }
+    ensures refused { IfErr result (IsListingFault bytes.now) }
+{
+    match accept(alloc, bytes) {
+        Ok(listing) => Ok(listing),
+        Err(Refusal::Memory) => Err(InputFault::Memory),
+        Err(refusal) => Err(InputFault::Listing(refusal)),
+    }
+}
+
+fn function(alloc: Global, bytes: &[u8]) -> Result<CFunction, InputFault>
+    ensures tree { IfOk result (IsTreeOf bytes.now) }
+    ensures refused { IfErr result (IsFunctionFault bytes.now) }
+{
+    match read_c(alloc, bytes) {
+        Ok(function) => Ok(function),
+        Err(CFault::NotC) => Err(InputFault::NotC),
+        Err(CFault::Memory) => Err(InputFault::Memory),
+    }
+}
+
+fn entry(alloc: Global, listing: &Listing, bytes: &[u8]) -> Result<Entry, InputFault>
+    requires formed { IsWellFormed listing.now }
+    requires few { length listing.now.spaces ≤ 256 }
+    requires short { length bytes.now ≤ limit }
+    ensures good { IfOk result (λ entry. reading listing.now bytes.now ≡ Good entry) }
+    ensures refused { IfErr result (IsEntryFault listing.now bytes.now) }
+{
+    match read_entry(alloc, listing, bytes) {
+        Ok(entry) => Ok(entry),
+        Err(EntryFault::Memory) => Err(InputFault::Memory),
+        Err(fault) => Err(InputFault::Entry(fault)),
+    }
+}
+
+/// What the inputs say, or the first reason why they are refused.
+pub fn parse(alloc: Global, inputs: &Inputs) -> Result<Parsed, InputFault>
+    requires { AreShort inputs.now }
+    ensures parsed { IfOk result (λ p. IsParsed inputs.now p.listing p.function p.entry) }
+    ensures read { IfOk result (λ p. IsRead p.listing) }
+    ensures refused { IfErr result (IsCause inputs.now) }
+{
+    let listing = listing(alloc, inputs.listing.as_slice())?;
+    let function = function(alloc, inputs.c_text.as_slice())?;
+    if !fits(&listing, &function) {
+        return Err(InputFault::Misfit);
+    }
+    let entry = entry(alloc, &listing, inputs.entry.as_slice())?;
+    Ok(Parsed {
+        listing,
+        function,
+        entry,
+    })
+}

@@ -1,7 +1,0 @@
-use Rattle.std.proofs.Common.{refl}
-use Rattle.worlds.specs.Maps.{at_offset}
-use Rattle.whole_memory.proofs.Memory.{whole_is, spoiled_gone}
-use Rattle.whole_memory.proofs.whole.Whole.tuck.Goals as goal
-
-pub returns : goal.returns
-returns c = whole_is _ _ _ _ _ _ refl c.in_ok-put.ensures (spoiled_gone (at_offset c.args.self.now.spoiled) (at_offset c.remove.new.self) c.args.address c.remove.ensures)

@@ -1,6 +1,0 @@
-use Rattle.std.proofs.Common.{None}
-use Rattle.worlds.proofs.Pairs.{put_at_pair}
-use Rattle.worlds.proofs.byte_map.ByteMap.remove.Goals as goal
-
-pub returns : goal.returns
-returns c = put_at_pair c.args.self.now.bytes c.remove.new.self c.args.space c.args.offset None c.remove.ensures.updates

@@ -1,6 +1,0 @@
-use Rattle.std.proofs.Common.{◌≡◌}
-use Rattle.worlds.specs.Maps.{at, over}
-use Rattle.worlds.proofs.setting.put_fixed.Given as goal
-
-abbrev pub invariant-loop-i : goal.invariant-loop-i
-invariant-loop-i l = at l.map ≡ over l.fixed.space l.fixed.offset l.i l.fixed.bytes (at l.initial.map)
