@@ -1,11 +1,23 @@
--- Numbers and bytes as they are written.
-use Rattle.std.specs.Prelude.{◌==◌, ◌+◌, ◌*◌, ◌&&◌, ℕ, Bool, false, List, [], ◌∷◌, length, Option, Some, None, if◌then◌else◌, nat_le}
+-- Names, numbers and bytes as they are written.
+use Rattle.std.specs.Prelude.{◌==◌, ◌+◌, ◌*◌, ◌&&◌, ◌||◌, ℕ, Bool, false, List, [], ◌∷◌, length, Option, Some, None, if◌then◌else◌, nat_le}
 use Rattle.std.specs.List.{list_all}
 use Rattle.std.specs.Option.{option_map}
 use Rattle.std.specs.Char.{digit_value, is_digit}
 use Rattle.std.specs.Str.Parse.{digits_value}
 use Rattle.listing_lines.specs.Text.{Line}
-pub use Rattle.pcode_model.specs.Names.{is_letter, is_name, is_name_byte}
+
+-- `_`, `A` to `Z` and `a` to `z`
+abbrev pub is_letter : ℕ → Bool
+is_letter b = b == 95 || ((nat_le 65 b && nat_le b 90) || (nat_le 97 b && nat_le b 122))
+
+-- a letter, or `0` to `9`
+abbrev pub is_name_byte : ℕ → Bool
+is_name_byte b = is_letter b || (nat_le 48 b && nat_le b 57)
+
+-- a letter, then at most 63 letters or digits
+abbrev pub is_name : Line → Bool
+is_name [] = false
+is_name (first ∷ more) = is_letter first && (nat_le (length more) 63 && list_all is_name_byte more)
 
 -- the number that 1 to `most` digits write
 abbrev pub number_of : ℕ → ℕ → Line → Option ℕ

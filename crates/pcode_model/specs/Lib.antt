@@ -1,5 +1,4 @@
 pub mod Limits
-pub mod Names
 pub mod Spaces
 pub mod Places
 pub mod Memory

@@ -1,6 +1,7 @@
 -- What holds of every listing that is read: each rule that the reader keeps to. This project's own.
 use Rattle.std.specs.Prelude.{◌≡◌, ◌+◌, ◌<◌, ◌≤◌, ◌^◌, ◌⊎◌, ℕ, suc, true, false, List, [], ◌∷◌, length, codes, Option, Some, IfSome, IsSome, if◌then◌else◌, slice_get}
 use Rattle.std.specs.List.{AllByRecursion}
+use Rattle.listing_lines.specs.Tokens.{is_name}
 use Rattle.pcode_model.specs.declared.listing.Fixed.{Fixed}
 use Rattle.pcode_model.specs.declared.listing.Function.{Function}
 use Rattle.pcode_model.specs.declared.listing.Instruction.{Instruction}
@@ -14,7 +15,6 @@ use Rattle.pcode_model.specs.declared.listing.Storage.{Storage}
 use Rattle.pcode_model.specs.declared.listing.Storage.TheVariants.{At, Stack}
 use Rattle.pcode_model.specs.declared.listing.Varnode.{Varnode}
 use Rattle.pcode_model.specs.Flow.{AreApart}
-use Rattle.pcode_model.specs.Names.{is_name}
 use Rattle.pcode_model.specs.Ranges.{is_kind, leaves, meets}
 use Rattle.pcode_model.specs.Rules.{HasFewOps}
 use Rattle.pcode_model.specs.Spaces.{address_bytes, number_of, same_kind}
