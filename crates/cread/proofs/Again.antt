@@ -83,7 +83,7 @@ inner_of sub bs x c rest head is end = let s = end_sign rest end in rw (head.not
 
 -- two operands
 pub two_of : (sub : Reader) (bs : List ℕ) (x : Item) (more : List ℕ) (s : Sign) (second : List ℕ) (y : Item)
-      (rest : List ℕ)
+    (rest : List ℕ)
     → Headed bs
     → sub bs ≡ Some (x, more)
     → sign_at more ≡ Some (s, second)
@@ -109,7 +109,7 @@ pub cast_of : (sc : Scope) (n w : ℕ) (text : List ℕ) (x : Item) (c : ℕ) (r
 unfolding operand_at operand_by after paren_by cast_by
 cast_of sc n w text x c rest small head is =
     let grouped : (type_text false w ++ 41 ∷ text) ++ c ∷ rest ≡ type_text false w ++ 41 ∷ (text ++ c ∷ rest) =
-        append_assoc (type_text false w) (41 ∷ text) (c ∷ rest) in
+    append_assoc (type_text false w) (41 ∷ text) (c ∷ rest) in
     let t = type_again false w 41 (text ++ c ∷ rest) small refl in
     rw (grouped, t, head, is) refl
 
@@ -120,7 +120,7 @@ pub signed_of : (sc : Scope) (n w : ℕ) (text : List ℕ) (x : Item) (c : ℕ) 
 unfolding operand_at operand_by after paren_by
 signed_of sc n w text x c rest small is =
     let grouped : (type_text true w ++ 41 ∷ text) ++ c ∷ rest ≡ type_text true w ++ 41 ∷ (text ++ c ∷ rest) =
-        append_assoc (type_text true w) (41 ∷ text) (c ∷ rest) in
+    append_assoc (type_text true w) (41 ∷ text) (c ∷ rest) in
     let t = type_again true w 41 (text ++ c ∷ rest) small refl in
     rw (grouped, t, is) refl
 
@@ -211,7 +211,7 @@ pub compound_again : (sc : Scope) (t : Expr) (w d : ℕ) (text : List ℕ)
     → Again sc t w d (compound w text)
 compound_again sc t w d text size head inner =
     let operand : Operand sc t w d (enclosed text) =
-        λ n c rest le stop. in_parens sc t w d text size.deep head inner n c rest (omega arith) in
+    λ n c rest le stop. in_parens sc t w d text size.deep head inner n c rest (omega arith) in
     let alone : Alone sc t w d text = λ n c rest le end. inner n c rest (omega arith) end in
     record {
       size = size;
@@ -236,8 +236,8 @@ unfolding after
 in_cast sc t w d text size head inner zero c rest le stop = absurd (omega (arith, size.deep))
 in_cast sc t w d text size head inner (suc n) c rest le stop =
     cast_of sc n w (enclosed text) (item t w) c rest size.fits refl
-        (in_parens sc t w d text size.deep head inner n c rest (omega arith))
-        ∙ ap (λ (x : Item). Some (x, c ∷ rest)) (resize_same w (item t w) size.some size.fits refl)
+    (in_parens sc t w d text size.deep head inner n c rest (omega arith))
+    ∙ ap (λ (x : Item). Some (x, c ∷ rest)) (resize_same w (item t w) size.some size.fits refl)
 
 pub comparison_again : (sc : Scope) (t : Expr) (d : ℕ) (text : List ℕ)
     → Sized 1 d

@@ -136,10 +136,10 @@ module _ (f : CFunction) (labels : ℕ) where
       → First f labels x xs in_loop room d
   first_ok x xs after_call in_loop room d ok sd h =
       let three = and_parts (ltb 0 room)
-          ((rule_of f labels x).holds after_call in_loop (room - 1)
-          && all_hold (rule_of f labels x).calls (map (rule_of f labels) xs) in_loop room) h in
+      ((rule_of f labels x).holds after_call in_loop (room - 1)
+      && all_hold (rule_of f labels x).calls (map (rule_of f labels) xs) in_loop room) h in
       let two = and_parts ((rule_of f labels x).holds after_call in_loop (room - 1))
-          (all_hold (rule_of f labels x).calls (map (rule_of f labels) xs) in_loop room) three.1 in
+      (all_hold (rule_of f labels x).calls (map (rule_of f labels) xs) in_loop room) three.1 in
       let some : 0 < room = ltb-true _ _ three.0 in
       record {
         line = moved_line (scope_of f) (suc (room - 1)) room in_loop x ((lines (scope_of f) x).text d) (omega arith)
@@ -156,7 +156,7 @@ module _ (f : CFunction) (labels : ℕ) where
       → spaced_by arm (statement_at (scope_of f) room) rest ≡ None
       → length xs ≤ k
       → ◌≡◌ {A = List Stmt × List ℕ} (many_by (spaced_by arm (statement_at (scope_of f) room)) k
-        (texts f xs d ++ rest)) (xs, rest)
+      (texts f xs d ++ rest)) (xs, rest)
   unfolding many_by
   row_again [] all arm after_call in_loop room zero d rest loop sd h ends le = refl
   row_again [] all arm after_call in_loop room (suc k) d rest loop sd h ends le = rw ends refl
@@ -168,11 +168,11 @@ module _ (f : CFunction) (labels : ℕ) where
       let others = texts f xs d ++ rest in
       let grouped : (d ++ (text ++ texts f xs d)) ++ rest ≡ d ++ (text ++ others) = simp append_assoc in
       let spaced : past_spaces (d ++ (text ++ others)) ≡ text ++ others =
-          spaces_again d (text ++ others) sd ∙ (first.line.starts others).no_space in
+      spaces_again d (text ++ others) sd ∙ (first.line.starts others).no_space in
       let own = first.line.not_own arm loop others in
       let read = first.line.read others in
       let more = row_again xs all.1 arm (rule_of f labels x).calls in_loop room k d rest loop sd first.others ends
-          (omega arith) in
+      (omega arith) in
       rw (grouped, spaced, own, read, more) refl
 
   row_long : (xs : List Stmt)
@@ -187,8 +187,15 @@ module _ (f : CFunction) (labels : ℕ) where
       let text = (lines (scope_of f) x).text d in
       let one = first.line.long in
       let more = row_long xs all.1 (rule_of f labels x).calls in_loop room d z sd first.others in
-      omega (arith, one, more, length-append (d ++ (text ++ texts f xs d)) z, length-append d (text ++ texts f xs d),
-          length-append text (texts f xs d), length-append (texts f xs d) z)
+      omega (
+        arith,
+        one,
+        more,
+        length-append (d ++ (text ++ texts f xs d)) z,
+        length-append d (text ++ texts f xs d),
+        length-append text (texts f xs d),
+        length-append (texts f xs d) z,
+      )
 
   pub body_again : (xs : List Stmt)
       → AllOk f labels xs
@@ -200,7 +207,7 @@ module _ (f : CFunction) (labels : ℕ) where
       → ◌≡◌ {A = List Stmt × List ℕ} (body_by arm (statement_at (scope_of f) room) (texts f xs d ++ rest)) (xs, rest)
   body_again xs all arm after_call in_loop room d rest loop sd h ends =
       row_again xs all arm after_call in_loop room (length (texts f xs d ++ rest)) d rest loop sd h ends
-          (row_long xs all after_call in_loop room d rest sd h)
+      (row_long xs all after_call in_loop room d rest sd h)
 
   -- a body that is no arm's, one level deeper, up to the line with its brace
   inner_again : (xs : List Stmt)
@@ -209,10 +216,10 @@ module _ (f : CFunction) (labels : ℕ) where
       → AllSpaces d
       → Holds f labels false xs in_loop room
       → ◌≡◌ {A = List Stmt × List ℕ} (body_by false (statement_at (scope_of f) room)
-        (texts f xs (deeper d) ++ (d ++ 125 ∷ rest))) (xs, d ++ 125 ∷ rest)
+      (texts f xs (deeper d) ++ (d ++ 125 ∷ rest))) (xs, d ++ 125 ∷ rest)
   inner_again xs all in_loop room d rest sd h =
       body_again xs all false false in_loop room (deeper d) (d ++ 125 ∷ rest) refl (deeper_spaces d sd) h
-          (brace_ends (scope_of f) room false d rest sd)
+      (brace_ends (scope_of f) room false d rest sd)
 
   closed_again : (xs : List Stmt)
       → AllOk f labels xs
@@ -235,19 +242,19 @@ module _ (f : CFunction) (labels : ℕ) where
       → AllSpaces d
       → Holds f labels false xs in_loop room
       → LineAt (scope_of f) (suc room) in_loop (s.If e xs)
-        (codes "if (" ++ ((form (scope_of f) e).test
-        ++ (codes ") {\n" ++ (texts f xs (deeper d) ++ (d ++ codes "}\n")))))
+      (codes "if (" ++ ((form (scope_of f) e).test
+      ++ (codes ") {\n" ++ (texts f xs (deeper d) ++ (d ++ codes "}\n")))))
   unfolding statement_at statement_by line_at plain_line_at loop_head line_by if_by after past_spaces run_of type_at
   if_line e xs w all in_loop room d sd h =
       let sc = scope_of f in
       let test = (form sc e).test in
       let body = texts f xs (deeper d) in
       worded sc (suc room) in_loop (s.If e xs)
-          (codes "if (" ++ (test ++ (codes ") {\n" ++ (body ++ (d ++ codes "}\n")))))
+      (codes "if (" ++ (test ++ (codes ") {\n" ++ (body ++ (d ++ codes "}\n")))))
       (λ rest.
       let last = d ++ 125 ∷ 10 ∷ rest in
       let grouped : (test ++ (codes ") {\n" ++ (body ++ (d ++ codes "}\n")))) ++ rest
-          ≡ test ++ 41 ∷ 32 ∷ 123 ∷ 10 ∷ (body ++ last) = simp append_assoc in
+      ≡ test ++ 41 ∷ 32 ∷ 123 ∷ 10 ∷ (body ++ last) = simp append_assoc in
       let head = head_again sc e test (body ++ last) w.test in
       let inner = inner_again xs all in_loop room d (10 ∷ rest) sd h in
       let p = past_pad d 125 (10 ∷ rest) sd refl in
@@ -263,9 +270,9 @@ module _ (f : CFunction) (labels : ℕ) where
       → Holds f labels false xs in_loop room
       → Holds f labels false ys in_loop room
       → LineAt (scope_of f) (suc room) in_loop (s.IfElse e xs ys)
-        (codes "if (" ++ ((form (scope_of f) e).test
-        ++ (codes ") {\n" ++ (texts f xs (deeper d)
-        ++ (d ++ (codes "} else {\n" ++ (texts f ys (deeper d) ++ (d ++ codes "}\n"))))))))
+      (codes "if (" ++ ((form (scope_of f) e).test
+      ++ (codes ") {\n" ++ (texts f xs (deeper d)
+      ++ (d ++ (codes "} else {\n" ++ (texts f ys (deeper d) ++ (d ++ codes "}\n"))))))))
   unfolding statement_at statement_by line_at plain_line_at loop_head line_by if_by after past_spaces run_of type_at
   else_line e xs ys w all also in_loop room d sd h g =
       let sc = scope_of f in
@@ -273,14 +280,14 @@ module _ (f : CFunction) (labels : ℕ) where
       let body = texts f xs (deeper d) in
       let other = texts f ys (deeper d) in
       worded sc (suc room) in_loop (s.IfElse e xs ys)
-          (codes "if (" ++ (test ++ (codes ") {\n"
-          ++ (body ++ (d ++ (codes "} else {\n" ++ (other ++ (d ++ codes "}\n"))))))))
+      (codes "if (" ++ (test ++ (codes ") {\n"
+      ++ (body ++ (d ++ (codes "} else {\n" ++ (other ++ (d ++ codes "}\n"))))))))
       (λ rest.
       let last = other ++ (d ++ 125 ∷ 10 ∷ rest) in
       let mid = codes " else {\n" ++ last in
       let grouped : (test ++ (codes ") {\n"
-          ++ (body ++ (d ++ (codes "} else {\n" ++ (other ++ (d ++ codes "}\n"))))))) ++ rest
-          ≡ test ++ 41 ∷ 32 ∷ 123 ∷ 10 ∷ (body ++ (d ++ 125 ∷ mid)) = simp append_assoc in
+      ++ (body ++ (d ++ (codes "} else {\n" ++ (other ++ (d ++ codes "}\n"))))))) ++ rest
+      ≡ test ++ 41 ∷ 32 ∷ 123 ∷ 10 ∷ (body ++ (d ++ 125 ∷ mid)) = simp append_assoc in
       let head = head_again sc e test (body ++ (d ++ 125 ∷ mid)) w.test in
       let inner = inner_again xs all in_loop room d mid sd h in
       let p = past_pad d 125 mid sd refl in
@@ -295,19 +302,19 @@ module _ (f : CFunction) (labels : ℕ) where
       → AllSpaces d
       → Holds f labels false xs true room
       → LineAt (scope_of f) (suc room) in_loop (s.While e xs)
-        (codes "while (" ++ ((form (scope_of f) e).test
-        ++ (codes ") {\n" ++ (texts f xs (deeper d) ++ (d ++ codes "}\n")))))
+      (codes "while (" ++ ((form (scope_of f) e).test
+      ++ (codes ") {\n" ++ (texts f xs (deeper d) ++ (d ++ codes "}\n")))))
   unfolding statement_at statement_by line_at plain_line_at loop_head line_by while_by after past_spaces run_of type_at
   while_line e xs w all in_loop room d sd h =
       let sc = scope_of f in
       let test = (form sc e).test in
       let body = texts f xs (deeper d) in
       worded sc (suc room) in_loop (s.While e xs)
-          (codes "while (" ++ (test ++ (codes ") {\n" ++ (body ++ (d ++ codes "}\n")))))
+      (codes "while (" ++ (test ++ (codes ") {\n" ++ (body ++ (d ++ codes "}\n")))))
       (λ rest.
       let last = d ++ 125 ∷ 10 ∷ rest in
       let grouped : (test ++ (codes ") {\n" ++ (body ++ (d ++ codes "}\n")))) ++ rest
-          ≡ test ++ 41 ∷ 32 ∷ 123 ∷ 10 ∷ (body ++ last) = simp append_assoc in
+      ≡ test ++ 41 ∷ 32 ∷ 123 ∷ 10 ∷ (body ++ last) = simp append_assoc in
       let endless = (w.test_head (41 ∷ 32 ∷ 123 ∷ 10 ∷ (body ++ last))).not_endless in
       let head = head_again sc e test (body ++ last) w.test in
       let second = closed_again xs all true room d rest sd h in
@@ -338,19 +345,19 @@ module _ (f : CFunction) (labels : ℕ) where
       → AllSpaces d
       → Holds f labels false xs true room
       → LineAt (scope_of f) (suc room) in_loop (s.DoWhile xs e)
-        (codes "do {\n" ++ (texts f xs (deeper d)
-        ++ (d ++ (codes "} while (" ++ ((form (scope_of f) e).test ++ codes ");\n")))))
+      (codes "do {\n" ++ (texts f xs (deeper d)
+      ++ (d ++ (codes "} while (" ++ ((form (scope_of f) e).test ++ codes ");\n")))))
   unfolding statement_at statement_by line_at plain_line_at loop_head line_by do_by after past_spaces run_of type_at
   do_line xs e all w in_loop room d sd h =
       let sc = scope_of f in
       let test = (form sc e).test in
       let body = texts f xs (deeper d) in
       worded sc (suc room) in_loop (s.DoWhile xs e)
-          (codes "do {\n" ++ (body ++ (d ++ (codes "} while (" ++ (test ++ codes ");\n")))))
+      (codes "do {\n" ++ (body ++ (d ++ (codes "} while (" ++ (test ++ codes ");\n")))))
       (λ rest.
       let last = codes " while (" ++ (test ++ 41 ∷ 59 ∷ 10 ∷ rest) in
       let grouped : (body ++ (d ++ (codes "} while (" ++ (test ++ codes ");\n")))) ++ rest
-          ≡ body ++ (d ++ 125 ∷ last) = simp append_assoc in
+      ≡ body ++ (d ++ 125 ∷ last) = simp append_assoc in
       let inner = inner_again xs all true room d last sd h in
       let p = past_pad d 125 last sd refl in
       let condition = w.test 41 (59 ∷ 10 ∷ rest) at_close in

@@ -87,8 +87,8 @@ other_name c d n apart is =
           let name = named_is n c.name same in
           let gap = (and_parts (not (eqb c.address d.address)) (not (same_callee_name c.name d.name)) apart).1 in
           let one : same_callee_name c.name d.name ≡ true =
-              ap (λ (x : CName). same_callee_name x d.name) name ∙ ap (same_callee_name (Declared n)) is
-              ∙ same_name_self n in
+          ap (λ (x : CName). same_callee_name x d.name) name ∙ ap (same_callee_name (Declared n)) is
+          ∙ same_name_self n in
           absurd (let never : false ≡ true = ap not (sym one) ∙ gap in cc)
       | inr other ↦ other
     ]
@@ -119,7 +119,7 @@ callee_found (c ∷ cs) address d n ok at is =
       | inl here ↦
           let same = first_is c cs address d here at in
           let name : is_named n c.name ≡ true =
-              ap (λ (x : CalleeDecl). is_named n x.name) same ∙ ap (is_named n) is ∙ named_self n in
+          ap (λ (x : CalleeDecl). is_named n x.name) same ∙ ap (is_named n) is ∙ named_self n in
           let there : c.address ≡ address = eqb-true _ _ here in
           rw name (ap (λ (a : ℕ). Some a) there)
       | inr past ↦
@@ -195,7 +195,7 @@ module _ (sc : Scope) where
       → w < 17
       → Written sc a
       → pointed_at sc (decimal (8 * w) ++ (codes " *)(" ++ ((form sc a).plain ++ 41 ∷ rest)))
-        ≡ Some (access_of None a, rest)
+      ≡ Some (access_of None a, rest)
   unfolding pointed_at after
   pointed_again w a rest small x =
       let n = decimal_again (8 * w) 32 (42 ∷ 41 ∷ 40 ∷ ((form sc a).plain ++ 41 ∷ rest)) (omega arith) refl in
@@ -207,7 +207,7 @@ module _ (sc : Scope) where
       → all_letters_or_digits name ≡ true
       → Written sc a
       → memory_at sc (decimal w ++ (codes "(" ++ (name ++ (codes ", " ++ ((form sc a).plain ++ 41 ∷ rest)))))
-        ≡ Some (access_of (Some name) a, rest)
+      ≡ Some (access_of (Some name) a, rest)
   unfolding memory_at after
   memory_again w name a rest small letters x =
       let n = decimal_again w 40 (name ++ 44 ∷ 32 ∷ ((form sc a).plain ++ 41 ∷ rest)) (omega arith) refl in
@@ -265,11 +265,11 @@ module _ (sc : Scope) where
   store_end : (space : Option (List ℕ)) (a e : Expr) (rest : List ℕ)
       → Written sc e
       → loaded None (access_of space a, (codes " = " ++ ((form sc e).plain ++ codes ";\n")) ++ rest) sc
-        ≡ Some (s.Store space a e, rest)
+      ≡ Some (s.Store space a e, rest)
   unfolding after
   store_end space a e rest y =
       let grouped : ((form sc e).plain ++ codes ";\n") ++ rest ≡ (form sc e).plain ++ (codes ";\n" ++ rest) =
-          append_assoc (form sc e).plain (codes ";\n") rest in
+      append_assoc (form sc e).plain (codes ";\n") rest in
       let one = value_again sc e (form sc e).plain rest y.plain in
       rw (grouped, one) refl
 
@@ -287,7 +287,7 @@ module _ (sc : Scope) where
       → Written sc a
       → Written sc e
       → RightText sc None (s.Store space a e)
-        (access_text space w (form sc a) ++ (codes " = " ++ ((form sc e).plain ++ codes ";\n")))
+      (access_text space w (form sc a) ++ (codes " = " ++ ((form sc e).plain ++ codes ";\n")))
   store_right space w a e small fits x y =
       access_right None (s.Store space a e) space w a (codes " = " ++ ((form sc e).plain ++ codes ";\n")) small fits x
       (λ rest. store_end space a e rest y)
@@ -297,7 +297,7 @@ module _ (sc : Scope) where
   args_end : (v : Option ℕ) (address : ℕ) (ts : List Expr) (rest : List ℕ)
       → AllWritten sc ts
       → with_args sc v address (40 ∷ (separated (plain_texts sc ts) ++ (codes ");\n" ++ rest)))
-        ≡ Some (s.Call v address ts, rest)
+      ≡ Some (s.Call v address ts, rest)
   unfolding after
   args_end v address ts rest all = let one = args_again sc ts (59 ∷ 10 ∷ rest) all in rw one refl
 
@@ -308,7 +308,7 @@ module _ (sc : Scope) where
       → all_letters_or_digits n ≡ true
       → AllWritten sc ts
       → RightText sc v (s.Call v address ts)
-        ((codes "f_" ++ n) ++ (codes "(" ++ (separated (plain_texts sc ts) ++ codes ");\n")))
+      ((codes "f_" ++ n) ++ (codes "(" ++ (separated (plain_texts sc ts) ++ codes ");\n")))
   unfolding right_at division_at right_by named_call line_at plain_line_at loop_head after past_spaces run_of type_at
   call_named v address d n ts ok at is letters all =
       let args = separated (plain_texts sc ts) in
@@ -332,7 +332,7 @@ module _ (sc : Scope) where
 
   call_bare : (v : Option ℕ) (address : ℕ) (ts : List Expr) → address < 2 ^ 64 → AllWritten sc ts
       → RightText sc v (s.Call v address ts)
-        ((codes "g_" ++ hex address) ++ (codes "(" ++ (separated (plain_texts sc ts) ++ codes ");\n")))
+      ((codes "g_" ++ hex address) ++ (codes "(" ++ (separated (plain_texts sc ts) ++ codes ");\n")))
   unfolding right_at division_at right_by bare_call line_at plain_line_at loop_head after past_spaces run_of type_at
   call_bare v address ts low all =
       let args = separated (plain_texts sc ts) in
@@ -363,7 +363,7 @@ module _ (sc : Scope) where
       → address < 2 ^ 64
       → AllWritten sc ts
       → RightText sc v (s.Call v address ts)
-        (callee_name name address ++ (codes "(" ++ (separated (plain_texts sc ts) ++ codes ");\n")))
+      (callee_name name address ++ (codes "(" ++ (separated (plain_texts sc ts) ++ codes ");\n")))
   call_by_name v address d (Declared n) ts ok at is good same low all =
       let form_ok = and_parts (begins_well n) (all_letters_or_digits n && leb (length n) 64) good in
       call_named v address d n ts ok at is (and_parts (all_letters_or_digits n) (leb (length n) 64) form_ok.1).0 all
@@ -374,7 +374,7 @@ module _ (sc : Scope) where
       → callee_at sc.callees address ≡ Some d
       → AllWritten sc ts
       → RightText sc v (s.Call v address ts)
-        (name_of (callee_at sc.callees address) ++ (codes "(" ++ (separated (plain_texts sc ts) ++ codes ");\n")))
+      (name_of (callee_at sc.callees address) ++ (codes "(" ++ (separated (plain_texts sc ts) ++ codes ");\n")))
   call_right v address d ts ok at all =
       let l = callee_long sc.callees address d ok at in
       let good = and_parts (is_long d.address) (is_callee_name d.name && result_fits d.returns d.gives) l.0 in
@@ -383,14 +383,14 @@ module _ (sc : Scope) where
       let name = (and_parts (is_callee_name d.name) (result_fits d.returns d.gives) good.1).0 in
       let r = call_by_name v address d d.name ts ok at refl name same (omega arith) all in
       let text : name_of (callee_at sc.callees address) ≡ callee_name d.name address =
-          ap name_of at ∙ ap (callee_name d.name) same in
+      ap name_of at ∙ ap (callee_name d.name) same in
       subst (λ (x : List ℕ). RightText sc v (s.Call v address ts)
-          (x ++ (codes "(" ++ (separated (plain_texts sc ts) ++ codes ");\n")))) (sym text) r
+      (x ++ (codes "(" ++ (separated (plain_texts sc ts) ++ codes ");\n")))) (sym text) r
 
   pub indirect_right : (v : Option ℕ) (w : ℕ) (e : Expr) (ts : List Expr) → w < 17 → Written sc e → AllWritten sc ts
       → RightText sc v (s.CallInd v e ts)
-        (codes "CALLIND" ++ (decimal w ++ (codes "("
-        ++ ((form sc e).plain ++ (further (plain_texts sc ts) ++ codes ");\n")))))
+      (codes "CALLIND" ++ (decimal w ++ (codes "("
+      ++ ((form sc e).plain ++ (further (plain_texts sc ts) ++ codes ");\n")))))
   unfolding right_at division_at right_by indirect_call line_at plain_line_at loop_head after past_spaces run_of type_at
   indirect_right v w e ts small x all =
       let args = further (plain_texts sc ts) in
@@ -424,8 +424,8 @@ module _ (sc : Scope) where
 
   pub other_right : (v : Option ℕ) (w index : ℕ) (ts : List Expr) → w < 17 → index < 2 ^ 64 → AllWritten sc ts
       → RightText sc v (s.Other v index ts)
-        (codes "OTHER" ++ (decimal w ++ (codes "(0x"
-        ++ (hex index ++ (further (plain_texts sc ts) ++ codes ");\n")))))
+      (codes "OTHER" ++ (decimal w ++ (codes "(0x"
+      ++ (hex index ++ (further (plain_texts sc ts) ++ codes ");\n")))))
   unfolding right_at division_at right_by other_call line_at plain_line_at loop_head after past_spaces run_of type_at
   other_right v w index ts small low all =
       let args = further (plain_texts sc ts) in
@@ -453,7 +453,7 @@ module _ (sc : Scope) where
       → w < 17
       → offset < 2 ^ 64
       → RightText sc (Some v) (s.Extra v offset)
-        (codes "EXTRAOUT" ++ (decimal w ++ (codes "(0x" ++ (hex offset ++ codes ");\n"))))
+      (codes "EXTRAOUT" ++ (decimal w ++ (codes "(0x" ++ (hex offset ++ codes ");\n"))))
   unfolding right_at division_at right_by extra_at line_at plain_line_at loop_head after past_spaces run_of type_at
   extra_right v w offset small low = record {
     word = R.Extra;
@@ -475,7 +475,7 @@ module _ (sc : Scope) where
 
   division_read : (v : ℕ) (op : StatementDivision) (a b : Expr) (rest : List ℕ) → Written sc a → Written sc b
       → divide_at sc (Some v) op ((form sc a).plain ++ 44 ∷ 32 ∷ ((form sc b).plain ++ 41 ∷ 59 ∷ 10 ∷ rest))
-        ≡ Some (s.Divide v op a b, rest)
+      ≡ Some (s.Divide v op a b, rest)
   unfolding divide_at after
   division_read v op a b rest x y =
       let one = x.plain 44 (32 ∷ ((form sc b).plain ++ 41 ∷ 59 ∷ 10 ∷ rest)) at_comma in
@@ -486,7 +486,7 @@ module _ (sc : Scope) where
       → Written sc a
       → Written sc b
       → RightText sc (Some v) (s.Divide v op a b)
-        (call_of_two (division_word op) (form sc a) (form sc b) ++ codes ";\n")
+      (call_of_two (division_word op) (form sc a) (form sc b) ++ codes ";\n")
   unfolding right_by
   divide_right v op a b x y =
       let i = is_division op in

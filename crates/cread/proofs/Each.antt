@@ -45,7 +45,7 @@ label_line sc k n loop small =
     worded sc (suc n) loop (s.Label k) (codes "L" ++ (decimal k ++ codes ":\n"))
     (λ rest.
     let grouped : (decimal k ++ codes ":\n") ++ rest ≡ decimal k ++ 58 ∷ 10 ∷ rest =
-        append_assoc (decimal k) (codes ":\n") rest in
+    append_assoc (decimal k) (codes ":\n") rest in
     let d = decimal_again k 58 (10 ∷ rest) (omega arith) refl in
     let same : k % 2 ^ 32 ≡ k = omega arith in
     rw (grouped, d, same) refl)
@@ -59,7 +59,7 @@ goto_line sc k n loop small =
     worded sc (suc n) loop (s.Goto k) (codes "goto L" ++ (decimal k ++ codes ";\n"))
     (λ rest.
     let grouped : (decimal k ++ codes ";\n") ++ rest ≡ decimal k ++ 59 ∷ 10 ∷ rest =
-        append_assoc (decimal k) (codes ";\n") rest in
+    append_assoc (decimal k) (codes ";\n") rest in
     let d = decimal_again k 59 (10 ∷ rest) (omega arith) refl in
     let same : k % 2 ^ 32 ≡ k = omega arith in
     rw (grouped, d, same) refl)
@@ -78,7 +78,7 @@ give_line sc e n loop w =
     worded sc (suc n) loop (s.Return (Some e)) (codes "return " ++ ((form sc e).plain ++ codes ";\n"))
     (λ rest.
     let grouped : ((form sc e).plain ++ codes ";\n") ++ rest ≡ (form sc e).plain ++ (codes ";\n" ++ rest) =
-        append_assoc (form sc e).plain (codes ";\n") rest in
+    append_assoc (form sc e).plain (codes ";\n") rest in
     let v = value_again sc e (form sc e).plain rest w.plain in
     rw (grouped, v) refl)
     (λ z. record { no_space = refl; not_case = refl; not_local = refl }) (λ z. refl) (omega arith)
@@ -102,13 +102,13 @@ assigned_again : (sc : Scope) (v : ℕ) (e : Expr) (b : Bool) (rest : List ℕ)
     → Written sc e
     → (variable sc v).signed ≡ b
     → target_at sc ((variable sc v).name
-      ++ (codes " = " ++ ((assigned (variable sc v) (form sc e) ++ codes ";\n") ++ rest))) ≡ Some (s.Assign v e, rest)
+    ++ (codes " = " ++ ((assigned (variable sc v) (form sc e) ++ codes ";\n") ++ rest))) ≡ Some (s.Assign v e, rest)
 unfolding target_at after
 assigned_again sc v e true rest named w flag =
     let text = (form sc e).signed in
     let one = named.again 32 (61 ∷ 32 ∷ ((text ++ codes ";\n") ++ rest)) space in
     let grouped : (text ++ codes ";\n") ++ rest ≡ text ++ (codes ";\n" ++ rest) =
-        append_assoc text (codes ";\n") rest in
+    append_assoc text (codes ";\n") rest in
     let gap = (w.signed_head (codes ";\n" ++ rest)).not_right in
     let two = value_again sc e text rest w.signed in
     rw (flag, one, grouped, gap, two) refl
@@ -116,7 +116,7 @@ assigned_again sc v e false rest named w flag =
     let text = (form sc e).plain in
     let one = named.again 32 (61 ∷ 32 ∷ ((text ++ codes ";\n") ++ rest)) space in
     let grouped : (text ++ codes ";\n") ++ rest ≡ text ++ (codes ";\n" ++ rest) =
-        append_assoc text (codes ";\n") rest in
+    append_assoc text (codes ";\n") rest in
     let gap = (w.plain_head (codes ";\n" ++ rest)).not_right in
     let two = value_again sc e text rest w.plain in
     rw (flag, one, grouped, gap, two) refl
@@ -156,14 +156,14 @@ inside_rule f labels l = map-Stmt Stmt Arm Rule Cased (rule_of f labels) (cased_
 kind : (f : CFunction) (labels : ℕ) (t : Stmt) (l : Stmt-F Stmt Arm)
     → roll-Stmt l ≡ t
     → ((after_call in_loop : Bool) (room : ℕ) (d : List ℕ)
-      → AllSpaces d
-      → (rule_step f labels (inside_rule f labels l)).holds after_call in_loop room ≡ true
-      → LineAt (scope_of f) (suc room) in_loop t ((lines_step (scope_of f) (inside_text f l)).text d))
+    → AllSpaces d
+    → (rule_step f labels (inside_rule f labels l)).holds after_call in_loop room ≡ true
+    → LineAt (scope_of f) (suc room) in_loop t ((lines_step (scope_of f) (inside_text f l)).text d))
     → LineOk f labels t
 kind f labels t l is case after_call in_loop room d sd h =
     subst (λ (x : Lines). LineAt (scope_of f) (suc room) in_loop t (x.text d)) (sym (lines_roll (scope_of f) l t is))
     (case after_call in_loop room d sd
-      (ap (λ (x : Rule). x.holds after_call in_loop room) (sym (rule_roll f labels l t is)) ∙ h))
+    (ap (λ (x : Rule). x.holds after_call in_loop room) (sym (rule_roll f labels l t is)) ∙ h))
 
 -- a load
 targeted : (sc : Scope) (n : ℕ) (loop : Bool) (v : ℕ) (t : Stmt) (text : List ℕ)
@@ -198,7 +198,7 @@ break_case f labels =
     let sc = scope_of f in
     kind f labels s.Break Stmt-F.Break s.rolls-Break
     (λ after_call in_loop room d sd h.
-        subst (λ (b : Bool). LineAt sc (suc room) b s.Break (codes "break;\n")) (sym h) (break_line_at sc room))
+    subst (λ (b : Bool). LineAt sc (suc room) b s.Break (codes "break;\n")) (sym h) (break_line_at sc room))
 
 label_case : (f : CFunction) (labels : ℕ) (n : ℕ) → LineOk f labels (s.Label n)
 label_case f labels n =
@@ -236,7 +236,7 @@ module _ (f : CFunction) (labels : ℕ) (k : Setting f labels) where
       (λ after_call in_loop room d sd h.
       let both = and_parts (is_variable ws v) (has_width (ws v) (shape_of ws e)) h in
       assign_line sc v e room in_loop (variable_is_named sc ws v k.context both.0)
-          (written_width sc ws k.context (ws v) e both.1))
+      (written_width sc ws k.context (ws v) e both.1))
 
   load_case : (v : ℕ) (name : Option (List ℕ)) (a : Expr) → LineOk f labels (s.Load v name a)
   load_case v name a =
@@ -259,7 +259,7 @@ module _ (f : CFunction) (labels : ℕ) (k : Setting f labels) where
       let two = and_parts (is_right (shape_of ws a)) (is_right (shape_of ws e)) three.1 in
       let y = written_right sc ws k.context e two.1 in
       alone_line sc room in_loop (s.Store name a e) _
-          (store_right sc name (form sc e).width a e y.width three.0 (written_right sc ws k.context a two.0) y))
+      (store_right sc name (form sc e).width a e y.width three.0 (written_right sc ws k.context a two.0) y))
 
   -- a call of a declared callee
   called : (v : Option ℕ) (address : ℕ) (es : List Expr) (o : Option CalleeDecl) (room : ℕ) (loop : Bool)
@@ -272,7 +272,7 @@ module _ (f : CFunction) (labels : ℕ) (k : Setting f labels) where
       let ws = widths_in f in
       let both = and_parts (have_widths ws es c.args) (takes ws v c.gives) h in
       right_line sc room loop v (s.Call v address es) _ (taken sc ws k.context v c.gives both.1)
-          (call_right sc v address c es k.callees at (all_wide sc ws k.context es c.args both.0))
+      (call_right sc v address c es k.callees at (all_wide sc ws k.context es c.args both.0))
 
   call_case : (v : Option ℕ) (address : ℕ) (es : List Expr) → LineOk f labels (s.Call v address es)
   call_case v address es =
@@ -281,7 +281,7 @@ module _ (f : CFunction) (labels : ℕ) (k : Setting f labels) where
       kind f labels (s.Call v address es) (Stmt-F.Call v address es) (s.rolls-Call v address es)
       (λ after_call in_loop room d sd h.
       called v address es (callee_at f.callees address) room in_loop refl
-          (ap (is_call ws v es) (sym (declared_is f.callees address)) ∙ h))
+      (ap (is_call ws v es) (sym (declared_is f.callees address)) ∙ h))
 
   call_ind_case : (v : Option ℕ) (e : Expr) (es : List Expr) → LineOk f labels (s.CallInd v e es)
   call_ind_case v e es =
@@ -293,7 +293,7 @@ module _ (f : CFunction) (labels : ℕ) (k : Setting f labels) where
       let two = and_parts (is_right (shape_of ws e)) (are_right ws es) three.1 in
       right_line sc room in_loop v (s.CallInd v e es) _ (target_named sc ws v k.context three.0)
       (indirect_right sc v (target_width sc v) e es (target_fits sc ws k.context v)
-          (written_right sc ws k.context e two.0) (all_right sc ws k.context es two.1)))
+      (written_right sc ws k.context e two.0) (all_right sc ws k.context es two.1)))
 
   other_case : (v : Option ℕ) (index : ℕ) (es : List Expr) → LineOk f labels (s.Other v index es)
   other_case v index es =
@@ -305,7 +305,7 @@ module _ (f : CFunction) (labels : ℕ) (k : Setting f labels) where
       let two = and_parts (is_long index) (are_right ws es) three.1 in
       right_line sc room in_loop v (s.Other v index es) _ (target_named sc ws v k.context three.0)
       (other_right sc v (target_width sc v) index es (target_fits sc ws k.context v) (ltb-true _ _ two.0)
-          (all_right sc ws k.context es two.1)))
+      (all_right sc ws k.context es two.1)))
 
   extra_case : (v offset : ℕ) → LineOk f labels (s.Extra v offset)
   extra_case v offset =
@@ -328,7 +328,7 @@ module _ (f : CFunction) (labels : ℕ) (k : Setting f labels) where
       let left = and_parts (is_variable ws v) (has_width (ws v) (shape_of ws a)) two.0 in
       right_line sc room in_loop (Some v) (s.Divide v op a b) _ (variable_is_named sc ws v k.context left.0)
       (divide_right sc v op a b (written_width sc ws k.context (ws v) a left.1)
-          (written_width sc ws k.context (ws v) b two.1)))
+      (written_width sc ws k.context (ws v) b two.1)))
 
   -- ---- statements with bodies
 
@@ -352,7 +352,7 @@ module _ (f : CFunction) (labels : ℕ) (k : Setting f labels) where
       kind f labels (s.IfElse e xs ys) (Stmt-F.IfElse e xs ys) (s.rolls-IfElse e xs ys)
       (λ after_call in_loop room d sd h.
       let three = and_parts (is_condition (shape_of ws e))
-          (all_hold false (map r xs) in_loop room && all_hold false (map r ys) in_loop room) h in
+      (all_hold false (map r xs) in_loop room && all_hold false (map r ys) in_loop room) h in
       let two = and_parts (all_hold false (map r xs) in_loop room) (all_hold false (map r ys) in_loop room) three.1 in
       else_line f labels e xs ys (written_test sc ws k.context e three.0) all also in_loop room d sd two.0 two.1)
 
@@ -382,8 +382,8 @@ module _ (f : CFunction) (labels : ℕ) (k : Setting f labels) where
       → are_cases_of (all_cases (map (cased_of f labels) arms)) o ≡ true
       → arms_hold (map (cased_of f labels) arms) room ≡ true
       → LineAt (scope_of f) (suc room) loop (s.Switch e arms)
-        (codes "switch (" ++ ((form (scope_of f) e).plain
-        ++ (codes ") {\n" ++ (all_arms (map (arm_text (scope_of f)) arms) d ++ (d ++ codes "}\n")))))
+      (codes "switch (" ++ ((form (scope_of f) e).plain
+      ++ (codes ") {\n" ++ (all_arms (map (arm_text (scope_of f)) arms) d ++ (d ++ codes "}\n")))))
   switched e arms None all loop room d sd is h g = absurd cc
   switched e arms (Some o) all loop room d sd is h g =
       let sc = scope_of f in
@@ -401,7 +401,7 @@ module _ (f : CFunction) (labels : ℕ) (k : Setting f labels) where
       kind f labels (s.Switch e arms) (Stmt-F.Switch e arms) (s.rolls-Switch e arms)
       (λ after_call in_loop room d sd h.
       let both = and_parts (are_cases_of (all_cases (map (cased_of f labels) arms)) (shape_of ws e))
-          (arms_hold (map (cased_of f labels) arms) room) h in
+      (arms_hold (map (cased_of f labels) arms) room) h in
       switched e arms (shape_of ws e) all in_loop room d sd refl both.0 both.1)
 
   -- ---- the others
@@ -473,9 +473,9 @@ module _ (f : CFunction) (labels : ℕ) (k : Setting f labels) where
   pub line_ok : (t : Stmt) → LineOk f labels t
   line_ok t = ind-Stmt (LineOk f labels) (ArmOk f labels)
       (λ l y is. subst (λ (z : Stmt-F Stmt Arm). LineOk f labels (roll-Stmt z)) is
-          (layer_ok (λ p. p.0) (λ p. p.0) (λ p. p.1) (λ p. p.1) y))
+      (layer_ok (λ p. p.0) (λ p. p.0) (λ p. p.1) (λ p. p.1) y))
       (λ l y is. subst (λ (z : Arm-F Stmt Arm). ArmOk f labels (roll-Arm z)) is
-          (arm_ok f labels (λ p. p.0) (λ p. p.0) (λ p. p.1) y)) t
+      (arm_ok f labels (λ p. p.0) (λ p. p.0) (λ p. p.1) y)) t
 
   pub lines_ok : (xs : List Stmt) → AllOk f labels xs
   lines_ok [] = tt

@@ -57,8 +57,12 @@ deep_at : (b : Bool) (w d : ℕ) (c : Bool) (s : Shape)
     → Deep true w d s
 deep_at true w d c s low h =
     let k = some_shape (made w d c) s h in
-    record { holds = refl; low = ltb-true _ _ low; width = ap (λ (x : Shape). x.width) (sym k);
-        depth = ap (λ (x : Shape). x.depth) (sym k) }
+    record {
+      holds = refl;
+      low = ltb-true _ _ low;
+      width = ap (λ (x : Shape). x.width) (sym k);
+      depth = ap (λ (x : Shape). x.depth) (sym k);
+    }
 deep_at false w d c s low h = absurd cc
 
 deep_is : (right : Bool) (w d : ℕ) (c : Bool) (s : Shape) → above right w d c ≡ Some s → Deep right w d s
@@ -93,8 +97,13 @@ pub two_is : (right : Shape → Shape → Bool) (w : ℕ → ℕ → ℕ) (c : B
 two_is right w c None b s h = absurd cc
 two_is right w c (Some a) None s h = absurd cc
 two_is right w c (Some a) (Some b) s h =
-    record { first = a; second = b; a_is = refl; b_is = refl;
-    deep = deep_is (right a b) (w a.width b.width) (max a.depth b.depth) c s h }
+    record {
+      first = a;
+      second = b;
+      a_is = refl;
+      b_is = refl;
+      deep = deep_is (right a b) (w a.width b.width) (max a.depth b.depth) c s h;
+    }
 
 -- ---- casts
 
@@ -185,12 +194,12 @@ pub joined_read : (sc : Scope) (n : ℕ) (x y : Item) (a b mark : List ℕ) (s :
 joined_read sc n x y a b mark s c rest sign head first second =
     let grouped : (a ++ (mark ++ b)) ++ c ∷ rest ≡ a ++ (mark ++ (b ++ c ∷ rest)) = simp append_assoc in
     let begins : mark ++ (b ++ c ∷ rest) ≡ 32 ∷ (sign.tail ++ (b ++ c ∷ rest)) =
-        ap (λ (m : List ℕ). m ++ (b ++ c ∷ rest)) sign.is in
+    ap (λ (m : List ℕ). m ++ (b ++ c ∷ rest)) sign.is in
     let read : operand_at sc n (a ++ (mark ++ (b ++ c ∷ rest))) ≡ Some (x, mark ++ (b ++ c ∷ rest)) =
-        rw begins (first (sign.tail ++ (b ++ c ∷ rest))) in
+    rw begins (first (sign.tail ++ (b ++ c ∷ rest))) in
     ap (inner_by (operand_at sc n)) grouped
-        ∙ two_of (operand_at sc n) (a ++ (mark ++ (b ++ c ∷ rest))) x (mark ++ (b ++ c ∷ rest)) s (b ++ c ∷ rest) y
-        (c ∷ rest) (head (mark ++ (b ++ c ∷ rest))) read (sign.read (b ++ c ∷ rest)) second
+    ∙ two_of (operand_at sc n) (a ++ (mark ++ (b ++ c ∷ rest))) x (mark ++ (b ++ c ∷ rest)) s (b ++ c ∷ rest) y
+    (c ∷ rest) (head (mark ++ (b ++ c ∷ rest))) read (sign.read (b ++ c ∷ rest)) second
 
 pub joined_head : (a b : List ℕ) → AllHeaded a → AllBegun (a ++ b)
 joined_head a b head z = let grouped = append_assoc a b z in rw grouped (head (b ++ z)).begun
@@ -315,11 +324,11 @@ unfolding operand_at operand_by atom_by pair_at count_at count_by after
 count_read sc op a w d f x zero c rest le = absurd (omega arith)
 count_read sc N.Popcount a w d f x (suc n) c rest le =
     let grouped : (f.plain ++ 41 ∷ []) ++ c ∷ rest ≡ f.plain ++ 41 ∷ c ∷ rest =
-        append_assoc f.plain (41 ∷ []) (c ∷ rest) in
+    append_assoc f.plain (41 ∷ []) (c ∷ rest) in
     let inside = x.plain n 41 (c ∷ rest) (omega arith) at_close in
     rw (grouped, inside) refl
 count_read sc N.Lzcount a w d f x (suc n) c rest le =
     let grouped : (f.plain ++ 41 ∷ []) ++ c ∷ rest ≡ f.plain ++ 41 ∷ c ∷ rest =
-        append_assoc f.plain (41 ∷ []) (c ∷ rest) in
+    append_assoc f.plain (41 ∷ []) (c ∷ rest) in
     let inside = x.plain n 41 (c ∷ rest) (omega arith) at_close in
     rw (grouped, inside) refl

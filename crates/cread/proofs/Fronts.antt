@@ -70,7 +70,7 @@ run_more p n bs total lt h so_far =
     let one = run_step p (drop n bs) here (omega (arith, length-drop n bs)) in
     let rest : drop 1 (drop n bs) ≡ drop (n + 1) bs = drop-drop 1 n bs ∙ ap (λ (k : ℕ). drop k bs) (omega arith) in
     let next : run_of p (drop n bs) ≡ suc (run_of p (drop (n + 1) bs)) =
-        one ∙ ap (λ (r : List ℕ). suc (run_of p r)) rest in
+    one ∙ ap (λ (r : List ℕ). suc (run_of p r)) rest in
     omega arith
 
 pub run_done : (p : ℕ → Bool) (n : ℕ) (bs : List ℕ) (total : ℕ)
@@ -124,7 +124,7 @@ unfolding hex_at
 hex_again n c rest small stop =
     let is = digits_is_IsNumeral 16 false (lit≤ tt) (lit≤ tt) n (omega arith) in
     number_again 16 0 (digits 16 false n) c rest (lit< tt) is.0.1 stop (rw is.1 small)
-        ∙ ap (λ (m : ℕ). (m, c ∷ rest)) is.1
+    ∙ ap (λ (m : ℕ). (m, c ∷ rest)) is.1
 
 pub decimal_again : (n c : ℕ) (rest : List ℕ)
     → n < 2 ^ 64
@@ -134,7 +134,7 @@ unfolding decimal_at
 decimal_again n c rest small stop =
     let is = decimal_is_IsNumeral n small in
     number_again 10 0 (decimal n) c rest (lit< tt) is.0.1 stop (rw is.1 (omega arith))
-        ∙ ap (λ (m : ℕ). (m, c ∷ rest)) is.1
+    ∙ ap (λ (m : ℕ). (m, c ∷ rest)) is.1
 
 not_among : (x : ℕ) (ds : List ℕ) (c : ℕ) (rest : List ℕ)
     → is_digit x 16 ≡ false
@@ -196,7 +196,7 @@ number_more radix n i d r f bs total lt is_d below is_r is_f so_far =
     let step = number_step radix n (drop i bs) test (omega (arith, length-drop i bs)) in
     let rest : drop 1 (drop i bs) ≡ drop (i + 1) bs = drop-drop 1 i bs ∙ ap (λ (k : ℕ). drop k bs) (omega arith) in
     let value : (n * r % 2 ^ 128 + f) % 2 ^ 128 ≡ (n * radix + digit_value (get_or (drop i bs) 0 0)) % 2 ^ 128 =
-        mod_in (n * r) f ∙ ap (λ (k : ℕ). k % 2 ^ 128) (rw (is_r, is_f, is_d, first) refl) in
+    mod_in (n * r) f ∙ ap (λ (k : ℕ). k % 2 ^ 128) (rw (is_r, is_f, is_d, first) refl) in
     rw (value, ← rest) (sym step ∙ so_far)
 
 pub number_done : (radix n i d : ℕ) (bs : List ℕ) (total : ℕ × List ℕ)
@@ -236,9 +236,9 @@ name_again (b ∷ bs) c rest all stop =
     let more = name_again bs c rest both.1 stop in
     let here = both.0 in
     let front : take (run_of is_letter_or_digit (bs ++ c ∷ rest)) (bs ++ c ∷ rest) ≡ bs =
-        ap (λ (x : List ℕ × List ℕ). x.0) more in
+    ap (λ (x : List ℕ × List ℕ). x.0) more in
     let behind : drop (run_of is_letter_or_digit (bs ++ c ∷ rest)) (bs ++ c ∷ rest) ≡ c ∷ rest =
-        ap (λ (x : List ℕ × List ℕ). x.1) more in
+    ap (λ (x : List ℕ × List ℕ). x.1) more in
     rw here (rw (front, behind) refl)
 
 pub no_spaces : (b : ℕ) (bs : List ℕ) → eqb b 32 ≡ false → past_spaces (b ∷ bs) ≡ b ∷ bs

@@ -41,7 +41,7 @@ typed : (w : Width) (c : ℕ) (rest : List ℕ)
 typed w c rest stop =
     let most = w.to in
     type_again false w.bytes c rest (omega arith) (type_stop stop)
-        ∙ ap (λ (v : Width). Some (record { width = v; signed = false }, c ∷ rest)) (width_again w)
+    ∙ ap (λ (v : Width). Some (record { width = v; signed = false }, c ∷ rest)) (width_again w)
 
 result_again : (gives : Option Width) (rest : List ℕ)
     → result_at (result_type gives ++ 32 ∷ rest) ≡ Some (gives, 32 ∷ rest)
@@ -65,7 +65,7 @@ marked_again : (returns : Bool) (gives : Option Width) (name : CName) (address :
     → is_callee_name name ≡ true
     → address < 2 ^ 128
     → marked_by returns (result_type gives ++ 32 ∷ (callee_name name address ++ 40 ∷ rest))
-      ≡ Some (record { returns = returns; gives = gives; name = name }, rest)
+    ≡ Some (record { returns = returns; gives = gives; name = name }, rest)
 unfolding after
 marked_again returns gives name address rest good low =
     let one = result_again gives (callee_name name address ++ 40 ∷ rest) in
@@ -81,7 +81,7 @@ pub head_again : (returns : Bool) (gives : Option Width) (name : CName) (address
     → is_callee_name name ≡ true
     → address < 2 ^ 128
     → head_at (returns_mark returns ++ (result_type gives ++ 32 ∷ (callee_name name address ++ 40 ∷ rest)))
-      ≡ Some (record { returns = returns; gives = gives; name = name }, rest)
+    ≡ Some (record { returns = returns; gives = gives; name = name }, rest)
 unfolding head_at after no_return_mark
 head_again true gives name address rest good low =
     let gap = no_mark gives (32 ∷ (callee_name name address ++ 40 ∷ rest)) in
@@ -115,10 +115,10 @@ widths_again [] rest = refl
 widths_again (w ∷ ws) rest =
     let others = further (map width_text ws) in
     let grouped : (unsigned_type w.bytes ++ others) ++ 41 ∷ rest ≡ unsigned_type w.bytes ++ (others ++ 41 ∷ rest) =
-        append_assoc (unsigned_type w.bytes) others (41 ∷ rest) in
+    append_assoc (unsigned_type w.bytes) others (41 ∷ rest) in
     let one = comma_first width_at width_text w ws rest (λ c z end. width_again_at w c z tt end) in
     let more = comma_again width_at further_width width_text (λ w. Unit {0}) next_width width_again_at ws rest
-        (any_widths ws) in
+    (any_widths ws) in
     rw (grouped, one, more) refl
 
 -- ---- one callee
@@ -134,8 +134,8 @@ callee_again c rest ok =
     let args = separated_or_void (width_types c.args) in
     let last = args ++ 41 ∷ (codes "; // 0x" ++ (hex c.address ++ 10 ∷ rest)) in
     let grouped : callee_line c ++ rest
-        ≡ returns_mark c.returns ++ (result_type c.gives ++ 32 ∷ (callee_name c.name c.address ++ 40 ∷ last)) =
-        simp append_assoc in
+    ≡ returns_mark c.returns ++ (result_type c.gives ++ 32 ∷ (callee_name c.name c.address ++ 40 ∷ last)) =
+    simp append_assoc in
     let one = head_again c.returns c.gives c.name c.address last name (omega arith) in
     let two = widths_again c.args (codes "; // 0x" ++ (hex c.address ++ 10 ∷ rest)) in
     let three = hex_again c.address 10 rest (omega arith) refl in
@@ -155,7 +155,7 @@ callees_row (c ∷ cs) (suc k) rest ok ends le =
     let three = and_parts (is_callee c) (is_apart_from c cs && are_callees cs) ok in
     let two = and_parts (is_apart_from c cs) (are_callees cs) three.1 in
     let grouped : (callee_line c ++ callee_lines cs) ++ rest ≡ callee_line c ++ (callee_lines cs ++ rest) =
-        append_assoc (callee_line c) (callee_lines cs) rest in
+    append_assoc (callee_line c) (callee_lines cs) rest in
     let one = callee_again c (callee_lines cs ++ rest) three.0 in
     let more = callees_row cs k rest two.1 ends (omega arith) in
     rw (grouped, one, more) refl
@@ -166,8 +166,14 @@ callees_long (c ∷ cs) z =
     let more = callees_long cs z in
     let args = separated_or_void (width_types c.args) in
     let tail = codes "(" ++ (args ++ address_text c.address) in
-    omega (arith, more, length-append (callee_lines cs) z, length-append (callee_line c ++ callee_lines cs) z,
-        length-append (callee_line c) (callee_lines cs), length-append (callee_head c) tail)
+    omega (
+      arith,
+      more,
+      length-append (callee_lines cs) z,
+      length-append (callee_line c ++ callee_lines cs) z,
+      length-append (callee_line c) (callee_lines cs),
+      length-append (callee_head c) tail,
+    )
 
 pub callees_again : (cs : List CalleeDecl) (rest : List ℕ)
     → are_callees cs ≡ true
@@ -185,7 +191,7 @@ unfolding param_at after
 param_read p c rest fits end =
     let most = p.width.to in
     let grouped : (type_text p.signed p.width.bytes ++ (codes " " ++ param_name p)) ++ c ∷ rest
-        ≡ type_text p.signed p.width.bytes ++ 32 ∷ (param_name p ++ c ∷ rest) = simp append_assoc in
+    ≡ type_text p.signed p.width.bytes ++ 32 ∷ (param_name p ++ c ∷ rest) = simp append_assoc in
     let t = type_again p.signed p.width.bytes 32 (param_name p ++ c ∷ rest) (omega arith) refl in
     let e = entry_again p c rest fits (stop_of end) in
     let w = width_again p.width in
@@ -222,13 +228,13 @@ params_again (p ∷ ps) rest ok =
     let all = all_stored (p ∷ ps) ok in
     let others = further (map param_text ps) in
     let grouped : (param_text p ++ others) ++ 41 ∷ rest ≡ param_text p ++ (others ++ 41 ∷ rest) =
-        append_assoc (param_text p) others (41 ∷ rest) in
+    append_assoc (param_text p) others (41 ∷ rest) in
     let begins : param_text p ++ (others ++ 41 ∷ rest)
-        ≡ type_text p.signed p.width.bytes ++ (codes " " ++ (param_name p ++ (others ++ 41 ∷ rest))) =
-        simp append_assoc in
+    ≡ type_text p.signed p.width.bytes ++ (codes " " ++ (param_name p ++ (others ++ 41 ∷ rest))) =
+    simp append_assoc in
     let gap : after (codes "void") (param_text p ++ (others ++ 41 ∷ rest)) ≡ None =
-        ap (after (codes "void")) begins
-        ∙ type_not_void p.signed p.width.bytes (codes " " ++ (param_name p ++ (others ++ 41 ∷ rest))) in
+    ap (after (codes "void")) begins
+    ∙ type_not_void p.signed p.width.bytes (codes " " ++ (param_name p ++ (others ++ 41 ∷ rest))) in
     let one = comma_first param_at param_text p ps rest (λ c z end. param_read p c z all.0 end) in
     let more = comma_again param_at further_param param_text Stored next_param param_read ps rest all.1 in
     rw (grouped, gap, one, more) refl
@@ -250,14 +256,14 @@ unfolding after
 first_no_width p others rest =
     let more = param_name p ++ (others ++ rest) in
     let grouped : (param_text p ++ others) ++ rest ≡ type_text p.signed p.width.bytes ++ 32 ∷ more =
-        simp append_assoc in
+    simp append_assoc in
     let one = one_width p.signed p.width more in
     rw (grouped, one) refl
 
 -- the function's line is no callee's
 pub params_no_widths : (ps : List Param) (rest : List ℕ)
     → (widths_at (separated_or_void (map param_text ps) ++ 41 ∷ 10 ∷ rest) >>= λ ws. after (codes "); // 0x") ws.1)
-      ≡ None
+    ≡ None
 unfolding widths_at width_at after
 params_no_widths [] rest = refl
 params_no_widths (p ∷ ps) rest = first_no_width p (further (map param_text ps)) (41 ∷ 10 ∷ rest)
@@ -305,7 +311,7 @@ passed n c rest stop = past_digits (decimal n) 0 c rest (all_digits n) stop
 -- the line of a local
 local_read : (n : ℕ) (l : Local) (rest : List ℕ)
     → local_at (codes "  " ++ (type_text l.signed l.width.bytes
-      ++ (codes " " ++ (local_name (n + 1) ++ (codes ";\n" ++ rest))))) ≡ Some (l, rest)
+    ++ (codes " " ++ (local_name (n + 1) ++ (codes ";\n" ++ rest))))) ≡ Some (l, rest)
 unfolding local_at after
 local_read n l rest =
     let most = l.width.to in
@@ -325,8 +331,8 @@ locals_row (l ∷ ls) n zero rest ends le = absurd (omega arith)
 locals_row (l ∷ ls) n (suc k) rest ends le =
     let others = local_lines (n + 1) ls in
     let grouped : local_lines n (l ∷ ls) ++ rest
-        ≡ codes "  " ++ (type_text l.signed l.width.bytes
-        ++ (codes " " ++ (local_name (n + 1) ++ (codes ";\n" ++ (others ++ rest))))) = simp append_assoc in
+    ≡ codes "  " ++ (type_text l.signed l.width.bytes
+    ++ (codes " " ++ (local_name (n + 1) ++ (codes ";\n" ++ (others ++ rest))))) = simp append_assoc in
     let one = local_read n l (others ++ rest) in
     let more = locals_row ls (n + 1) k rest ends (omega arith) in
     rw (grouped, one, more) refl
@@ -338,8 +344,15 @@ locals_long (l ∷ ls) n z =
     let others = local_lines (n + 1) ls in
     let type = type_text l.signed l.width.bytes in
     let name = local_name (n + 1) ++ (codes ";\n" ++ others) in
-    omega (arith, more, length-append others z, length-append (local_lines n (l ∷ ls)) z, length-append type
-        (codes " " ++ name), length-append (local_name (n + 1)) (codes ";\n" ++ others))
+    omega (
+      arith,
+      more,
+      length-append others z,
+      length-append (local_lines n (l ∷ ls)) z,
+      length-append type
+          (codes " " ++ name),
+      length-append (local_name (n + 1)) (codes ";\n" ++ others),
+    )
 
 pub locals_again : (ls : List Local) (rest : List ℕ)
     → local_at rest ≡ None

@@ -104,7 +104,7 @@ body_low f labels g h (x ∷ xs) after_call in_loop room ok =
     let three = and_parts (ltb 0 room) (r.holds after_call in_loop (room - 1) && others) ok in
     let two = and_parts (r.holds after_call in_loop (room - 1)) others three.1 in
     low_append (in_stmt (g x)) (in_body (map g xs)) (h x after_call in_loop (room - 1) two.0)
-        (body_low f labels g h xs r.calls in_loop room two.1)
+    (body_low f labels g h xs r.calls in_loop room two.1)
 
 arms_low : (f : CFunction) (labels : ℕ) {B : Type 0} (o : B → Arm)
     → ((b : B) → ArmLow f labels (o b))
@@ -115,8 +115,8 @@ arms_low f labels o q [] room ok = tt
 arms_low f labels o q (a ∷ arms) room ok =
     let r = arms_right f labels (o a) (map o arms) room ok in
     low_append (in_arm (o a)) (in_arms (map o arms))
-        (subst AllLow (sym (in_arm_body (o a))) (q a false false room r.body))
-        (arms_low f labels o q arms room r.others)
+    (subst AllLow (sym (in_arm_body (o a))) (q a false false room r.body))
+    (arms_low f labels o q arms room r.others)
 
 abbrev Holding : CFunction → ℕ → Stmt-F Rule Cased → Bool → Bool → ℕ → Type 0
 Holding f labels l after_call in_loop room = (rule_step f labels l).holds after_call in_loop room ≡ true
@@ -126,9 +126,9 @@ stmt_layer : (f : CFunction) (labels : ℕ) {A B : Type 0} (g : A → Stmt) (o :
     → ((b : B) → ArmLow f labels (o b))
     → (l : Stmt-F A B) (after_call in_loop : Bool) (room : ℕ)
     → Holding f labels (map-Stmt Stmt Arm Rule Cased (rule_of f labels) (cased_of f labels)
-      (map-Stmt A B Stmt Arm g o l)) after_call in_loop room
+    (map-Stmt A B Stmt Arm g o l)) after_call in_loop room
     → AllLow (stmt_step (map-Stmt Stmt Arm (List Mention) (List Mention) in_stmt in_arm
-      (map-Stmt A B Stmt Arm g o l)))
+    (map-Stmt A B Stmt Arm g o l)))
 stmt_layer f labels g o h q (Stmt-F.Assign v e) after_call in_loop room ok = (tt, low_expr e)
 stmt_layer f labels g o h q (Stmt-F.Load v space a) after_call in_loop room ok = (tt, low_expr a)
 stmt_layer f labels g o h q (Stmt-F.Store space a e) after_call in_loop room ok =
@@ -145,7 +145,7 @@ stmt_layer f labels g o h q (Stmt-F.Divide v op a b) after_call in_loop room ok 
     (tt, low_append (in_expr a) (in_expr b) (low_expr a) (low_expr b))
 stmt_layer f labels g o h q (Stmt-F.If c xs) after_call in_loop room ok =
     let both = and_parts (is_condition (shape_of (widths_in f) c))
-        (all_hold false (map (rule_of f labels) (map g xs)) in_loop room) ok in
+    (all_hold false (map (rule_of f labels) (map g xs)) in_loop room) ok in
     low_append (in_expr c) (in_body (map g xs)) (low_expr c) (body_low f labels g h xs false in_loop room both.1)
 stmt_layer f labels g o h q (Stmt-F.IfElse c xs ys) after_call in_loop room ok =
     let one = all_hold false (map (rule_of f labels) (map g xs)) in_loop room in
@@ -153,15 +153,15 @@ stmt_layer f labels g o h q (Stmt-F.IfElse c xs ys) after_call in_loop room ok =
     let three = and_parts (is_condition (shape_of (widths_in f) c)) (one && two) ok in
     let both = and_parts one two three.1 in
     low_append (in_expr c) (in_body (map g xs) ++ in_body (map g ys)) (low_expr c)
-        (low_append (in_body (map g xs)) (in_body (map g ys)) (body_low f labels g h xs false in_loop room both.0)
-        (body_low f labels g h ys false in_loop room both.1))
+    (low_append (in_body (map g xs)) (in_body (map g ys)) (body_low f labels g h xs false in_loop room both.0)
+    (body_low f labels g h ys false in_loop room both.1))
 stmt_layer f labels g o h q (Stmt-F.While c xs) after_call in_loop room ok =
     let both = and_parts (is_condition (shape_of (widths_in f) c))
-        (all_hold false (map (rule_of f labels) (map g xs)) true room) ok in
+    (all_hold false (map (rule_of f labels) (map g xs)) true room) ok in
     low_append (in_expr c) (in_body (map g xs)) (low_expr c) (body_low f labels g h xs false true room both.1)
 stmt_layer f labels g o h q (Stmt-F.DoWhile xs c) after_call in_loop room ok =
     let both = and_parts (is_condition (shape_of (widths_in f) c))
-        (all_hold false (map (rule_of f labels) (map g xs)) true room) ok in
+    (all_hold false (map (rule_of f labels) (map g xs)) true room) ok in
     low_append (in_body (map g xs)) (in_expr c) (body_low f labels g h xs false true room both.1) (low_expr c)
 stmt_layer f labels g o h q (Stmt-F.Loop xs) after_call in_loop room ok = body_low f labels g h xs false true room ok
 stmt_layer f labels g o h q Stmt-F.Break after_call in_loop room ok = tt
@@ -183,8 +183,8 @@ stmt_rolled f labels {A} {B} g o h q l after_call in_loop room ok =
     let m = map-Stmt A B Stmt Arm g o l in
     subst AllLow (sym (fold-roll-Stmt (List Mention) (List Mention) stmt_step arm_step m))
     (stmt_layer f labels g o h q l after_call in_loop room
-        (ap (λ (r : Rule). r.holds after_call in_loop room)
-        (sym (fold-roll-Stmt Rule Cased (rule_step f labels) cased_step m)) ∙ ok))
+    (ap (λ (r : Rule). r.holds after_call in_loop room)
+    (sym (fold-roll-Stmt Rule Cased (rule_step f labels) cased_step m)) ∙ ok))
 
 arm_rolled : (f : CFunction) (labels : ℕ) {A B : Type 0} (g : A → Stmt) (o : B → Arm)
     → ((a : A) → StmtLow f labels (g a))
@@ -195,9 +195,9 @@ arm_rolled f labels g o h l = body_low f labels g h l.body
 low_stmt : (f : CFunction) (labels : ℕ) (t : Stmt) → StmtLow f labels t
 low_stmt f labels t = ind-Stmt (StmtLow f labels) (ArmLow f labels)
     (λ l y is. subst (λ (z : Stmt-F Stmt Arm). StmtLow f labels (roll-Stmt z)) is
-        (stmt_rolled f labels (λ p. p.0) (λ p. p.0) (λ p. p.1) (λ p. p.1) y))
+    (stmt_rolled f labels (λ p. p.0) (λ p. p.0) (λ p. p.1) (λ p. p.1) y))
     (λ l y is. subst (λ (z : Arm-F Stmt Arm). ArmLow f labels (roll-Arm z)) is
-        (arm_rolled f labels (λ p. p.0) (λ p. p.0) (λ p. p.1) y)) t
+    (arm_rolled f labels (λ p. p.0) (λ p. p.0) (λ p. p.1) y)) t
 
 pub low_body : (f : CFunction) (labels : ℕ) (xs : List Stmt) → BodyLow f labels xs
 low_body f labels xs = subst (BodyLow f labels) (map-id xs) (body_low f labels (λ x. x) (low_stmt f labels) xs)

@@ -38,6 +38,6 @@ addressed name (c ∷ cs) =
   where
     picked : (t : Bool)
         → option_map (λ d. d.address) (if t then Some c else first_of (has_name name) cs)
-          ≡ (if t then Some c.address else option_map (λ d. d.address) (first_of (has_name name) cs))
+        ≡ (if t then Some c.address else option_map (λ d. d.address) (first_of (has_name name) cs))
     picked true = refl
     picked false = refl

@@ -95,7 +95,7 @@ storage_again (Stack (negsuc k)) c rest fits stop =
 entry_flag : (m : Bool) (s : ParamStorage) (c : ℕ) (rest : List ℕ)
     → storage_at (storage_text s ++ c ∷ rest) ≡ Some (s, c ∷ rest)
     → entry_at ((cond m (codes "p_") (codes "in_") ++ storage_text s) ++ c ∷ rest)
-      ≡ Some (record { model = m; storage = s }, c ∷ rest)
+    ≡ Some (record { model = m; storage = s }, c ∷ rest)
 unfolding entry_at after
 entry_flag true s c rest read = rw read refl
 entry_flag false s c rest read = rw read refl
@@ -164,7 +164,7 @@ not_precede false p = not_before p
 not_follow : (x p : Param) → x.model ≡ p.model → x.storage ≡ p.storage → may_precede x p ≡ false
 not_follow x p flags same =
     let one : cond p.model (cond p.model (is_either_before p.storage p.storage) true)
-        (not p.model && is_before p.storage p.storage) ≡ false = not_precede p.model p.storage in
+    (not p.model && is_before p.storage p.storage) ≡ false = not_precede p.model p.storage in
     rw (flags, same) one
 
 apart : (x p : Param) → may_precede x p ≡ true → is_entry (entry_of p) x ≡ false
@@ -195,9 +195,9 @@ places (x ∷ xs) n zero p ok at =
     let three = and_parts (is_storage x.storage) (precedes_all x xs && are_params xs) ok in
     let same : x ≡ p = cc in
     let yes : is_entry (entry_of p) x ≡ true =
-        ap (λ (q : Param). is_entry (entry_of p) q) same
-        ∙ and_from (same_flag p.model p.model) (same_storage p.storage p.storage) (same_flags p.model)
-        (storage_same p.storage) in
+    ap (λ (q : Param). is_entry (entry_of p) q) same
+    ∙ and_from (same_flag p.model p.model) (same_storage p.storage p.storage) (same_flags p.model)
+    (storage_same p.storage) in
     (rw yes (ap (λ (k : ℕ). Some k) (omega arith)), ap (λ (q : Param). is_storage q.storage) (sym same) ∙ three.0)
 places (x ∷ xs) n (suc i) p ok at =
     let three = and_parts (is_storage x.storage) (precedes_all x xs && are_params xs) ok in

@@ -123,7 +123,7 @@ others_again sc [] (suc k) rest all le = refl
 others_again sc (t ∷ ts) zero rest all le = absurd (omega arith)
 others_again sc (t ∷ ts) (suc k) rest all le =
     let grouped : ((form sc t).plain ++ texts sc ts) ++ 41 ∷ rest ≡ (form sc t).plain ++ (texts sc ts ++ 41 ∷ rest) =
-        append_assoc (form sc t).plain (texts sc ts) (41 ∷ rest) in
+    append_assoc (form sc t).plain (texts sc ts) (41 ∷ rest) in
     let one = before_others sc t ts rest all.0 in
     let more = others_again sc ts k rest all.1 (omega arith) in
     rw (grouped, one, more) refl
@@ -132,8 +132,13 @@ others_long : (sc : Scope) (ts : List Expr) (z : List ℕ) → length ts ≤ len
 others_long sc [] z = omega arith
 others_long sc (t ∷ ts) z =
     let more = others_long sc ts z in
-    omega (arith, more, length-append (texts sc ts) z, length-append (44 ∷ 32 ∷ ((form sc t).plain ++ texts sc ts)) z,
-        length-append (form sc t).plain (texts sc ts))
+    omega (
+      arith,
+      more,
+      length-append (texts sc ts) z,
+      length-append (44 ∷ 32 ∷ ((form sc t).plain ++ texts sc ts)) z,
+      length-append (form sc t).plain (texts sc ts),
+    )
 
 pub further_again : (sc : Scope) (ts : List Expr) (rest : List ℕ)
     → AllWritten sc ts
@@ -148,7 +153,7 @@ unfolding args_at after
 args_again sc [] rest all = refl
 args_again sc (t ∷ ts) rest all =
     let grouped : ((form sc t).plain ++ texts sc ts) ++ 41 ∷ rest ≡ (form sc t).plain ++ (texts sc ts ++ 41 ∷ rest) =
-        append_assoc (form sc t).plain (texts sc ts) (41 ∷ rest) in
+    append_assoc (form sc t).plain (texts sc ts) (41 ∷ rest) in
     let head = (all.0.plain_head (texts sc ts ++ 41 ∷ rest)).not_close in
     let one = before_others sc t ts rest all.0 in
     let more = further_again sc ts rest all.1 in
@@ -229,7 +234,7 @@ unfolding statement_at statement_by effect_at
 target_read sc n v text rest read named is =
     let name = (variable sc v).name in
     let grouped : (name ++ (codes " = " ++ text)) ++ rest ≡ name ++ (codes " = " ++ (text ++ rest)) =
-        simp append_assoc in
+    simp append_assoc in
     let head = named.begins (codes " = " ++ (text ++ rest)) in
     let one = (name_plainly _ head).not_line in
     let two = (name_headed _ head).begun.not_right in
@@ -274,9 +279,9 @@ right_line sc n loop None t text named r = alone_line sc n loop t text r
 right_line sc n loop (Some v) t text named r =
     let name = (variable sc v).name in
     let grouped : (name ++ codes " = ") ++ text ≡ name ++ (codes " = " ++ text) =
-        append_assoc name (codes " = ") text in
+    append_assoc name (codes " = ") text in
     subst (λ (x : List ℕ). LineAt sc (suc n) loop t x) (sym grouped)
-        (target_line sc n v loop t text named (λ rest. behind_target sc v t text rest named r))
+    (target_line sc n v loop t text named (λ rest. behind_target sc v t text rest named r))
 
 pub target_named : (sc : Scope) (ws : ℕ → ℕ) (v : Option ℕ) → Context sc ws → is_target ws v ≡ true → IsNamed sc v
 target_named sc ws None ok h = tt

@@ -18,7 +18,7 @@ later e n (p ∷ ps) = by_test (is_entry e p) (later e (n + 1) ps)
 
     by_test : (t : Bool) → option_map (λ m. (n + 1) + m) (place (is_entry e) ps) ≡ place_of e (n + 1) ps
         → option_map (λ m. n + m) (if t then Some 0 else option_map suc (place (is_entry e) ps))
-          ≡ (if t then Some n else place_of e (n + 1) ps)
+        ≡ (if t then Some n else place_of e (n + 1) ps)
     by_test true next = ap (λ (k : ℕ). Some k) (omega arith)
     by_test false next = one (place (is_entry e) ps) ∙ next
 

@@ -13,7 +13,7 @@ regroup : {A : Type 0} (front : List A) (x : A) (xs : List A × List ℕ)
 regroup front x xs = ap (λ (l : List _). (l, xs.1)) (sym (append_assoc front (x ∷ []) xs.0))
 
 pub row_more : {A : Type 0} (item : List ℕ → Option (A × List ℕ)) (front : List A) (count i : ℕ) (bytes : List ℕ)
-      (x : A) (rest : List ℕ) (total : List A × List ℕ)
+    (x : A) (rest : List ℕ) (total : List A × List ℕ)
     → i < count
     → item bytes ≡ Some (x, rest)
     → behind front (many_by item (count - i) bytes) ≡ total
@@ -22,12 +22,12 @@ unfolding many_by
 row_more item front count i bytes x rest total lt h so_far =
     let k : count - i ≡ suc (count - (i + 1)) = omega arith in
     let one : behind front (many_by item (count - i) bytes)
-        ≡ behind (front ++ x ∷ []) (many_by item (count - (i + 1)) rest) =
-        rw (k, h) (regroup front x (many_by item (count - (i + 1)) rest)) in
+    ≡ behind (front ++ x ∷ []) (many_by item (count - (i + 1)) rest) =
+    rw (k, h) (regroup front x (many_by item (count - (i + 1)) rest)) in
     sym one ∙ so_far
 
 pub row_stops : {A : Type 0} (item : List ℕ → Option (A × List ℕ)) (front : List A) (count i : ℕ) (bytes : List ℕ)
-      (total : List A × List ℕ)
+    (total : List A × List ℕ)
     → i < count
     → item bytes ≡ None
     → behind front (many_by item (count - i) bytes) ≡ total → ◌≡◌ {A = List A × List ℕ} (front, bytes) total
@@ -35,11 +35,11 @@ unfolding many_by
 row_stops item front count i bytes total lt h so_far =
     let k : count - i ≡ suc (count - (i + 1)) = omega arith in
     let one : behind front (many_by item (count - i) bytes) ≡ (front, bytes) =
-        rw (k, h) (ap (λ (l : List _). (l, bytes)) (append-nil front)) in
+    rw (k, h) (ap (λ (l : List _). (l, bytes)) (append-nil front)) in
     sym one ∙ so_far
 
 pub row_ends : {A : Type 0} (item : List ℕ → Option (A × List ℕ)) (front : List A) (count i : ℕ) (bytes : List ℕ)
-      (total : List A × List ℕ)
+    (total : List A × List ℕ)
     → count ≤ i
     → behind front (many_by item (count - i) bytes) ≡ total
     → ◌≡◌ {A = List A × List ℕ} (front, bytes) total
@@ -47,7 +47,7 @@ unfolding many_by
 row_ends item front count i bytes total le so_far =
     let k : count - i ≡ 0 = omega arith in
     let one : behind front (many_by item (count - i) bytes) ≡ (front, bytes) =
-        rw k (ap (λ (l : List _). (l, bytes)) (append-nil front)) in
+    rw k (ap (λ (l : List _). (l, bytes)) (append-nil front)) in
     sym one ∙ so_far
 
 -- ---- things behind commas are read again
@@ -58,7 +58,7 @@ AllOf P (x ∷ xs) = P x × AllOf P xs
 
 -- one thing before the others
 pub comma_first : {A : Type 0} (item : List ℕ → Option (A × List ℕ)) (text : A → List ℕ) (x : A) (xs : List A)
-      (rest : List ℕ)
+    (rest : List ℕ)
     → ((c : ℕ) (z : List ℕ) → IsEnd c → item (text x ++ c ∷ z) ≡ Some (x, c ∷ z))
     → item (text x ++ (further (map text xs) ++ 41 ∷ rest)) ≡ Some (x, further (map text xs) ++ 41 ∷ rest)
 comma_first item text x [] rest is = is 41 rest at_close
@@ -79,7 +79,7 @@ comma_row item next text Ok is reads (x ∷ xs) (suc k) rest all le =
     let others = further (map text xs) ++ 41 ∷ rest in
     let n = is (44 ∷ 32 ∷ ((text x ++ further (map text xs)) ++ 41 ∷ rest)) in
     let grouped : (text x ++ further (map text xs)) ++ 41 ∷ rest ≡ text x ++ others =
-        append_assoc (text x) (further (map text xs)) (41 ∷ rest) in
+    append_assoc (text x) (further (map text xs)) (41 ∷ rest) in
     let one = comma_first item text x xs rest (λ c z end. reads x c z all.0 end) in
     let more = comma_row item next text Ok is reads xs k rest all.1 (omega arith) in
     rw (n, grouped, one, more) refl
@@ -89,8 +89,14 @@ pub comma_long : {A : Type 0} (text : A → List ℕ) (xs : List A) (z : List �
 comma_long text [] z = omega arith
 comma_long text (x ∷ xs) z =
     let more = comma_long text xs z in
-    omega (arith, more, length-append (further (map text xs)) z, length-append
-        (44 ∷ 32 ∷ (text x ++ further (map text xs))) z, length-append (text x) (further (map text xs)))
+    omega (
+      arith,
+      more,
+      length-append (further (map text xs)) z,
+      length-append
+          (44 ∷ 32 ∷ (text x ++ further (map text xs))) z,
+      length-append (text x) (further (map text xs)),
+    )
 
 pub comma_again : {A : Type 0} (item next : List ℕ → Option (A × List ℕ)) (text : A → List ℕ) (Ok : A → Type 0)
     → ((bytes : List ℕ) → next bytes ≡ (after (codes ", ") bytes >>= item))
@@ -98,7 +104,7 @@ pub comma_again : {A : Type 0} (item next : List ℕ → Option (A × List ℕ))
     → (xs : List A) (rest : List ℕ)
     → AllOf Ok xs
     → ◌≡◌ {A = List A × List ℕ} (many_by next (length (further (map text xs) ++ 41 ∷ rest))
-      (further (map text xs) ++ 41 ∷ rest)) (xs, 41 ∷ rest)
+    (further (map text xs) ++ 41 ∷ rest)) (xs, 41 ∷ rest)
 comma_again item next text Ok is reads xs rest all =
     comma_row item next text Ok is reads xs (length (further (map text xs) ++ 41 ∷ rest)) rest all
     (comma_long text xs (41 ∷ rest))

@@ -69,7 +69,7 @@ case_lines_again [] d tail (suc k) sd small ends le = rw ends refl
 case_lines_again (n ∷ ns) d tail zero sd small ends le = absurd (omega arith)
 case_lines_again (n ∷ ns) d tail (suc k) sd small ends le =
     let grouped : (d ++ (codes "case 0x" ++ (hex n ++ (codes ":\n" ++ case_lines ns d)))) ++ tail
-        ≡ d ++ (codes "case 0x" ++ (hex n ++ 58 ∷ 10 ∷ (case_lines ns d ++ tail))) = simp append_assoc in
+    ≡ d ++ (codes "case 0x" ++ (hex n ++ 58 ∷ 10 ∷ (case_lines ns d ++ tail))) = simp append_assoc in
     let one = case_again d n (case_lines ns d ++ tail) sd small.0 in
     let more = case_lines_again ns d tail k sd small.1 ends (omega arith) in
     rw (grouped, one, more) refl
@@ -78,9 +78,15 @@ cases_long : (ns d z : List ℕ) → length ns ≤ length (case_lines ns d ++ z)
 cases_long [] d z = omega arith
 cases_long (n ∷ ns) d z =
     let more = cases_long ns d z in
-    omega (arith, more, length-append (d ++ (codes "case 0x" ++ (hex n ++ (codes ":\n" ++ case_lines ns d)))) z,
-        length-append d (codes "case 0x" ++ (hex n ++ (codes ":\n" ++ case_lines ns d))), length-append (hex n)
-        (codes ":\n" ++ case_lines ns d), length-append (case_lines ns d) z)
+    omega (
+      arith,
+      more,
+      length-append (d ++ (codes "case 0x" ++ (hex n ++ (codes ":\n" ++ case_lines ns d)))) z,
+      length-append d (codes "case 0x" ++ (hex n ++ (codes ":\n" ++ case_lines ns d))),
+      length-append (hex n)
+          (codes ":\n" ++ case_lines ns d),
+      length-append (case_lines ns d) z,
+    )
 
 cases_again : (n : ℕ) (ns d tail : List ℕ)
     → AllSpaces d
@@ -90,7 +96,7 @@ cases_again : (n : ℕ) (ns d tail : List ℕ)
 unfolding cases_at
 cases_again n ns d tail sd small ends =
     let grouped : (d ++ (codes "case 0x" ++ (hex n ++ (codes ":\n" ++ case_lines ns d)))) ++ tail
-        ≡ d ++ (codes "case 0x" ++ (hex n ++ 58 ∷ 10 ∷ (case_lines ns d ++ tail))) = simp append_assoc in
+    ≡ d ++ (codes "case 0x" ++ (hex n ++ 58 ∷ 10 ∷ (case_lines ns d ++ tail))) = simp append_assoc in
     let one = case_again d n (case_lines ns d ++ tail) sd small.0 in
     let more = case_lines_again ns d tail (length (case_lines ns d ++ tail)) sd small.1 ends (cases_long ns d tail) in
     rw (grouped, one, more) refl
@@ -133,7 +139,7 @@ unfolding after
 behind_break true d dd more sd sdd end = no_break d more sd end
 behind_break false d dd more sd sdd end =
     let grouped : (dd ++ codes "break;\n") ++ more ≡ dd ++ 98 ∷ (codes "reak;\n" ++ more) =
-        append_assoc dd (codes "break;\n") more in
+    append_assoc dd (codes "break;\n") more in
     let p = past_pad dd 98 (codes "reak;\n" ++ more) sdd refl in
     rw (grouped, p) refl
 
@@ -141,7 +147,7 @@ break_no_case : (dd more : List ℕ) → AllSpaces dd → case_at ((dd ++ codes 
 unfolding case_at after
 break_no_case dd more sdd =
     let grouped : (dd ++ codes "break;\n") ++ more ≡ dd ++ 98 ∷ (codes "reak;\n" ++ more) =
-        append_assoc dd (codes "break;\n") more in
+    append_assoc dd (codes "break;\n") more in
     let p = past_pad dd 98 (codes "reak;\n" ++ more) sdd refl in
     rw (grouped, p) refl
 
@@ -170,7 +176,7 @@ module _ (f : CFunction) (labels : ℕ) where
       let others = texts f xs dd ++ last in
       let grouped : (dd ++ (text ++ texts f xs dd)) ++ last ≡ dd ++ (text ++ others) = simp append_assoc in
       let spaced : past_spaces (dd ++ (text ++ others)) ≡ text ++ others =
-          spaces_again dd (text ++ others) sdd ∙ (first.line.starts others).no_space in
+      spaces_again dd (text ++ others) sdd ∙ (first.line.starts others).no_space in
       let gap = (first.line.starts others).not_case in
       rw (grouped, spaced, gap) refl
 
@@ -181,9 +187,9 @@ module _ (f : CFunction) (labels : ℕ) where
       → all_hold false (map (rule_of f labels) xs) false room ≡ true
       → ArmEnd d more
       → arm_by (statement_at (scope_of f) room)
-        ((case_lines (n ∷ ns) d ++ (texts f xs (deeper d)
-        ++ break_line (last_leaves false (map (lines (scope_of f)) xs)) (deeper d))) ++ more)
-        ≡ Some (record { cases = n ∷ ns; body = xs }, more)
+      ((case_lines (n ∷ ns) d ++ (texts f xs (deeper d)
+      ++ break_line (last_leaves false (map (lines (scope_of f)) xs)) (deeper d))) ++ more)
+      ≡ Some (record { cases = n ∷ ns; body = xs }, more)
   unfolding arm_by
   arm_read n ns xs room d more all sd small h end =
       let sc = scope_of f in
@@ -193,10 +199,10 @@ module _ (f : CFunction) (labels : ℕ) where
       let last = break_line leaves dd ++ more in
       let tail = texts f xs dd ++ last in
       let grouped : (case_lines (n ∷ ns) d ++ (texts f xs dd ++ break_line leaves dd)) ++ more
-          ≡ case_lines (n ∷ ns) d ++ tail = simp append_assoc in
+      ≡ case_lines (n ∷ ns) d ++ tail = simp append_assoc in
       let one = cases_again n ns d tail sd small (body_no_case xs room dd more all sdd h) in
       let two = body_again f labels xs all true false false room dd last refl sdd h
-          (break_row sc room leaves d dd more sd sdd end) in
+      (break_row sc room leaves d dd more sd sdd end) in
       let three = behind_break leaves d dd more sd sdd end in
       rw (grouped, one, two, three) refl
 
@@ -208,9 +214,9 @@ module _ (f : CFunction) (labels : ℕ) where
       → all_hold false (map (rule_of f labels) xs) false room ≡ true
       → ArmEnd d more
       → arm_by (statement_at (scope_of f) room)
-        ((case_lines cs d ++ (texts f xs (deeper d)
-        ++ break_line (last_leaves false (map (lines (scope_of f)) xs)) (deeper d))) ++ more)
-        ≡ Some (record { cases = cs; body = xs }, more)
+      ((case_lines cs d ++ (texts f xs (deeper d)
+      ++ break_line (last_leaves false (map (lines (scope_of f)) xs)) (deeper d))) ++ more)
+      ≡ Some (record { cases = cs; body = xs }, more)
   arm_split [] xs room d more all sd some small h end = absurd cc
   arm_split (n ∷ ns) xs room d more all sd some small h end = arm_read n ns xs room d more all sd small h end
 
@@ -225,14 +231,14 @@ module _ (f : CFunction) (labels : ℕ) where
   unfolding body_text body_leaves
   arm_again a room d more all sd some small h end =
       ap (λ (t : List ℕ). arm_by (statement_at (scope_of f) room) (t ++ more)) (arm_lines (scope_of f) a d)
-          ∙ arm_split a.cases a.body room d more all sd some small h end
+      ∙ arm_split a.cases a.body room d more all sd some small h end
 
 cases_begin : (cs d body more : List ℕ) → has_case cs ≡ true → ArmEnd d ((case_lines cs d ++ body) ++ more)
 cases_begin [] d body more some = absurd cc
 cases_begin (n ∷ ns) d body more some =
     let z = hex n ++ (codes ":\n" ++ (case_lines ns d ++ (body ++ more))) in
     let grouped : ((d ++ (codes "case 0x" ++ (hex n ++ (codes ":\n" ++ case_lines ns d)))) ++ body) ++ more
-        ≡ d ++ (codes "case 0x" ++ z) = simp append_assoc in
+    ≡ d ++ (codes "case 0x" ++ z) = simp append_assoc in
     subst (ArmEnd d) (sym grouped) (at_case z)
 
 cases_some : (cs d body : List ℕ) → has_case cs ≡ true → 0 < length (case_lines cs d ++ body)
@@ -259,11 +265,11 @@ pub arms_right : (f : CFunction) (labels : ℕ) (a : Arm) (arms : List Arm) (roo
 arms_right f labels a arms room h =
     let k : Cased = record { cases = a.cases; body = map (rule_of f labels) a.body } in
     let g : (has_case k.cases && (all_hold false k.body false room && arms_hold (map (cased_of f labels) arms) room))
-        ≡ true = ap (λ (c : Cased). has_case c.cases
-        && (all_hold false c.body false room && arms_hold (map (cased_of f labels) arms) room))
-        (sym (cased_is f labels a)) ∙ h in
+    ≡ true = ap (λ (c : Cased). has_case c.cases
+    && (all_hold false c.body false room && arms_hold (map (cased_of f labels) arms) room))
+    (sym (cased_is f labels a)) ∙ h in
     let three = and_parts (has_case k.cases)
-        (all_hold false k.body false room && arms_hold (map (cased_of f labels) arms) room) g in
+    (all_hold false k.body false room && arms_hold (map (cased_of f labels) arms) room) g in
     let two = and_parts (all_hold false k.body false room) (arms_hold (map (cased_of f labels) arms) room) three.1 in
     record { some = three.0; body = two.0; others = two.1 }
 
@@ -283,7 +289,7 @@ arms_end f labels (a ∷ arms) room d rest h =
     let others = all_arms (map (arm_text sc) arms) d in
     let r = arms_right f labels a arms room h in
     subst (ArmEnd d) (sym (append_assoc (arm_text sc a d) others (d ++ 125 ∷ rest)))
-        (arm_begins sc a d (others ++ (d ++ 125 ∷ rest)) r.some)
+    (arm_begins sc a d (others ++ (d ++ 125 ∷ rest)) r.some)
 
 no_arm : (sc : Scope) (n : ℕ) (d rest : List ℕ) → AllSpaces d → arm_by (statement_at sc n) (d ++ 125 ∷ rest) ≡ None
 unfolding arm_by cases_at case_at after
@@ -297,7 +303,7 @@ arms_again : (f : CFunction) (labels w : ℕ) (arms : List Arm) (room k : ℕ) (
     → arms_hold (map (cased_of f labels) arms) room ≡ true
     → length arms ≤ k
     → ◌≡◌ {A = List Arm × List ℕ} (many_by (arm_by (statement_at (scope_of f) room)) k
-      (all_arms (map (arm_text (scope_of f)) arms) d ++ (d ++ 125 ∷ rest))) (arms, d ++ 125 ∷ rest)
+    (all_arms (map (arm_text (scope_of f)) arms) d ++ (d ++ 125 ∷ rest))) (arms, d ++ 125 ∷ rest)
 unfolding many_by
 arms_again f labels w [] room zero d rest all sd le words h few = refl
 arms_again f labels w [] room (suc k) d rest all sd le words h few = let gap = no_arm (scope_of f) room d rest sd in
@@ -309,10 +315,10 @@ arms_again f labels w (a ∷ arms) room (suc k) d rest all sd le words h few =
     let r = arms_right f labels a arms room h in
     let small = arms_small f labels w a arms words in
     let grouped : (arm_text sc a d ++ others) ++ (d ++ 125 ∷ rest)
-        ≡ arm_text sc a d ++ (others ++ (d ++ 125 ∷ rest)) =
-        append_assoc (arm_text sc a d) others (d ++ 125 ∷ rest) in
+    ≡ arm_text sc a d ++ (others ++ (d ++ 125 ∷ rest)) =
+    append_assoc (arm_text sc a d) others (d ++ 125 ∷ rest) in
     let one = arm_again f labels a room d (others ++ (d ++ 125 ∷ rest)) all.0 sd r.some
-        (words_small w a.cases le small.0) r.body (arms_end f labels arms room d rest r.others) in
+    (words_small w a.cases le small.0) r.body (arms_end f labels arms room d rest r.others) in
     let more = arms_again f labels w arms room k d rest all.1 sd le small.1 r.others (omega arith) in
     rw (grouped, one, more) refl
 
@@ -326,12 +332,18 @@ arms_long f labels (a ∷ arms) room d z h =
     let others = all_arms (map (arm_text sc) arms) d in
     let r = arms_right f labels a arms room h in
     let one : 0 < length (arm_text sc a d) =
-        subst (λ (t : List ℕ). 0 < length t) (sym (arm_lines sc a d))
-        (cases_some a.cases d (body_text sc a.body (deeper d) ++ break_line (body_leaves sc a.body) (deeper d))
-        r.some) in
+    subst (λ (t : List ℕ). 0 < length t) (sym (arm_lines sc a d))
+    (cases_some a.cases d (body_text sc a.body (deeper d) ++ break_line (body_leaves sc a.body) (deeper d))
+    r.some) in
     let more = arms_long f labels arms room d z r.others in
-    omega (arith, one, more, length-append (arm_text sc a d ++ others) z, length-append (arm_text sc a d) others,
-        length-append others z)
+    omega (
+      arith,
+      one,
+      more,
+      length-append (arm_text sc a d ++ others) z,
+      length-append (arm_text sc a d) others,
+      length-append others z,
+    )
 
 pub switch_line : (f : CFunction) (labels w : ℕ) (e : Expr) (arms : List Arm)
     → Written (scope_of f) e
@@ -342,8 +354,8 @@ pub switch_line : (f : CFunction) (labels w : ℕ) (e : Expr) (arms : List Arm)
     → are_words w (all_cases (map (cased_of f labels) arms)) ≡ true
     → arms_hold (map (cased_of f labels) arms) room ≡ true
     → LineAt (scope_of f) (suc room) in_loop (s.Switch e arms)
-      (codes "switch (" ++ ((form (scope_of f) e).plain
-      ++ (codes ") {\n" ++ (all_arms (map (arm_text (scope_of f)) arms) d ++ (d ++ codes "}\n")))))
+    (codes "switch (" ++ ((form (scope_of f) e).plain
+    ++ (codes ") {\n" ++ (all_arms (map (arm_text (scope_of f)) arms) d ++ (d ++ codes "}\n")))))
 unfolding statement_at statement_by line_at plain_line_at loop_head line_by switch_by after past_spaces run_of type_at
     decimal_at number_from
 switch_line f labels w e arms x all in_loop room d sd le words h =
@@ -351,14 +363,14 @@ switch_line f labels w e arms x all in_loop room d sd le words h =
     let value = (form sc e).plain in
     let body = all_arms (map (arm_text sc) arms) d in
     worded sc (suc room) in_loop (s.Switch e arms)
-        (codes "switch (" ++ (value ++ (codes ") {\n" ++ (body ++ (d ++ codes "}\n")))))
+    (codes "switch (" ++ (value ++ (codes ") {\n" ++ (body ++ (d ++ codes "}\n")))))
     (λ rest.
     let last = d ++ 125 ∷ 10 ∷ rest in
     let grouped : (value ++ (codes ") {\n" ++ (body ++ (d ++ codes "}\n")))) ++ rest
-        ≡ value ++ 41 ∷ 32 ∷ 123 ∷ 10 ∷ (body ++ last) = simp append_assoc in
+    ≡ value ++ 41 ∷ 32 ∷ 123 ∷ 10 ∷ (body ++ last) = simp append_assoc in
     let head = head_again sc e value (body ++ last) x.plain in
     let inner = arms_again f labels w arms room (length (body ++ last)) d (10 ∷ rest) all sd le words h
-        (arms_long f labels arms room d last h) in
+    (arms_long f labels arms room d last h) in
     let p = past_pad d 125 (10 ∷ rest) sd refl in
     rw (grouped, head, inner, p) refl)
     (λ z. record { no_space = refl; not_case = refl; not_local = refl }) (λ z. refl) (omega arith)

@@ -57,7 +57,7 @@ is_true false h = absurd (let e : false ≡ true = h in cc)
 setting : (f : CFunction) (valid : IsValid f) → Setting f valid.next.label
 setting f valid =
     let low = low_body f valid.next.label f.body false false 256
-        (is_true (is_body f valid.next.label f.body) valid.body) in
+    (is_true (is_body f valid.next.label f.body) valid.body) in
     record {
       context = record {
         params = is_true (are_params f.params) valid.params;
@@ -78,7 +78,7 @@ opening f rest = result_type f.gives
 opened : (f : CFunction) (more : List ℕ)
     → is_name f.name ≡ true
     → head_at (result_type f.gives ++ 32 ∷ 102 ∷ 95 ∷ (f.name ++ 40 ∷ more))
-      ≡ Some (record { returns = true; gives = f.gives; name = Declared f.name }, more)
+    ≡ Some (record { returns = true; gives = f.gives; name = Declared f.name }, more)
 opened f more good = head_again true f.gives (Declared f.name) 0 more good (omega arith)
 
 no_widths : (o : Option (List Width × List ℕ))
@@ -123,21 +123,30 @@ not_local f labels (x ∷ xs) rest all h =
     let text = (lines sc x).text (codes "  ") in
     let others = all_lines (map (lines sc) xs) (codes "  ") in
     let grouped : (text ++ others) ++ 125 ∷ rest ≡ text ++ (others ++ 125 ∷ rest) =
-        append_assoc text others (125 ∷ rest) in
+    append_assoc text others (125 ∷ rest) in
     rw grouped (typed_no_local (text ++ (others ++ 125 ∷ rest)) (first.line.starts (others ++ 125 ∷ rest)).not_local)
 
 frame_again : (f : CFunction) (rest : List ℕ)
     → IsValid f
     → local_at rest ≡ None
     → frame_at (callee_lines f.callees ++ opening f (123 ∷ 10 ∷ (local_lines 0 f.locals ++ rest)))
-      ≡ Some (record { callees = f.callees; name = f.name; gives = f.gives; params = f.params; locals = f.locals;
-      body = [] }, rest)
+    ≡ Some (
+      record {
+        callees = f.callees;
+        name = f.name;
+        gives = f.gives;
+        params = f.params;
+        locals = f.locals;
+        body = [];
+      },
+      rest,
+    )
 unfolding frame_at title_at variables_at after
 frame_again f rest valid ends =
     let inside = local_lines 0 f.locals ++ rest in
     let good = is_true (is_name f.name) valid.name in
     let callees = callees_again f.callees (opening f (123 ∷ 10 ∷ inside))
-        (is_true (are_callees f.callees) valid.callees) (not_callee f (123 ∷ 10 ∷ inside) good) in
+    (is_true (are_callees f.callees) valid.callees) (not_callee f (123 ∷ 10 ∷ inside) good) in
     let head = opened f (separated_or_void (map param_text f.params) ++ 41 ∷ 10 ∷ 123 ∷ 10 ∷ inside) good in
     let params = params_again f.params (10 ∷ 123 ∷ 10 ∷ inside) (is_true (are_params f.params) valid.params) in
     let locals = locals_again f.locals rest ends in
@@ -145,8 +154,8 @@ frame_again f rest valid ends =
 
 text_parts : (f : CFunction)
     → text_of f ≡ callee_lines f.callees
-      ++ opening f (123 ∷ 10 ∷ (local_lines 0 f.locals
-      ++ (all_lines (map (lines (scope_of f)) f.body) (codes "  ") ++ 125 ∷ 10 ∷ [])))
+    ++ opening f (123 ∷ 10 ∷ (local_lines 0 f.locals
+    ++ (all_lines (map (lines (scope_of f)) f.body) (codes "  ") ++ 125 ∷ 10 ∷ [])))
 unfolding text_of body_text
 text_parts f = simp append_assoc
 
@@ -162,7 +171,7 @@ taken f valid =
     let parts = text_parts f in
     let frame = frame_again f body valid (not_local f labels f.body (10 ∷ []) all holds) in
     let inside = body_again f labels f.body all false false false 256 (codes "  ") (125 ∷ 10 ∷ []) refl
-        (refl, (refl, tt)) holds (brace_ends (scope_of f) 256 false [] (10 ∷ []) tt) in
+    (refl, (refl, tt)) holds (brace_ends (scope_of f) 256 false [] (10 ∷ []) tt) in
     rw (parts, frame, inside) refl
 
 inside_some : (x y : CFunction) → Some x ≡ Some y → x ≡ y

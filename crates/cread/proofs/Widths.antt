@@ -25,7 +25,7 @@ word_again w =
     let p : w.value < limit w.width.bytes = w.below in
     let whole : w.value ≡ 0 * limit w.width.bytes + w.value = omega arith in
     let same : w.value % limit w.width.bytes ≡ w.value =
-        ap (λ (n : ℕ). n % limit w.width.bytes) whole ∙ mod-mul-add 0 (limit w.width.bytes) w.value p in
+    ap (λ (n : ℕ). n % limit w.width.bytes) whole ∙ mod-mul-add 0 (limit w.width.bytes) w.value p in
     same_word (word_by w.width w.value) w same refl
 
 pub word_small : (w : Word) → w.value < 2 ^ 128

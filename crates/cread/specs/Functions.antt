@@ -133,8 +133,14 @@ unfoldable pub frame_at : List ℕ → Option (CFunction × List ℕ)
 frame_at bytes = frame_by (callees_at bytes)
 
 abbrev pub with_body : CFunction → List Stmt → CFunction
-with_body f body = record { callees = f.callees; name = f.name; gives = f.gives; params = f.params; locals = f.locals;
-    body = body }
+with_body f body = record {
+  callees = f.callees;
+  name = f.name;
+  gives = f.gives;
+  params = f.params;
+  locals = f.locals;
+  body = body;
+}
 
 unfoldable pub function_at : List ℕ → Option CFunction
 function_at bytes = frame_at bytes >>= λ f. Some (with_body f.0 (body_by false (statement_at (scope_of f.0) 256) f.1).0)

@@ -211,7 +211,7 @@ head_at sc bytes = expr_to sc (codes ") {\n") bytes
 abbrev pub else_by : Statements → Expr → List Stmt × List ℕ → Option (Stmt × List ℕ)
 else_by stmt c b =
     chosen (after (codes "} else {\n") (past_spaces b.1))
-        (λ rest. closed_by stmt rest >>= λ d. Some (s.IfElse c b.0 d.0, d.1))
+    (λ rest. closed_by stmt rest >>= λ d. Some (s.IfElse c b.0 d.0, d.1))
     (closing (codes "}\n") b >>= λ b. Some (s.If c b.0, b.1))
 
 unfoldable pub if_by : Scope → Statements → List ℕ → Option (Stmt × List ℕ)

@@ -8,4 +8,4 @@ returns-then-not-right c =
 pub returns : goal.returns
 returns c =
     tree_when c.args.f.now c.args.bytes.now c.in_ok-right.right c.in_ok-same.same (c.in_ok-right.ensures {u = tt})
-      c.if-not-right.false (c.in_ok-same.ensures {u = tt})
+    c.if-not-right.false (c.in_ok-same.ensures {u = tt})
