@@ -29,3 +29,14 @@ module _ {State Fault : Type 0} (step : State → Line → Step State Fault) whe
   -- how far a text is read: its lines are numbered from 1 on
   abbrev pub progress : State → List ℕ → Progress State Fault
   progress start bytes = advanced (Going 1 start) (lines_of bytes)
+
+-- what a text says, or its fault
+pub data Read (Value Fault : Type 0) : Type 0 where
+  Good : Value → Read Value Fault
+  Bad : Fault → Read Value Fault
+
+-- where the text ends it says what the state does, n being one more than the number of its lines
+abbrev pub concluded : {State Why Value Fault : Type 0} → (ℕ → Why → Fault) → (ℕ → State → Read Value Fault)
+    → Progress State Why → Read Value Fault
+concluded fault_at finished (Going n state) = finished n state
+concluded fault_at finished (Stopped n why) = Bad (fault_at n why)
