@@ -1,5 +1,6 @@
 use crate::*;
 use outside::{Bytes, Fails, File, Files, MemShelf, MemSink, ReadEnd};
+use statuses::{Outcome, deliver};
 use std::alloc::Global;
 use std::test::Fail;
 
@@ -59,7 +60,10 @@ fn reads_words_and_files(rt: HostRuntime) -> Result<(), Fail> {
     }
     let mut out = MemSink::new(alloc, 99, Fails::new(alloc)).map_err(|_| "memory")?;
     let mut err = MemSink::new(alloc, 99, Fails::new(alloc)).map_err(|_| "memory")?;
-    assert_eq!(rt; deliver(&Outcome::BadArguments, &mut out, &mut err), 2);
+    assert_eq!(rt;
+        deliver(b"runboth", &Outcome::BadArguments, &mut out, &mut err),
+        2
+    );
     assert!(rt; err.taken() == b"runboth: bad arguments\n".as_slice());
     assert!(rt; out.taken().is_empty());
     Ok(())
