@@ -10,6 +10,3 @@ pub use files::{Inputs, LIMIT, fetch};
 pub use gathering::{Gathered, gather};
 pub use outcome::{Outcome, deliver};
 pub use plan::{Plan, read_words};
-
-#[cfg(test)]
-mod tests;

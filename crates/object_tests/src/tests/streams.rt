@@ -1,4 +1,9 @@
-use super::*;
+//! The sources, sinks and shelves in memory, the streams of std, and the files of the file system.
+
+use outside::{
+    Bytes, Fails, File, FileShelf, Files, MemShelf, MemSink, MemSource, Memory, ReadEnd, Shelf, Source,
+    StdSink, StdSource, read_all, write_all,
+};
 use std::alloc::Global;
 use std::test::Fail;
 
