@@ -63,7 +63,11 @@ fn word(rt: &HostRuntime, name: &str, came: &Came) -> io::Result<&'static str> {
         _ => ("err", "refused", came.err.taken()),
     };
     let wanted = file(rt, name, kind)?;
-    Ok(if wanted.as_slice() == text { is_that } else { "differs" })
+    Ok(if wanted.as_slice() == text {
+        is_that
+    } else {
+        "differs"
+    })
 }
 
 /// Runs the listing and its C on the example's entry, and prints what each has shown.
@@ -72,7 +76,9 @@ fn run_both(rt: &HostRuntime, name: &str) -> io::Result<()> {
     for kind in ["pcode", "c", "entry"] {
         words.push(path(rt, name, kind)?).map_err(want)?;
     }
-    words.push(String::from_str(rt.alloc(), STEPS)?).map_err(want)?;
+    words
+        .push(String::from_str(rt.alloc(), STEPS)?)
+        .map_err(want)?;
     let mut shelf = FileShelf::new(rt);
     let mut out = StdSink::new(rt.stdout());
     let mut err = StdSink::new(rt.stderr());
