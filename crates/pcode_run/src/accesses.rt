@@ -84,7 +84,7 @@ pub fn load(
         return Ok(());
     };
     let address = byte_address(context.listing, space, offset.value);
-    let own = context.frame.own(state.at.address, state.at.index, 0);
+    let own = context.own(state.at.address, state.at.index, 0);
     let word = word_at(context, state, own, space, address, size_out(op.out))?;
     state.at = next_spot(instruction, state.at.index);
     put_fetched(context, state, op.out, word)
@@ -143,7 +143,7 @@ pub fn store(
         return Ok(());
     };
     let address = byte_address(context.listing, space, offset.value);
-    let own = context.frame.own(state.at.address, state.at.index, 0);
+    let own = context.own(state.at.address, state.at.index, 0);
     state.at = next_spot(instruction, state.at.index);
     put_at(context, state, own, space, address, value.size, word.value)
 }

@@ -3,8 +3,7 @@
 ghost use Rattle.std.specs.Prelude.{◌≡◌, ◌<◌, ◌≤◌, [], ◌∷◌, IfOk, IfSome};
 ghost use Rattle.pcode_model.specs.Memory.{whole};
 ghost use Rattle.pcode_model.specs.Step.{Reads, read_all, size_out, varnode_at};
-ghost use Rattle.pcode_memory.specs.Context.{IsContext, layout_of};
-ghost use Rattle.pcode_memory.specs.Frame.{frame_of};
+ghost use Rattle.pcode_memory.specs.Context.{IsContext, frame_in, layout_of};
 ghost use Rattle.pcode_operands.specs.State.{state_of};
 ghost use Rattle.pcode_operands.specs.Used.{IsUsed};
 ghost use Rattle.pcode_run.specs.Steps.{got_two};
@@ -60,7 +59,7 @@ pub fn read_two(
     requires context { IsContext context.now }
     requires first { IsUsed context.now.listing.now first }
     requires second { IsUsed context.now.listing.now second }
-    ensures value { IfOk result (λ r. got_two r ≡ read_all (whole (layout_of context.now)) context.now.listing.now (frame_of context.now.frame.now) (state_of context.now state.now) (Reads first ∷ Reads second ∷ [])) }
+    ensures value { IfOk result (λ r. got_two r ≡ read_all (whole (layout_of context.now)) context.now.listing.now (frame_in context.now) (state_of context.now state.now) (Reads first ∷ Reads second ∷ [])) }
     ensures widths { IfOk result (λ r. IfSome r (λ p. (p.0.width.bytes ≡ first.size) × (p.1.width.bytes ≡ second.size))) }
 {
     let Some(a) = read_varnode(context, state, first)? else {

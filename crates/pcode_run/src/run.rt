@@ -9,7 +9,7 @@ ghost use Rattle.pcode_model.specs.WellFormed.{IsWellFormed};
 ghost use Rattle.run_world.specs.Maps.{bytes_of};
 ghost use Rattle.run_world.specs.Meaning.{entry_of, trace_of};
 ghost use Rattle.pcode_memory.specs.declared.context.PcodeContext.{PcodeContext};
-ghost use Rattle.pcode_memory.specs.Context.{CanRun, IsContext, layout_of, whole_of};
+ghost use Rattle.pcode_memory.specs.Context.{CanRun, IsContext, frame_in, layout_of, whole_of};
 ghost use Rattle.pcode_memory.specs.Frame.{frame_of};
 ghost use Rattle.pcode_operands.specs.State.{state_of};
 ghost use Rattle.pcode_run.specs.Run.{LiesInRam, OwnsFirstRam};
@@ -126,8 +126,8 @@ fn context<'a>(
 // What the run has shown after n steps from a state on.
 fn run_from(context: &PcodeContext, state: State, n: u32) -> Result<Trace, Memory>
     requires context { IsContext context.now }
-    requires owns { OwnsFirstRam context.now.listing.now (frame_of context.now.frame.now) }
-    ensures { IfOk result (λ t. trace_of t ≡ seen (machine (whole (layout_of context.now)) context.now.listing.now (frame_of context.now.frame.now)) (state_of context.now state) n) }
+    requires owns { OwnsFirstRam context.now.listing.now (frame_in context.now) }
+    ensures { IfOk result (λ t. trace_of t ≡ seen (machine (whole (layout_of context.now)) context.now.listing.now (frame_in context.now)) (state_of context.now state) n) }
 {
     let mut state = state;
     for _ in 0..n {

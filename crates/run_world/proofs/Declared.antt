@@ -9,7 +9,7 @@ use Rattle.pcode_model.specs.declared.listing.Space.{Space}
 use Rattle.pcode_model.specs.declared.listing.SpaceKind.{SpaceKind}
 use Rattle.pcode_model.specs.declared.listing.SpaceKind.TheVariants.{Constant, Ram, Register, Unique}
 use Rattle.pcode_model.specs.Spaces.{kind_in, size_in, same_kind, number_of}
-use Rattle.pcode_model.specs.WellFormed.{AreSpaces, IsDeclared, IsFixed, how_many}
+use Rattle.pcode_model.specs.WellFormed.{AreSpaces, IsDeclared, IsFixed, constant_space, how_many}
 
 -- the number of the first space of a kind that is there
 pub number_below : (k : SpaceKind) (ss : List Space) → 1 ≤ how_many k ss → number_of k ss < length ss
@@ -40,9 +40,9 @@ declared_size (s ∷ ss) (suc n) all other = declared_size ss n all.1 other
 -- a space other than the constant space has at most 2 to the 64 bytes
 pub size_most : (ss : List Space) (n : ℕ) → AreSpaces ss → same_kind Constant (kind_in (slice_get ss n)) ≡ false → size_in (slice_get ss n) ≤ 2 ^ 64
 size_most [] n good other = absurd good
-size_most (s ∷ ss) zero good other = absurd (not_constant s.kind good.0 other) where
-  not_constant : (k : SpaceKind) → k ≡ Constant → same_kind Constant k ≡ false → ⊥
-  not_constant k is isnt = let e : true ≡ false = ap (same_kind Constant) (sym is) ∙ isnt in cc
+size_most (s ∷ ss) zero good other = absurd (not_constant s good.0 other) where
+  not_constant : (s : Space) → s ≡ constant_space → same_kind Constant s.kind ≡ false → ⊥
+  not_constant s is isnt = let e : true ≡ false = ap (λ (x : Space). same_kind Constant x.kind) (sym is) ∙ isnt in cc
 size_most (s ∷ ss) (suc n) good other = declared_size ss n good.1 other
 
 pub ram_not_constant : (k : SpaceKind) → same_kind Ram k ≡ true → same_kind Constant k ≡ false

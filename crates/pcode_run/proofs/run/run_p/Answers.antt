@@ -7,7 +7,7 @@ use Rattle.pcode_run.proofs.Owning.{owns_ram}
 use Rattle.machine.specs.Machine.{seen}
 use Rattle.pcode_model.specs.Memory.{whole}
 use Rattle.pcode_model.specs.Step.{machine, seen_p}
-use Rattle.pcode_memory.specs.Context.{layout_of}
+use Rattle.pcode_memory.specs.Context.{frame_in, layout_of}
 use Rattle.pcode_memory.specs.Frame.{frame_of}
 use Rattle.run_world.specs.declared.trace.Trace.{Trace}
 use Rattle.run_world.specs.Meaning.{entry_of, trace_of}
@@ -30,6 +30,6 @@ returns c =
     let y = c.in_ok-context.context in
     let s = state_of y c.in_ok-state.state in
     let e = entry_of q.listing.now q.entry.now in
-    let P : Trace → Type 0 = λ t. trace_of t ≡ seen (machine (whole (layout_of y)) y.listing.now (frame_of y.frame.now)) s q.n in
+    let P : Trace → Type 0 = λ t. trace_of t ≡ seen (machine (whole (layout_of y)) y.listing.now (frame_in y)) s q.n in
     let Q : Trace → Type 0 = λ t. trace_of t ≡ seen_p q.listing.now (frame_of q.frame.now) e q.n in
-    IfOk-weaker c.run_from.result P Q (λ t is. is ∙ seen_is (layout_of y) q.listing.now y.listing.now (frame_of q.frame.now) (frame_of y.frame.now) e s q.n made.layout made.listing (ap frame_of made.frame) ((c.in_ok-state.ensures {u = tt}).state y made.answers)) c.run_from.ensures
+    IfOk-weaker c.run_from.result P Q (λ t is. is ∙ seen_is (layout_of y) q.listing.now y.listing.now (frame_of q.frame.now) (frame_in y) e s q.n made.layout made.listing (ap frame_of made.frame) ((c.in_ok-state.ensures {u = tt}).state y made.answers)) c.run_from.ensures
