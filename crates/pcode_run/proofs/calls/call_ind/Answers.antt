@@ -9,6 +9,9 @@ use Rattle.pcode_run.proofs.Obeying.{only_input}
 use Rattle.pcode_run.proofs.Protos.{Runs, own_runs}
 use Rattle.pcode_run.proofs.calls.call_ind.Goals as goal
 
+pub own_proto-proto-requires : goal.own_proto-proto-requires
+own_proto-proto-requires c = c.requires.context.formed.func.proto
+
 pub read_arguments-requires-clause-used : goal.read_arguments-requires-clause-used
 read_arguments-requires-clause-used c =
     let l = c.args.context.now.listing.now in
