@@ -4,16 +4,13 @@
 pub mod fault;
 pub mod form;
 pub mod forms;
+pub mod partial_entry;
 pub mod reader;
-pub mod said;
 pub mod spaces;
 pub mod steps;
 pub mod words;
 
 pub use fault::{EntryFault, LineFault, Why};
 pub use form::{BytesLine, Form, Part};
+pub use partial_entry::PartialEntry;
 pub use reader::read_entry;
-pub use said::Said;
-
-#[cfg(test)]
-mod tests;
