@@ -4,7 +4,7 @@ use run_world::{Answer, Answers, ByteList};
 
 /// What the lines so far have said.
 #[derive(Drop)]
-pub struct Said {
+pub struct PartialEntry {
     /// Whether the first line has come.
     pub begun: bool,
     pub state: ByteList,
