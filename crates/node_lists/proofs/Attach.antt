@@ -24,7 +24,7 @@ chain_with : (prev next : ℕ → Option ℕ) (x : ℕ) (xs ys : List ℕ)
     → Apart (xs ++ ys)
     → Chain prev next None (xs ++ ys) None
     → Chain (put_at (head_or ys None) (Some x) (put_at (Some x) (last_or None xs) prev))
-      (put_at (last_or None xs) (Some x) (put_at (Some x) (head_or ys None) next)) None (xs ++ x ∷ ys) None
+    (put_at (last_or None xs) (Some x) (put_at (Some x) (head_or ys None) next)) None (xs ++ x ∷ ys) None
 chain_with prev next x xs ys far d c =
     let r = split prev next None xs ys None c in let b = last_or None xs in let a = head_or ys None in
     let prev1 = put_at (Some x) b prev in let next1 = put_at (Some x) a next in
@@ -61,7 +61,8 @@ module _ (x : ℕ) (k : Option ℕ) (xs ys : List ℕ) (s : State) (lists : Opti
   end = record {
     first = if_none b (Some x) (s.ends k).first;
     last = if_none a (Some x) (s.ends k).last;
-    len = (s.ends k).len + 1 }
+    len = (s.ends k).len + 1;
+  }
 
   far : (j : Option ℕ) → IsIn x (lists j) → ⊥
   far j m = (r.members j x m).2 refl
@@ -92,9 +93,9 @@ module _ (x : ℕ) (k : Option ℕ) (xs ys : List ℕ) (s : State) (lists : Opti
         chain = frame s.prev s.next s'.prev s'.next None (lists j) None
             (λ i m. (
               put_away (Some x) a (put_at (Some x) b s.prev) i (λ e. other i m (in_right i xs ys (head_none ys i e)))
-                ∙ put_away b (Some x) s.prev i (new i m),
+                  ∙ put_away b (Some x) s.prev i (new i m),
               put_away (Some x) b (put_at (Some x) a s.next) i (λ e. other i m (in_left i xs ys (last_none xs i e)))
-                ∙ put_away a (Some x) s.next i (new i m),
+                  ∙ put_away a (Some x) s.next i (new i m),
             )) u.chain;
         first = ap (λ (h : Ends). h.first) there ∙ u.first;
         last = ap (λ (h : Ends). h.last) there ∙ u.last;
@@ -113,8 +114,9 @@ module _ (x : ℕ) (k : Option ℕ) (xs ys : List ℕ) (s : State) (lists : Opti
   members : (j : Option ℕ) (i : ℕ) → IsIn i (lists' j) → (i < s.n) × (s'.key i ≡ j) × (⊥ → ⊥)
   members j i m =
       elim (cases_key k j) [
-          inl e ↦ in_k e (in_either i xs (x ∷ ys) (subst (IsIn i) (at_here j e) m))
-        | inr n ↦ old (subst (IsIn i) (at_away j n) m) ]
+        | inl e ↦ in_k e (in_either i xs (x ∷ ys) (subst (IsIn i) (at_here j e) m))
+        | inr n ↦ old (subst (IsIn i) (at_away j n) m)
+      ]
     where
       old : IsIn i (lists j) → (i < s.n) × (s'.key i ≡ j) × (⊥ → ⊥)
       old o = let h = r.members j i o in (h.0, put_away k (Some x) s.key i (λ e. h.2 (sym (some_is e))) ∙ h.1, (λ z. z))
@@ -128,12 +130,13 @@ module _ (x : ℕ) (k : Option ℕ) (xs ys : List ℕ) (s : State) (lists : Opti
   everyone : (i : ℕ) → i < s.n → (⊥ → ⊥) → IsIn i (lists' (s'.key i))
   everyone i h z =
       elim (cases_eq i x) [
-          inl e ↦
-              subst (λ v. IsIn i (lists' v)) (sym (put_here k (Some x) s.key i (ap Some (sym e))))
-                (subst (IsIn i) (sym (at_here k refl)) (in_right i xs (x ∷ ys) (inl e)))
+        | inl e ↦
+            subst (λ v. IsIn i (lists' v)) (sym (put_here k (Some x) s.key i (ap Some (sym e))))
+            (subst (IsIn i) (sym (at_here k refl)) (in_right i xs (x ∷ ys) (inl e)))
         | inr n ↦
-              subst (λ v. IsIn i (lists' v)) (sym (put_away k (Some x) s.key i (λ e. n (sym (some_is e)))))
-                (in_old n (cases_key k (s.key i))) ]
+            subst (λ v. IsIn i (lists' v)) (sym (put_away k (Some x) s.key i (λ e. n (sym (some_is e)))))
+            (in_old n (cases_key k (s.key i)))
+      ]
     where
       widen : IsIn i xs ⊎ IsIn i ys → IsIn i (xs ++ x ∷ ys)
       widen (inl m) = in_left i xs (x ∷ ys) m
@@ -142,21 +145,23 @@ module _ (x : ℕ) (k : Option ℕ) (xs ys : List ℕ) (s : State) (lists : Opti
       in_old : (i ≡ x → ⊥) → (k ≡ s.key i) ⊎ (k ≡ s.key i → ⊥) → IsIn i (lists' (s.key i))
       in_old n (inl e) =
           subst (IsIn i) (sym (at_here (s.key i) e))
-            (widen (in_either i xs ys (subst (IsIn i) (ap lists (sym e) ∙ is) (r.everyone i h n))))
+          (widen (in_either i xs ys (subst (IsIn i) (ap lists (sym e) ∙ is) (r.everyone i h n))))
       in_old n (inr f) = subst (IsIn i) (sym (at_away (s.key i) f)) (r.everyone i h n)
 
   pub attached_rep : Rep (λ _. ⊥) (attached x k (last_or None xs) (head_or ys None) s) (put_key k (xs ++ x ∷ ys) lists)
   attached_rep = record {
     threaded =
         λ j.
-          elim (cases_key k j) [
-              inl e ↦ subst (Threaded s' j) (sym (at_here j e)) (subst (λ v. Threaded s' v (xs ++ x ∷ ys)) e at_k)
-            | inr n ↦ subst (Threaded s' j) (sym (at_away j n)) (away j n) ];
+        elim (cases_key k j) [
+          | inl e ↦ subst (Threaded s' j) (sym (at_here j e)) (subst (λ v. Threaded s' v (xs ++ x ∷ ys)) e at_k)
+          | inr n ↦ subst (Threaded s' j) (sym (at_away j n)) (away j n)
+        ];
     members = members;
     everyone = everyone;
     apart =
         λ j.
-          elim (cases_key k j) [
-              inl e ↦ subst Apart (sym (at_here j e)) (apart_with x xs ys far_k (subst Apart is (r.apart k)))
-            | inr n ↦ subst Apart (sym (at_away j n)) (r.apart j) ];
+        elim (cases_key k j) [
+          | inl e ↦ subst Apart (sym (at_here j e)) (apart_with x xs ys far_k (subst Apart is (r.apart k)))
+          | inr n ↦ subst Apart (sym (at_away j n)) (r.apart j)
+        ];
   }

@@ -101,8 +101,9 @@ apart_without x (y ∷ xs) ys d = (far, apart_without x xs ys d.1)
     far : IsIn y (xs ++ ys) → ⊥
     far m =
         elim (in_either y xs ys m) [
-            inl a ↦ d.0 (in_left y xs (x ∷ ys) a)
-          | inr b ↦ d.0 (in_right y xs (x ∷ ys) (inr b)) ]
+          | inl a ↦ d.0 (in_left y xs (x ∷ ys) a)
+          | inr b ↦ d.0 (in_right y xs (x ∷ ys) (inr b))
+        ]
 
 -- taking one out
 
@@ -187,24 +188,26 @@ module _ (prev next prev' next' : ℕ → Option ℕ) where
 
   pub ends : (b : Option ℕ) (ps : List ℕ) (e e' : Option ℕ) → Apart ps → ((i : ℕ) → IsIn i ps → prev' i ≡ prev i)
       → ((i : ℕ) → IsIn i ps → (last_or b ps ≡ Some i → ⊥) → next' i ≡ next i)
-        → ((i : ℕ) → IsIn i ps → last_or b ps ≡ Some i → next' i ≡ e')
-        → Chain prev next b ps e
-        → Chain prev' next' b ps e'
+      → ((i : ℕ) → IsIn i ps → last_or b ps ≡ Some i → next' i ≡ e')
+      → Chain prev next b ps e
+      → Chain prev' next' b ps e'
   ends b [] e e' d sp sn at c = tt
   ends b (p ∷ []) e e' d sp sn at c = (sp p (inl refl) ∙ c.0, at p (inl refl) refl, tt)
-  ends b (p ∷ q ∷ qs) e e' d sp sn at c =
-      (sp p (inl refl) ∙ c.0,
-       sn p (inl refl) (λ h. d.0 (last_in q qs p h)) ∙ c.1,
-       ends (Some p) (q ∷ qs) e e' d.1 (λ i m. sp i (inr m)) (λ i m. sn i (inr m)) (λ i m. at i (inr m)) c.2)
+  ends b (p ∷ q ∷ qs) e e' d sp sn at c = (
+    sp p (inl refl) ∙ c.0,
+    sn p (inl refl) (λ h. d.0 (last_in q qs p h)) ∙ c.1,
+    ends (Some p) (q ∷ qs) e e' d.1 (λ i m. sp i (inr m)) (λ i m. sn i (inr m)) (λ i m. at i (inr m)) c.2,
+  )
 
   pub begins : (b b' : Option ℕ) (ps : List ℕ) (e : Option ℕ) → Apart ps → ((i : ℕ) → IsIn i ps → next' i ≡ next i)
       → ((i : ℕ) → IsIn i ps → (head_or ps None ≡ Some i → ⊥) → prev' i ≡ prev i)
-        → ((i : ℕ) → IsIn i ps → head_or ps None ≡ Some i → prev' i ≡ b')
-        → Chain prev next b ps e
-        → Chain prev' next' b' ps e
+      → ((i : ℕ) → IsIn i ps → head_or ps None ≡ Some i → prev' i ≡ b')
+      → Chain prev next b ps e
+      → Chain prev' next' b' ps e
   begins b b' [] e d sn sp at c = tt
-  begins b b' (p ∷ ps) e d sn sp at c =
-      (at p (inl refl) refl,
-       sn p (inl refl) ∙ c.1,
-       frame (Some p) ps e (λ i m. (sp i (inr m) (λ h. d.0 (subst (λ v. IsIn v ps) (sym (some_is h)) m)), sn i (inr m)))
-         c.2)
+  begins b b' (p ∷ ps) e d sn sp at c = (
+    at p (inl refl) refl,
+    sn p (inl refl) ∙ c.1,
+    frame (Some p) ps e (λ i m. (sp i (inr m) (λ h. d.0 (subst (λ v. IsIn v ps) (sym (some_is h)) m)), sn i (inr m)))
+        c.2,
+  )

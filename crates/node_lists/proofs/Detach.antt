@@ -43,8 +43,9 @@ pub cases_in : (y : ℕ) (zs : List ℕ) → IsIn y zs ⊎ (IsIn y zs → ⊥)
 cases_in y [] = inr (λ k. k)
 cases_in y (z ∷ zs) =
     elim (cases_eq y z) [
-        inl e ↦ inl (inl e)
-      | inr n ↦ elim (cases_in y zs) [ inl k ↦ inl (inr k) | inr l ↦ inr (λ k. elim k [ inl e ↦ n e | inr j ↦ l j ]) ] ]
+      | inl e ↦ inl (inl e)
+      | inr n ↦ elim (cases_in y zs) [ inl k ↦ inl (inr k) | inr l ↦ inr (λ k. elim k [ inl e ↦ n e | inr j ↦ l j ]) ]
+    ]
 
 pub absent : (x : ℕ) (xs : List ℕ) → Apart xs → IsIn x (removed x xs) → ⊥
 absent x xs d m = by_place (cases_in x xs)
@@ -55,15 +56,17 @@ absent x xs d m = by_place (cases_in x xs)
         let c = cut x xs k in let d' = subst Apart c.is d in
         let m' = subst (IsIn x) (ap (removed x) c.is ∙ removed_within x c.xs c.ys (λ l. apart_sides c.xs (x ∷ c.ys) x d' l (inl refl))) m in
         elim (in_either x c.xs c.ys m') [
-            inl l ↦ apart_sides c.xs (x ∷ c.ys) x d' l (inl refl)
-          | inr l ↦ (apart_right c.xs (x ∷ c.ys) d').0 l ]
+          | inl l ↦ apart_sides c.xs (x ∷ c.ys) x d' l (inl refl)
+          | inr l ↦ (apart_right c.xs (x ∷ c.ys) d').0 l
+        ]
 
 pub in_less : (x i : ℕ) (xs : List ℕ) → IsIn i (removed x xs) → IsIn i xs
 in_less x i [] m = m
 in_less x i (y ∷ ys) m =
     elim (cases_eq y x) [
-        inl e ↦ inr (subst (IsIn i) (removed_within x [] ys (λ k. k)) (subst (λ v. IsIn i (removed x (v ∷ ys))) e m))
-      | inr n ↦ elim (subst (IsIn i) (skipped n) m) [ inl e ↦ inl e | inr k ↦ inr (in_less x i ys k) ] ]
+      | inl e ↦ inr (subst (IsIn i) (removed_within x [] ys (λ k. k)) (subst (λ v. IsIn i (removed x (v ∷ ys))) e m))
+      | inr n ↦ elim (subst (IsIn i) (skipped n) m) [ inl e ↦ inl e | inr k ↦ inr (in_less x i ys k) ]
+    ]
   where
     skipped : (y ≡ x → ⊥) → removed x (y ∷ ys) ≡ y ∷ removed x ys
     skipped n =
@@ -73,10 +76,11 @@ pub still_in : (x i : ℕ) (xs : List ℕ) → (i ≡ x → ⊥) → IsIn i xs �
 still_in x i [] n m = m
 still_in x i (y ∷ ys) n m =
     elim (cases_eq y x) [
-        inl e ↦
-            subst (λ v. IsIn i (removed x (v ∷ ys))) (sym e)
-              (subst (IsIn i) (sym (removed_within x [] ys (λ k. k))) (rest e m))
-      | inr k ↦ subst (IsIn i) (sym (skipped k)) (onward m (still_in x i ys n)) ]
+      | inl e ↦
+          subst (λ v. IsIn i (removed x (v ∷ ys))) (sym e)
+          (subst (IsIn i) (sym (removed_within x [] ys (λ k. k))) (rest e m))
+      | inr k ↦ subst (IsIn i) (sym (skipped k)) (onward m (still_in x i ys n))
+    ]
   where
     skipped : (y ≡ x → ⊥) → removed x (y ∷ ys) ≡ y ∷ removed x ys
     skipped k =
@@ -94,14 +98,15 @@ pub apart_less : (x : ℕ) (xs : List ℕ) → Apart xs → Apart (removed x xs)
 apart_less x [] d = tt
 apart_less x (y ∷ ys) d =
     elim (cases_eq y x) [
-        inl e ↦
-            subst (λ v. Apart (removed x (v ∷ ys))) (sym e) (subst Apart (sym (removed_within x [] ys (λ k. k))) d.1)
+      | inl e ↦
+          subst (λ v. Apart (removed x (v ∷ ys))) (sym e) (subst Apart (sym (removed_within x [] ys (λ k. k))) d.1)
       | inr n ↦
-            subst Apart
-              (sym
-                 (ap (λ t. Rattle.std.proofs.Common.cond t ys (y ∷ removed x ys))
-                    (Rattle.node_lists.proofs.Chains.eqb_not y x n)))
-              ((λ m. d.0 (in_less x y ys m)), apart_less x ys d.1) ]
+          subst Apart
+          (sym
+          (ap (λ t. Rattle.std.proofs.Common.cond t ys (y ∷ removed x ys))
+          (Rattle.node_lists.proofs.Chains.eqb_not y x n)))
+          ((λ m. d.0 (in_less x y ys m)), apart_less x ys d.1)
+    ]
 
 module _ (x : ℕ) (s : State) (lists : Option ℕ → List ℕ) (r : Rep (λ _. ⊥) s lists) (low : x < s.n) where
   abbrev k : Option ℕ
@@ -111,7 +116,8 @@ module _ (x : ℕ) (s : State) (lists : Option ℕ → List ℕ) (r : Rep (λ _.
   end = record {
     first = if_none (s.prev x) (s.next x) (s.ends k).first;
     last = if_none (s.next x) (s.prev x) (s.ends k).last;
-    len = (s.ends k).len - 1 }
+    len = (s.ends k).len - 1;
+  }
 
   at_k : (c : Cut x (lists k)) → Threaded (detached x s) k (removed x (lists k))
   at_k c =
@@ -139,12 +145,12 @@ module _ (x : ℕ) (s : State) (lists : Option ℕ → List ℕ) (r : Rep (λ _.
       subst (Threaded (detached x s) j) (sym (removed_absent x (lists j) (λ m. n (r.members j x m).1))) (record {
         chain =
             frame s.prev s.next (put_at (s.next x) (s.prev x) s.prev) (put_at (s.prev x) (s.next x) s.next) None
-              (lists j) None
+            (lists j) None
             (λ i m. (
               put_away (s.prev x) (s.next x) s.prev i
-                (λ e. other i m (in_right i c.xs (x ∷ c.ys) (inr (head_none c.ys i (sym l.1.1 ∙ e))))),
+                  (λ e. other i m (in_right i c.xs (x ∷ c.ys) (inr (head_none c.ys i (sym l.1.1 ∙ e))))),
               put_away (s.next x) (s.prev x) s.next i
-                (λ e. other i m (in_left i c.xs (x ∷ c.ys) (last_none c.xs i (sym l.1.0 ∙ e)))),
+                  (λ e. other i m (in_left i c.xs (x ∷ c.ys) (last_none c.xs i (sym l.1.0 ∙ e)))),
             )) u.chain;
         first = ap (λ (h : Ends). h.first) there ∙ u.first;
         last = ap (λ (h : Ends). h.last) there ∙ u.last;
@@ -155,13 +161,14 @@ module _ (x : ℕ) (s : State) (lists : Option ℕ → List ℕ) (r : Rep (λ _.
   detached_rep = let c = cut x (lists k) (r.everyone x low (λ h. h)) in record {
     threaded =
         λ j.
-          elim (cases_key k j) [
-              inl e ↦ subst (λ v. Threaded (detached x s) v (removed x (lists v))) e (at_k c)
-            | inr n ↦ away c j n ];
+        elim (cases_key k j) [
+          | inl e ↦ subst (λ v. Threaded (detached x s) v (removed x (lists v))) e (at_k c)
+          | inr n ↦ away c j n
+        ];
     members =
         λ j i m.
-          let o = r.members j i (in_less x i (lists j) m) in
-          (o.0, o.1, (λ e. absent x (lists j) (r.apart j) (subst (λ v. IsIn v (removed x (lists j))) e m)));
+        let o = r.members j i (in_less x i (lists j) m) in
+        (o.0, o.1, (λ e. absent x (lists j) (r.apart j) (subst (λ v. IsIn v (removed x (lists j))) e m)));
     everyone = λ i h n. still_in x i (lists (s.key i)) n (r.everyone i h (λ z. z));
     apart = λ j. apart_less x (lists j) (r.apart j);
   }

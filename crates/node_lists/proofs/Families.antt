@@ -20,7 +20,7 @@ use Rattle.node_lists.proofs.Attach.{attached_rep}
 pub lists_are : (out : ℕ → Type 0) (s : State) (N : Option ℕ → List ℕ) → Rep out s N → list_of s ≡ N
 lists_are out s N r =
     fun_ext (λ k.
-        let t = r.threaded k in (λ i. follow s.next (t.len i) (t.first i)) ∙ follow_is s.prev s.next None (N k) t.chain)
+    let t = r.threaded k in (λ i. follow s.next (t.len i) (t.first i)) ∙ follow_is s.prev s.next None (N k) t.chain)
 
 pub own_rep : (out : ℕ → Type 0) (s : State) (N : Option ℕ → List ℕ) → Rep out s N → Rep out s (list_of s)
 own_rep out s N r = subst (Rep out s) (sym (lists_are out s N r)) r
@@ -31,10 +31,11 @@ pub length_less : (x : ℕ) (xs : List ℕ) → IsIn x xs → length xs ≡ suc 
 length_less x [] m = absurd m
 length_less x (y ∷ ys) m =
     elim (cases_eq y x) [
-        inl e ↦ ap suc (ap length (sym (ap (λ t. cond t ys (y ∷ removed x ys)) (eq-eqb y x e))))
+      | inl e ↦ ap suc (ap length (sym (ap (λ t. cond t ys (y ∷ removed x ys)) (eq-eqb y x e))))
       | inr n ↦
-            ap suc (length_less x ys (rest n m))
-            ∙ ap (λ l. suc (length l)) (sym (ap (λ t. cond t ys (y ∷ removed x ys)) (eqb_not y x n))) ]
+          ap suc (length_less x ys (rest n m))
+          ∙ ap (λ l. suc (length l)) (sym (ap (λ t. cond t ys (y ∷ removed x ys)) (eqb_not y x n)))
+    ]
   where
     rest : (y ≡ x → ⊥) → IsIn x (y ∷ ys) → IsIn x ys
     rest n (inl e) = absurd (n (sym e))
@@ -51,7 +52,7 @@ fits (suc n) ps d low = by_place (cases_in n ps) (fits n (removed n ps) (apart_l
     by_place (inl m) rest =
         let e = length_less n ps m in
         let h : length (removed n ps) ≤ n =
-                rest (λ i k. below i (in_less n i ps k) (λ f. absent n ps d (subst (λ v. IsIn v (removed n ps)) f k))) in
+        rest (λ i k. below i (in_less n i ps k) (λ f. absent n ps d (subst (λ v. IsIn v (removed n ps)) f k))) in
         omega arith
       where
         below : (i : ℕ) → IsIn i ps → (i ≡ n → ⊥) → i < n
@@ -102,7 +103,7 @@ module _ {T : Type 0} where
 
       slot : (hs : List Head) (k : ℕ)
           → list_slot (slice_get (map (λ (h : Head). follow next h.len (number h.first)) hs) k)
-            ≡ follow next (ends_slot (slice_get hs k)).len (ends_slot (slice_get hs k)).first
+          ≡ follow next (ends_slot (slice_get hs k)).len (ends_slot (slice_get hs k)).first
       slot [] k = refl
       slot (h ∷ hs) zero = refl
       slot (h ∷ hs) (suc k) = slot hs k
@@ -128,18 +129,18 @@ module _ {T : Type 0} where
       let el = list_at_is t in let ek = key_at_is t in let en = held_length t in record {
         members =
             λ k i m.
-              let h = r.members k i (subst (λ (f : Option ℕ → List ℕ). IsIn i (f k)) el m) in
-              (subst (λ n. i < n) (sym en) h.0, ap (λ (f : ℕ → Option ℕ). f i) ek ∙ h.1);
+            let h = r.members k i (subst (λ (f : Option ℕ → List ℕ). IsIn i (f k)) el m) in
+            (subst (λ n. i < n) (sym en) h.0, ap (λ (f : ℕ → Option ℕ). f i) ek ∙ h.1);
         everyone =
             λ i h.
-              let m = r.everyone i (subst (λ n. i < n) en h) (λ z. z) in
-              subst (λ (f : Option ℕ → List ℕ). IsIn i (f (key_at (family_of t) i))) (sym el)
-                (subst (λ k. IsIn i (list_of (links t) k)) (ap (λ (f : ℕ → Option ℕ). f i) (sym ek)) m);
+            let m = r.everyone i (subst (λ n. i < n) en h) (λ z. z) in
+            subst (λ (f : Option ℕ → List ℕ). IsIn i (f (key_at (family_of t) i))) (sym el)
+            (subst (λ k. IsIn i (list_of (links t) k)) (ap (λ (f : ℕ → Option ℕ). f i) (sym ek)) m);
         apart = λ k. subst (λ (f : Option ℕ → List ℕ). Apart (f k)) (sym el) (r.apart k);
         low =
             λ i k e.
-              subst (λ n. i < n) (sym en)
-                (field_low key_of t.nodes.values i k (sym (ap (λ (f : ℕ → Option ℕ). f i) ek) ∙ e));
+            subst (λ n. i < n) (sym en)
+            (field_low key_of t.nodes.values i k (sym (ap (λ (f : ℕ → Option ℕ). f i) ek) ∙ e));
       }
 
   module _ (t0 t1 t2 : ListArena T) (x : ℕ) (r : Rep (λ _. ⊥) (links t0) (list_of (links t0))) (low : x < (links t0).n)
@@ -147,7 +148,7 @@ module _ {T : Type 0} where
     pub out_rep : Rep (λ i. i ≡ x) (links t1) (λ j. removed x (list_of (links t0) j))
     out_rep =
         subst (λ s. Rep (λ i. i ≡ x) s (λ j. removed x (list_of (links t0) j))) (sym e1.state)
-          (detached_rep x (links t0) (list_of (links t0)) r low)
+        (detached_rep x (links t0) (list_of (links t0)) r low)
 
     pub out_low : x < (links t1).n
     out_low = subst (λ (s : State). x < s.n) (sym e1.state) low
@@ -179,7 +180,7 @@ module _ {T : Type 0} where
             ∙ e2.count
             ∙ e1.count
             ∙ sym
-                (length-map t0.heads.values (λ (h : Head). follow (field next_of t0.nodes.values) h.len (number h.first)));
+            (length-map t0.heads.values (λ (h : Head). follow (field next_of t0.nodes.values) h.len (number h.first)));
         lists =
             list_at_is t2
             ∙ lists_are (λ _. ⊥) (links t2) (put_key k (xs ++ x ∷ ys) (λ j. removed x (list_of (links t0) j))) in_rep

@@ -31,22 +31,24 @@ module _ {X : Type 0} where
       → (z ≡ y) ⊎ (slice_get xs i ≡ Some z)
   get_cases xs j i x y z e f =
       elim (cases_eq i j) [
-          inl h ↦ inl (some_same (sym f ∙ ap (slice_get (set xs j y)) h ∙ get_set xs j x y e))
-        | inr n ↦ inr (sym (get_other xs j i y n) ∙ f) ]
+        | inl h ↦ inl (some_same (sym f ∙ ap (slice_get (set xs j y)) h ∙ get_set xs j x y e))
+        | inr n ↦ inr (sym (get_other xs j i y n) ∙ f)
+      ]
 
   pub field_set : (f : X → Option ℕ) (xs : List X) (j : ℕ) (x y : X)
       → slice_get xs j ≡ Some x
       → field f (set xs j y) ≡ put_at (Some j) (f y) (field f xs)
   field_set f xs j x y e =
       fun_ext (λ i.
-          elim (cases_eq i j) [
-              inl h ↦
-                  ap (λ v. of_slot f (slice_get (set xs j y) v)) h
-                  ∙ ap (of_slot f) (get_set xs j x y e)
-                  ∙ sym (put_here (f y) (Some j) (field f xs) i (ap Some (sym h)))
-            | inr n ↦
-                  ap (of_slot f) (get_other xs j i y n)
-                  ∙ sym (put_away (f y) (Some j) (field f xs) i (λ h. n (sym (some_is h)))) ])
+      elim (cases_eq i j) [
+        | inl h ↦
+            ap (λ v. of_slot f (slice_get (set xs j y) v)) h
+            ∙ ap (of_slot f) (get_set xs j x y e)
+            ∙ sym (put_here (f y) (Some j) (field f xs) i (ap Some (sym h)))
+        | inr n ↦
+            ap (of_slot f) (get_other xs j i y n)
+            ∙ sym (put_away (f y) (Some j) (field f xs) i (λ h. n (sym (some_is h))))
+      ])
 
   pub field_same : (f : X → Option ℕ) (xs : List X) (j : ℕ) (x y : X)
       → slice_get xs j ≡ Some x
@@ -54,14 +56,15 @@ module _ {X : Type 0} where
       → field f (set xs j y) ≡ field f xs
   field_same f xs j x y e k =
       fun_ext (λ i.
-          elim (cases_eq i j) [
-              inl h ↦
-                  ap (λ v. of_slot f (slice_get (set xs j y) v)) h
-                  ∙ ap (of_slot f) (get_set xs j x y e)
-                  ∙ k
-                  ∙ ap (of_slot f) (sym e)
-                  ∙ ap (λ v. of_slot f (slice_get xs v)) (sym h)
-            | inr n ↦ ap (of_slot f) (get_other xs j i y n) ])
+      elim (cases_eq i j) [
+        | inl h ↦
+            ap (λ v. of_slot f (slice_get (set xs j y) v)) h
+            ∙ ap (of_slot f) (get_set xs j x y e)
+            ∙ k
+            ∙ ap (of_slot f) (sym e)
+            ∙ ap (λ v. of_slot f (slice_get xs v)) (sym h)
+        | inr n ↦ ap (of_slot f) (get_other xs j i y n)
+      ])
 
   pub map_same : {Y : Type 0} (f : X → Y) (xs : List X) (j : ℕ) (x y : X)
       → slice_get xs j ≡ Some x
@@ -90,13 +93,14 @@ ends_set hs spare j h g e = fun_ext at
     at None = refl
     at (Some k) =
         elim (cases_eq k j) [
-            inl f ↦
-                ap (λ v. ends_slot (slice_get (set hs j g) v)) f
-                ∙ ap ends_slot (get_set hs j h g e)
-                ∙ sym (key_here (ends_of g) (Some j) (ends_at hs spare) (Some k) (ap Some (sym f)))
+          | inl f ↦
+              ap (λ v. ends_slot (slice_get (set hs j g) v)) f
+              ∙ ap ends_slot (get_set hs j h g e)
+              ∙ sym (key_here (ends_of g) (Some j) (ends_at hs spare) (Some k) (ap Some (sym f)))
           | inr n ↦
-                ap ends_slot (get_other hs j k g n)
-                ∙ sym (key_away (ends_of g) (Some j) (ends_at hs spare) (Some k) (λ f. n (sym (some_is f)))) ]
+              ap ends_slot (get_other hs j k g n)
+              ∙ sym (key_away (ends_of g) (Some j) (ends_at hs spare) (Some k) (λ f. n (sym (some_is f))))
+        ]
 
 pub ends_spare : (hs : List Head) (spare g : Head) → ends_at hs g ≡ put_key None (ends_of g) (ends_at hs spare)
 ends_spare hs spare g = fun_ext at

@@ -84,20 +84,21 @@ module _ {T : Type 0} (t : ListArena T) (s : Closed t) where
     wider_links : links wider ≡ links t
     wider_links =
         λ i.
-          record {
-            n = length t.nodes.values;
-            prev = field prev_of t.nodes.values;
-            next = field next_of t.nodes.values;
-            key = field key_of t.nodes.values;
-            ends = (ap (λ xs. ends_at xs t.spare) more.1 ∙ ends_more) i }
+        record {
+          n = length t.nodes.values;
+          prev = field prev_of t.nodes.values;
+          next = field next_of t.nodes.values;
+          key = field key_of t.nodes.values;
+          ends = (ap (λ xs. ends_at xs t.spare) more.1 ∙ ends_more) i;
+        }
 
     pub wider_closed : Closed wider
     wider_closed = (
       record {
         node =
             λ i v e.
-              let m = s.0.node i v e in
-              (m.0, m.1, subst (Leads v.list) (sym more.0) (leads_more v.list t.heads.places l.place.ptr m.2));
+            let m = s.0.node i v e in
+            (m.0, m.1, subst (Leads v.list) (sym more.0) (leads_more v.list t.heads.places l.place.ptr m.2));
         head =
             λ i u e. old u (get_either t.heads.values h i u (sym (ap (λ xs. slice_get xs i) more.1) ∙ e)) (s.0.head i u);
         spare = s.0.spare;
@@ -111,7 +112,7 @@ module _ {T : Type 0} (t : ListArena T) (s : Closed t) where
             → Leads u.first t.nodes.places × Leads u.last t.nodes.places
         old u (inl e) f =
             subst (λ (x : Head). Leads x.first t.nodes.places × Leads x.last t.nodes.places) (sym e)
-              (subst (λ o. Leads o t.nodes.places) (sym ef) tt, subst (λ o. Leads o t.nodes.places) (sym el) tt)
+            (subst (λ o. Leads o t.nodes.places) (sym ef) tt, subst (λ o. Leads o t.nodes.places) (sym el) tt)
         old u (inr p) f = f p
 
     pub wider_family : MoreLists l.number (family_of t) (family_of wider)
@@ -148,7 +149,7 @@ module _ {T : Type 0} (t : ListArena T) (s : Closed t) where
     longer_sound = record {
       node =
           λ i u e.
-            by_kind u (get_either t.nodes.values v i u (sym (ap (λ xs. slice_get xs i) more.1) ∙ e)) (s.0.node i u);
+          by_kind u (get_either t.nodes.values v i u (sym (ap (λ xs. slice_get xs i) more.1) ∙ e)) (s.0.node i u);
       head = λ i h e. let m = s.0.head i h e in (grown h.first m.0, grown h.last m.1);
       spare = (grown t.spare.first s.0.spare.0, grown t.spare.last s.0.spare.1);
     }
@@ -162,10 +163,11 @@ module _ {T : Type 0} (t : ListArena T) (s : Closed t) where
             → Leads u.prev ns.places × Leads u.next ns.places × Leads u.list t.heads.places
         by_kind u (inl e) f =
             subst (λ (x : Node T). Leads x.prev ns.places × Leads x.next ns.places × Leads x.list t.heads.places)
-              (sym e)
-            (subst (λ o. Leads o ns.places) (sym ep) tt,
-             subst (λ o. Leads o ns.places) (sym en) tt,
-             subst (λ o. Leads o t.heads.places) (sym ek) tt)
+            (sym e) (
+              subst (λ o. Leads o ns.places) (sym ep) tt,
+              subst (λ o. Leads o ns.places) (sym en) tt,
+              subst (λ o. Leads o t.heads.places) (sym ek) tt,
+            )
         by_kind u (inr p) f = let m = f p in (grown u.prev m.0, grown u.next m.1, m.2)
 
     longer_rep : Rep (λ i. i ≡ (links t).n) (let z = links t in record z { n = z.n + 1 }) (list_of (links t))
@@ -173,7 +175,7 @@ module _ {T : Type 0} (t : ListArena T) (s : Closed t) where
       threaded = λ k. let m = s.1.threaded k in record { chain = m.chain; first = m.first; last = m.last; len = m.len };
       members =
           λ k i m.
-            let h = s.1.members k i m in let low = h.0 in (omega arith, h.1, (λ e. absurd (omega (arith, e, low))));
+          let h = s.1.members k i m in let low = h.0 in (omega arith, h.1, (λ e. absurd (omega (arith, e, low))));
       everyone = λ i h n. let low : i < (links t).n = omega (arith, n) in s.1.everyone i low (λ z. z);
       apart = s.1.apart;
     }
@@ -181,7 +183,7 @@ module _ {T : Type 0} (t : ListArena T) (s : Closed t) where
     pub longer_out : Rep (λ i. i ≡ l.number) (links longer) (list_of (links t))
     longer_out =
         subst (λ x. Rep (λ i. i ≡ x) (links longer) (list_of (links t))) (sym more.2)
-          (subst (λ z. Rep (λ i. i ≡ (links t).n) z (list_of (links t))) (sym longer_links) longer_rep)
+        (subst (λ z. Rep (λ i. i ≡ (links t).n) z (list_of (links t))) (sym longer_links) longer_rep)
 
     pub longer_low : l.number < (links longer).n
     longer_low = let e = ap (λ (z : State). z.n) longer_links in let f = more.2 in omega arith
@@ -198,13 +200,14 @@ module _ {T : Type 0} (t : ListArena T) (s : Closed t) where
       filled =
           let ys = list_of (links t) None in let ea = (s.1.threaded None).first in
           subst (λ z. Rep (λ _. ⊥) z (put_key None (l.number ∷ ys) (list_of (links t))))
-            ((λ i. attached l.number None None (sym ea i) (links longer)) ∙ sym e2.state)
+          ((λ i. attached l.number None None (sym ea i) (links longer)) ∙ sym e2.state)
           (attached_rep l.number None [] ys (links longer) (list_of (links t)) longer_out longer_low refl)
 
       pub filled_closed : Closed t2
-      filled_closed =
-          (e2.sound,
-           own_rep (λ _. ⊥) (links t2) (put_key None (l.number ∷ list_of (links t) None) (list_of (links t))) filled)
+      filled_closed = (
+        e2.sound,
+        own_rep (λ _. ⊥) (links t2) (put_key None (l.number ∷ list_of (links t) None) (list_of (links t))) filled,
+      )
 
       keys_same : put_at (Some l.number) None (links longer).key ≡ (links t).key
       keys_same = ap (λ (z : State). put_at (Some l.number) None z.key) longer_links ∙ fun_ext at
@@ -212,10 +215,11 @@ module _ {T : Type 0} (t : ListArena T) (s : Closed t) where
           at : (i : ℕ) → put_at (Some l.number) None (links t).key i ≡ (links t).key i
           at i =
               elim (cases_eq i l.number) [
-                  inl e ↦
-                      put_here None (Some l.number) (links t).key i (ap Some (sym e))
-                      ∙ sym (ap (field key_of t.nodes.values) (e ∙ more.2) ∙ field_past key_of t.nodes.values)
-                | inr n ↦ put_away None (Some l.number) (links t).key i (λ e. n (sym (some_same e))) ]
+                | inl e ↦
+                    put_here None (Some l.number) (links t).key i (ap Some (sym e))
+                    ∙ sym (ap (field key_of t.nodes.values) (e ∙ more.2) ∙ field_past key_of t.nodes.values)
+                | inr n ↦ put_away None (Some l.number) (links t).key i (λ e. n (sym (some_same e)))
+              ]
 
       pub filled_family : MoreSpare v.held (family_of t) (family_of t2)
       filled_family =
@@ -230,7 +234,7 @@ module _ {T : Type 0} (t : ListArena T) (s : Closed t) where
             lists =
                 list_at_is t2
                 ∙ lists_are (λ _. ⊥) (links t2) (put_key None (l.number ∷ list_of (links t) None) (list_of (links t)))
-                    filled
+                filled
                 ∙ (λ i. put_key None (ex i ∷ (sym (list_at_is t) i) None) (sym (list_at_is t) i));
             full = full t2 filled_closed.1;
           }

@@ -32,7 +32,8 @@ module _ {T : Type 0} (t : ListArena T) where
         before = None;
         chain = h.chain;
         first = e ∙ h.first;
-        count = n ∙ h.len }
+        count = n ∙ h.len;
+      }
 
   -- where a node is left
   pub record Onward (l : Link) (v : Node T) (left : ℕ) (rest : List ℕ) : Type 0 where

@@ -60,5 +60,5 @@ attached x k b a s =
       key = put_at (Some x) k s.key;
       ends =
           put_key k (record { first = if_none b (Some x) h.first; last = if_none a (Some x) h.last; len = h.len + 1 })
-            s.ends;
+          s.ends;
     }

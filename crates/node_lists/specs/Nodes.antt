@@ -60,7 +60,8 @@ module _ {T : Type 0} where
     prev = field prev_of vs;
     next = field next_of vs;
     key = field key_of vs;
-    ends = ends_at hs spare }
+    ends = ends_at hs spare;
+  }
 
   -- each link leads to a node or a head
   pub record Sound (ns : Rows (Node T)) (hs : Rows Head) (free : Head) : Type 0 where

@@ -21,7 +21,8 @@ module _ (T : Type 0) where
     members = λ k i m. absurd (none_in k i m);
     everyone = λ i h. absurd (omega arith);
     apart = all_apart;
-    low = λ i k e. none_some e }
+    low = λ i k e. none_some e;
+  }
 
 pub empty_good : Good nothing nothing nothing
 empty_good = record {

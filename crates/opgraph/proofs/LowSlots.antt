@@ -17,5 +17,5 @@ pub low_uses : (o : Family Body) (i : Family ℕ) (u : Family (Unit {0}))
     → AreLow (list_at u (Some v)) (length i.held)
 low_uses o i u g v =
     are_low (list_at u (Some v)) (length i.held) (λ s m.
-        let x = value_of (key_at i s) (g.spare s (some_of (g.full_uses.members (Some v) s m).1)) in
-        g.full_inputs.low s x.0 x.1)
+    let x = value_of (key_at i s) (g.spare s (some_of (g.full_uses.members (Some v) s m).1)) in
+    g.full_inputs.low s x.0 x.1)

@@ -29,7 +29,8 @@ kept_more k old new m = record {
   keys = m.keys;
   lists = m.lists;
   count = let e = m.count in omega arith;
-  full = λ z. m.full }
+  full = λ z. m.full;
+}
 
 pub nodes_refl : (f : Family (Unit {0})) → KeptNodes f f
 nodes_refl f = record { keys = refl; lists = λ k. refl; count = refl; nodes = omega arith; full = λ z. z }
@@ -39,8 +40,8 @@ nodes_more old new m = record {
   keys = m.keys;
   lists =
       λ k.
-        ap (λ (h : Option ℕ → List ℕ). h (Some k)) m.lists
-        ∙ key_away (length old.held ∷ old.spares) None (list_at old) (Some k) (λ z. none_some z);
+      ap (λ (h : Option ℕ → List ℕ). h (Some k)) m.lists
+      ∙ key_away (length old.held ∷ old.spares) None (list_at old) (Some k) (λ z. none_some z);
   count = m.count;
   nodes = let e = ap length m.held ∙ length-append old.held (tt ∷ []) in omega arith;
   full = λ z. m.full;
@@ -56,19 +57,19 @@ module _ (o : Family Body) (i i' : Family ℕ) (u u' : Family (Unit {0})) (g : G
     ops_uses = let a = g.ops_uses in let b = l.count in omega arith;
     slots_uses =
         subst (λ n. n ≤ length u'.held) (ap length (sym k.held))
-          (subst (λ n. length i.held ≤ n) (ap length (sym l.held)) g.slots_uses);
+        (subst (λ n. length i.held ≤ n) (ap length (sym l.held)) g.slots_uses);
     reads =
         λ s h.
-          subst (λ (f : ℕ → Option ℕ). IsSome (f s)) (sym l.keys)
-            (g.reads s (subst (λ (f : ℕ → Option ℕ). IsSome (f s)) k.keys h));
+        subst (λ (f : ℕ → Option ℕ). IsSome (f s)) (sym l.keys)
+        (g.reads s (subst (λ (f : ℕ → Option ℕ). IsSome (f s)) k.keys h));
     spare =
         λ s h.
-          subst (λ (f : ℕ → Option ℕ). IsSome (f s)) (sym k.keys)
-            (g.spare s (subst (λ (f : ℕ → Option ℕ). IsSome (f s)) l.keys h));
+        subst (λ (f : ℕ → Option ℕ). IsSome (f s)) (sym k.keys)
+        (g.spare s (subst (λ (f : ℕ → Option ℕ). IsSome (f s)) l.keys h));
     places =
         λ x n s e.
-          ap (λ hs. slice_get hs s) k.held
-          ∙ g.places x n s (ap (λ (f : Option ℕ → List ℕ). slice_get (f (Some x)) n) (sym k.lists) ∙ e);
+        ap (λ hs. slice_get hs s) k.held
+        ∙ g.places x n s (ap (λ (f : Option ℕ → List ℕ). slice_get (f (Some x)) n) (sym k.lists) ∙ e);
     owners = λ s x e. g.owners s x (ap (λ (f : ℕ → Option ℕ). f s) (sym k.keys) ∙ e);
     values = λ s v e. g.values s v (ap (λ (f : ℕ → Option ℕ). f s) (sym l.keys) ∙ e);
   }
@@ -78,17 +79,17 @@ module _ (o : Family Body) (i i' : Family ℕ) (u u' : Family (Unit {0})) (g : G
     ops =
         op_at_is o i' u'
         ∙ fun_ext (λ x.
-              (λ j. row_slot (key_at o x) (slice_get o.held x) (map (λ s. or_zero (l.keys j s)) (k.lists j (Some x)))))
+        (λ j. row_slot (key_at o x) (slice_get o.held x) (map (λ s. or_zero (l.keys j s)) (k.lists j (Some x)))))
         ∙ sym (op_at_is o i u);
     blocks = refl;
     count = refl;
     uses =
         uses_at_is o i' u'
         ∙ fun_ext (λ v.
-              (λ j.
-                  map
-                    (λ s. record { op = record { 0 = or_zero (k.keys j s) }; slot = or_zero (slice_get (k.held j) s) })
-                    (l.lists j (Some v))))
+        (λ j.
+        map
+        (λ s. record { op = record { 0 = or_zero (k.keys j s) }; slot = or_zero (slice_get (k.held j) s) })
+        (l.lists j (Some v))))
         ∙ sym (uses_at_is o i u);
   }
 
@@ -112,9 +113,9 @@ module _ (o : Family Body) (i i' : Family ℕ) (u u' : Family (Unit {0})) (g : G
     ops =
         op_at_is o i u'
         ∙ fun_ext (λ x.
-              ap
-                (λ (f : ℕ → Option ℕ).
-                    row_slot (key_at o x) (slice_get o.held x) (map (λ s. or_zero (f s)) (list_at i (Some x)))) l.keys)
+        ap
+        (λ (f : ℕ → Option ℕ).
+        row_slot (key_at o x) (slice_get o.held x) (map (λ s. or_zero (f s)) (list_at i (Some x)))) l.keys)
         ∙ sym (op_at_is o i u);
     blocks = refl;
     count = refl;
@@ -135,7 +136,7 @@ module _ (o : Family Body) (i i' : Family ℕ) (u u' : Family (Unit {0})) (g : G
       where
         by_size : (x < length o.held) ⊎ (length o.held ≤ x)
             → row_slot (key_at o x) (slice_get (o.held ++ body ∷ []) x) ins
-              ≡ row_slot (key_at o x) (slice_get o.held x) ins
+            ≡ row_slot (key_at o x) (slice_get o.held x) ins
         by_size (inl h) = ap (λ b. row_slot (key_at o x) b ins) (get_more o.held body x h)
         by_size (inr h) = by_key (key_at o x) refl
           where
@@ -148,8 +149,8 @@ module _ (o : Family Body) (i i' : Family ℕ) (u u' : Family (Unit {0})) (g : G
     same_value : (v : ℕ) → HasValue o v → HasValue o' v
     same_value v h =
         subst (λ (f : ℕ → Option ℕ). has_value (f v) (slice_get o'.held v)) (sym m.keys)
-          (subst (λ hs. has_value (key_at o v) (slice_get hs v)) (sym m.held)
-             (subst (has_value (key_at o v)) (sym (get_more o.held body v low)) h))
+        (subst (λ hs. has_value (key_at o v) (slice_get hs v)) (sym m.held)
+        (subst (has_value (key_at o v)) (sym (get_more o.held body v low)) h))
       where
         key_some : (k : Option ℕ) (z : Option Body) → has_value k z → IsSome k
         key_some None z q = absurd q
@@ -181,8 +182,8 @@ module _ (o : Family Body) (i i' : Family ℕ) (u u' : Family (Unit {0})) (g : G
     blocks_same : block_at (graph_of o' i u) ≡ block_at (graph_of o i u)
     blocks_same =
         fun_ext (λ b.
-            ap (λ (f : Option ℕ → List ℕ). f (Some b)) m.lists
-            ∙ key_away (length o.held ∷ o.spares) None (list_at o) (Some b) (λ z. none_some z))
+        ap (λ (f : Option ℕ → List ℕ). f (Some b)) m.lists
+        ∙ key_away (length o.held ∷ o.spares) None (list_at o) (Some b) (λ z. none_some z))
 
     pub more_ops_same : Same (graph_of o i u) (graph_of o' i u)
     more_ops_same = record {
@@ -195,9 +196,9 @@ module _ (o : Family Body) (i i' : Family ℕ) (u u' : Family (Unit {0})) (g : G
     pub more_ops_spares : length o'.spares ≡ length o.spares + 1
     more_ops_spares =
         let e =
-                ap length
-                  (ap (λ (f : Option ℕ → List ℕ). f None) m.lists
-                   ∙ key_here (length o.held ∷ o.spares) None (list_at o) None refl) in
+        ap length
+        (ap (λ (f : Option ℕ → List ℕ). f None) m.lists
+        ∙ key_here (length o.held ∷ o.spares) None (list_at o) None refl) in
         omega arith
 
   module _ (k : ℕ) (m : MoreSpare k i i') where
@@ -221,8 +222,8 @@ module _ (o : Family Body) (i i' : Family ℕ) (u u' : Family (Unit {0})) (g : G
       spare = λ s h. subst (λ (f : ℕ → Option ℕ). IsSome (f s)) (sym m.keys) (g.spare s h);
       places =
           λ x n s z.
-            let old = g.places x n s (ap (λ ps. slice_get ps n) (sym (list_same x)) ∙ z) in
-            held_slot s (Rattle.node_lists.proofs.Fields.low_of i.held s n old) ∙ old;
+          let old = g.places x n s (ap (λ ps. slice_get ps n) (sym (list_same x)) ∙ z) in
+          held_slot s (Rattle.node_lists.proofs.Fields.low_of i.held s n old) ∙ old;
       owners = λ s x z. g.owners s x (ap (λ (f : ℕ → Option ℕ). f s) (sym m.keys) ∙ z);
       values = g.values;
     }
@@ -241,15 +242,15 @@ module _ (o : Family Body) (i i' : Family ℕ) (u u' : Family (Unit {0})) (g : G
         along [] h = refl
         along (p ∷ ps) h =
             λ j.
-              record { op = record { 0 = or_zero (m.keys j p) }; slot = or_zero (held_slot p (h p (inl refl)) j) } ∷
-                along ps (λ s n. h s (inr n)) j
+            record { op = record { 0 = or_zero (m.keys j p) }; slot = or_zero (held_slot p (h p (inl refl)) j) } ∷
+            along ps (λ s n. h s (inr n)) j
 
     pub more_slots_same : Same (graph_of o i u) (graph_of o i' u)
     more_slots_same = record {
       ops =
           op_at_is o i' u
           ∙ fun_ext (λ x.
-                ap (λ ps. row_slot (key_at o x) (slice_get o.held x) (map (λ s. or_zero (key_at u s)) ps)) (list_same x))
+          ap (λ ps. row_slot (key_at o x) (slice_get o.held x) (map (λ s. or_zero (key_at u s)) ps)) (list_same x))
           ∙ sym (op_at_is o i u);
       blocks = refl;
       count = refl;
@@ -259,9 +260,9 @@ module _ (o : Family Body) (i i' : Family ℕ) (u u' : Family (Unit {0})) (g : G
     pub more_slots_spares : length i'.spares ≡ length i.spares + 1
     more_slots_spares =
         let e =
-                ap length
-                  (ap (λ (f : Option ℕ → List ℕ). f None) m.lists
-                   ∙ key_here (length i.held ∷ i.spares) None (list_at i) None refl) in
+        ap length
+        (ap (λ (f : Option ℕ → List ℕ). f None) m.lists
+        ∙ key_here (length i.held ∷ i.spares) None (list_at i) None refl) in
         omega arith
 
   -- one block more
@@ -280,8 +281,8 @@ module _ (o : Family Body) (i i' : Family ℕ) (u u' : Family (Unit {0})) (g : G
       owners = λ s x z. subst (λ (f : ℕ → Option ℕ). IsSome (f x)) (sym m.keys) (g.owners s x z);
       values =
           λ s v z.
-            subst (λ (f : ℕ → Option ℕ). has_value (f v) (slice_get o'.held v)) (sym m.keys)
-              (subst (λ hs. has_value (key_at o v) (slice_get hs v)) (sym m.held) (g.values s v z));
+          subst (λ (f : ℕ → Option ℕ). has_value (f v) (slice_get o'.held v)) (sym m.keys)
+          (subst (λ hs. has_value (key_at o v) (slice_get hs v)) (sym m.held) (g.values s v z));
     }
 
     pub more_blocks_ops : op_at (graph_of o' i u) ≡ op_at (graph_of o i u)
@@ -305,11 +306,12 @@ module _ (o : Family Body) (i i' : Family ℕ) (u u' : Family (Unit {0})) (g : G
     value_new : (v : ℕ) → HasValue o v → HasValue new v
     value_new v h =
         elim (cases_eq v x) [
-            inl d ↦
-                subst (λ z. has_value (key_at o z) (slice_get new.held z)) (sym d)
-                  (subst (has_value (key_at o x)) (sym (get_set o.held x old (record old { code = code }) eo))
-                     (widths (key_at o x) (subst (has_value (key_at o x)) eo (subst (HasValue o) d h))))
-          | inr n ↦ subst (has_value (key_at o v)) (sym (get_other o.held x v (record old { code = code }) n)) h ]
+          | inl d ↦
+              subst (λ z. has_value (key_at o z) (slice_get new.held z)) (sym d)
+              (subst (has_value (key_at o x)) (sym (get_set o.held x old (record old { code = code }) eo))
+              (widths (key_at o x) (subst (has_value (key_at o x)) eo (subst (HasValue o) d h))))
+          | inr n ↦ subst (has_value (key_at o v)) (sym (get_other o.held x v (record old { code = code }) n)) h
+        ]
       where
         widths : (k : Option ℕ) → has_value k (Some old) → has_value k (Some (record old { code = code }))
         widths None q = q
@@ -321,7 +323,8 @@ module _ (o : Family Body) (i i' : Family ℕ) (u u' : Family (Unit {0})) (g : G
         members = λ k j z. let h = g.full_ops.members k j z in (subst (λ n. j < n) (sym length_new) h.0, h.1);
         everyone = λ j z. g.full_ops.everyone j (subst (λ n. j < n) length_new z);
         apart = g.full_ops.apart;
-        low = λ j k z. subst (λ n. j < n) (sym length_new) (g.full_ops.low j k z) };
+        low = λ j k z. subst (λ n. j < n) (sym length_new) (g.full_ops.low j k z);
+      };
       full_inputs = g.full_inputs;
       full_uses = g.full_uses;
       ops_inputs = subst (λ n. n ≤ length i.lists) (sym length_new) g.ops_inputs;
@@ -342,11 +345,11 @@ module _ (o : Family Body) (i i' : Family ℕ) (u u' : Family (Unit {0})) (g : G
         → Rewritten x (record r { code = code }) (graph_of o i u) (graph_of o' i u)
     coded_row r er =
         subst (λ z. Rewritten x (record r { code = code }) (graph_of o i u) (graph_of z i u)) (sym eo') (record {
-      ops = op_at_is new i u ∙ rows ∙ ap (put_at (Some x) (Some (record r { code = code }))) (sym (op_at_is o i u));
-      blocks = refl;
-      count = refl;
-      whole = whole new i u coded_new;
-    })
+          ops = op_at_is new i u ∙ rows ∙ ap (put_at (Some x) (Some (record r { code = code }))) (sym (op_at_is o i u));
+          blocks = refl;
+          count = refl;
+          whole = whole new i u coded_new;
+        })
       where
         row : row_of o i u x ≡ Some r
         row = sym (ap (λ (h : ℕ → Option OpRow). h x) (op_at_is o i u)) ∙ er
@@ -362,13 +365,14 @@ module _ (o : Family Body) (i i' : Family ℕ) (u u' : Family (Unit {0})) (g : G
         rows : row_of new i u ≡ put_at (Some x) (Some (record r { code = code })) (row_of o i u)
         rows =
             fun_ext (λ y.
-                elim (cases_eq x y) [
-                    inl d ↦
-                        ap (row_of new i u) (sym d)
-                        ∙ here
-                        ∙ sym (put_here (Some (record r { code = code })) (Some x) (row_of o i u) y (ap Some d))
-                  | inr n ↦
-                        ap (λ z. row_slot (key_at o y) z (inputs_of i u y))
-                          (get_other o.held x y (record old { code = code }) (λ z. n (sym z)))
-                        ∙ sym
-                            (put_away (Some (record r { code = code })) (Some x) (row_of o i u) y (λ z. n (some_same z))) ])
+            elim (cases_eq x y) [
+              | inl d ↦
+                  ap (row_of new i u) (sym d)
+                  ∙ here
+                  ∙ sym (put_here (Some (record r { code = code })) (Some x) (row_of o i u) y (ap Some d))
+              | inr n ↦
+                  ap (λ z. row_slot (key_at o y) z (inputs_of i u y))
+                  (get_other o.held x y (record old { code = code }) (λ z. n (sym z)))
+                  ∙ sym
+                  (put_away (Some (record r { code = code })) (Some x) (row_of o i u) y (λ z. n (some_same z)))
+            ])

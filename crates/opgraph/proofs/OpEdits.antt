@@ -39,7 +39,7 @@ module _ (o : Family Body) (i : Family ℕ) (u : Family (Unit {0})) (g : Good o 
   no_slots : (x : ℕ) → FreeOp x → inputs_of i u x ≡ []
   no_slots x f =
       ap (map (λ s. or_zero (key_at u s)))
-        (empty_of (list_at i (Some x)) (λ t m. none_not f.key (g.owners t x (g.full_inputs.members (Some x) t m).1)))
+      (empty_of (list_at i (Some x)) (λ t m. none_not f.key (g.owners t x (g.full_inputs.members (Some x) t m).1)))
 
   module _ (x b : ℕ) (body : Body) (ps : List ℕ) (f : FreeOp x) (o1 o' : Family Body)
       (e1 : o1 ≡ record o { held = set o.held x body }) (m : Moved x (Some b) ps o1 o') where
@@ -85,10 +85,10 @@ module _ (o : Family Body) (i : Family ℕ) (u : Family (Unit {0})) (g : Good o 
       owners = λ s y e. let h = g.owners s y e in subst IsSome (sym (key_y y (live_other y h))) h;
       values =
           λ s v e.
-            let h = g.values s v e in
-            let n = live_other v (key_some v (key_at o v) (slice_get o.held v) h) in
-            subst (λ k. has_value k (slice_get o'.held v)) (sym (key_y v n))
-              (subst (has_value (key_at o v)) (sym (held_y v n)) h);
+          let h = g.values s v e in
+          let n = live_other v (key_some v (key_at o v) (slice_get o.held v) h) in
+          subst (λ k. has_value k (slice_get o'.held v)) (sym (key_y v n))
+          (subst (has_value (key_at o v)) (sym (held_y v n)) h);
     }
 
     abbrev pub row : OpRow
@@ -97,14 +97,15 @@ module _ (o : Family Body) (i : Family ℕ) (u : Family (Unit {0})) (g : Good o 
     rows : row_of o' i u ≡ put_at (Some x) (Some row) (row_of o i u)
     rows =
         fun_ext (λ y.
-            elim (cases_eq x y) [
-                inl e ↦
-                    ap (row_of o' i u) (sym e)
-                    ∙ (λ j. row_slot (key_x j) (held_x j) (no_slots x f j))
-                    ∙ sym (put_here (Some row) (Some x) (row_of o i u) y (ap Some e))
-              | inr n ↦
-                    (λ j. row_slot (key_y y n j) (held_y y n j) (inputs_of i u y))
-                    ∙ sym (put_away (Some row) (Some x) (row_of o i u) y (λ e. n (some_same e))) ])
+        elim (cases_eq x y) [
+          | inl e ↦
+              ap (row_of o' i u) (sym e)
+              ∙ (λ j. row_slot (key_x j) (held_x j) (no_slots x f j))
+              ∙ sym (put_here (Some row) (Some x) (row_of o i u) y (ap Some e))
+          | inr n ↦
+              (λ j. row_slot (key_y y n j) (held_y y n j) (inputs_of i u y))
+              ∙ sym (put_away (Some row) (Some x) (row_of o i u) y (λ e. n (some_same e)))
+        ])
 
     pub absent : (c : Option ℕ) → (None ≡ c → ⊥) → removed x (list_at o c) ≡ list_at o c
     absent c n = removed_absent x (list_at o c) (λ k. n (sym f.key ∙ (g.full_ops.members c x k).1))
@@ -112,17 +113,18 @@ module _ (o : Family Body) (i : Family ℕ) (u : Family (Unit {0})) (g : Good o 
     blocks : (qs : List ℕ) → ps ≡ qs → block_at (graph_of o' i u) ≡ put_at (Some b) qs (block_at (graph_of o i u))
     blocks qs e =
         fun_ext (λ y.
-            ap (λ (h : Option ℕ → List ℕ). h (Some y)) m.lists
-            ∙ elim (cases_eq b y) [
-                  inl d ↦
-                      key_here ps (Some b) (λ j. removed x (list_at o1 j)) (Some y) (ap Some d)
-                      ∙ e
-                      ∙ sym (put_here qs (Some b) (block_at (graph_of o i u)) y (ap Some d))
-                | inr n ↦
-                      key_away ps (Some b) (λ j. removed x (list_at o1 j)) (Some y) (λ d. n (some_same d))
-                      ∙ ap (λ (z : Family Body). removed x (list_at z (Some y))) e1
-                      ∙ absent (Some y) (λ d. none_some d)
-                      ∙ sym (put_away qs (Some b) (block_at (graph_of o i u)) y (λ d. n (some_same d))) ])
+        ap (λ (h : Option ℕ → List ℕ). h (Some y)) m.lists
+        ∙ elim (cases_eq b y) [
+          | inl d ↦
+              key_here ps (Some b) (λ j. removed x (list_at o1 j)) (Some y) (ap Some d)
+              ∙ e
+              ∙ sym (put_here qs (Some b) (block_at (graph_of o i u)) y (ap Some d))
+          | inr n ↦
+              key_away ps (Some b) (λ j. removed x (list_at o1 j)) (Some y) (λ d. n (some_same d))
+              ∙ ap (λ (z : Family Body). removed x (list_at z (Some y))) e1
+              ∙ absent (Some y) (λ d. none_some d)
+              ∙ sym (put_away qs (Some b) (block_at (graph_of o i u)) y (λ d. n (some_same d)))
+        ])
 
     pub claimed : (qs : List ℕ) → ps ≡ qs → Added x row qs (graph_of o i u) (graph_of o' i u)
     claimed qs e = record {
@@ -176,21 +178,22 @@ module _ (o : Family Body) (i : Family ℕ) (u : Family (Unit {0})) (g : Good o 
       owners = λ s y e. subst IsSome (sym (gone_key y (owner_other s y e))) (g.owners s y e);
       values =
           λ s v e.
-            subst (λ k. has_value k (slice_get o'.held v)) (sym (gone_key v (value_other s v e)))
-              (subst (λ hs. has_value (key_at o v) (slice_get hs v)) (sym m.held) (g.values s v e));
+          subst (λ k. has_value k (slice_get o'.held v)) (sym (gone_key v (value_other s v e)))
+          (subst (λ hs. has_value (key_at o v) (slice_get hs v)) (sym m.held) (g.values s v e));
     }
 
     rows_gone : row_of o' i u ≡ put_at (Some x) None (row_of o i u)
     rows_gone =
         fun_ext (λ y.
-            elim (cases_eq x y) [
-                inl e ↦
-                    ap (λ z. row_slot (key_at o' z) (slice_get o'.held z) (inputs_of i u z)) (sym e)
-                    ∙ ap (λ k. row_slot k (slice_get o'.held x) (inputs_of i u x)) gone_x
-                    ∙ sym (put_here None (Some x) (row_of o i u) y (ap Some e))
-              | inr n ↦
-                    (λ j. row_slot (gone_key y n j) (slice_get (m.held j) y) (inputs_of i u y))
-                    ∙ sym (put_away None (Some x) (row_of o i u) y (λ e. n (some_same e))) ])
+        elim (cases_eq x y) [
+          | inl e ↦
+              ap (λ z. row_slot (key_at o' z) (slice_get o'.held z) (inputs_of i u z)) (sym e)
+              ∙ ap (λ k. row_slot k (slice_get o'.held x) (inputs_of i u x)) gone_x
+              ∙ sym (put_here None (Some x) (row_of o i u) y (ap Some e))
+          | inr n ↦
+              (λ j. row_slot (gone_key y n j) (slice_get (m.held j) y) (inputs_of i u y))
+              ∙ sym (put_away None (Some x) (row_of o i u) y (λ e. n (some_same e)))
+        ])
 
     x_key : key_at o x ≡ Some r.block
     x_key = row_back o i u g x r er
@@ -200,19 +203,20 @@ module _ (o : Family Body) (i : Family ℕ) (u : Family (Unit {0})) (g : Good o 
       ops = op_at_is o' i u ∙ rows_gone ∙ ap (put_at (Some x) None) (sym (op_at_is o i u));
       blocks =
           fun_ext (λ y.
-              ap (λ (h : Option ℕ → List ℕ). h (Some y)) m.lists
-              ∙ key_away (x ∷ removed x (list_at o None)) None (λ j. removed x (list_at o j)) (Some y) (λ d. none_some d)
-              ∙ elim (cases_eq r.block y) [
-                    inl d ↦
-                        ap (λ z. removed x (list_at o (Some z))) (sym d)
-                        ∙ sym
-                            (put_here (removed x (list_at o (Some r.block))) (Some r.block) (block_at (graph_of o i u))
-                               y (ap Some d))
-                  | inr n ↦
-                        removed_absent x (list_at o (Some y)) (λ k. n (some_same (sym x_key ∙ (g.full_ops.members (Some y) x k).1)))
-                        ∙ sym
-                            (put_away (removed x (list_at o (Some r.block))) (Some r.block) (block_at (graph_of o i u))
-                               y (λ d. n (some_same d))) ]);
+          ap (λ (h : Option ℕ → List ℕ). h (Some y)) m.lists
+          ∙ key_away (x ∷ removed x (list_at o None)) None (λ j. removed x (list_at o j)) (Some y) (λ d. none_some d)
+          ∙ elim (cases_eq r.block y) [
+            | inl d ↦
+                ap (λ z. removed x (list_at o (Some z))) (sym d)
+                ∙ sym
+                (put_here (removed x (list_at o (Some r.block))) (Some r.block) (block_at (graph_of o i u))
+                y (ap Some d))
+            | inr n ↦
+                removed_absent x (list_at o (Some y)) (λ k. n (some_same (sym x_key ∙ (g.full_ops.members (Some y) x k).1)))
+                ∙ sym
+                (put_away (removed x (list_at o (Some r.block))) (Some r.block) (block_at (graph_of o i u))
+                y (λ d. n (some_same d)))
+          ]);
       count = m.count;
       whole = whole o' i u released_good;
     }

@@ -14,9 +14,10 @@ use Rattle.opgraph.proofs.Sames.{row_after, rewritten_trans, value_stays}
 put_same : (x : ℕ) (r : OpRow) (g : Graph) → op_at g x ≡ Some r → op_at g ≡ put_at (Some x) (Some r) (op_at g)
 put_same x r g e =
     fun_ext (λ y.
-        elim (cases_eq x y) [
-            inl d ↦ ap (op_at g) (sym d) ∙ e ∙ sym (put_here (Some r) (Some x) (op_at g) y (ap Some d))
-          | inr n ↦ sym (put_away (Some r) (Some x) (op_at g) y (λ z. n (some_same z))) ])
+    elim (cases_eq x y) [
+      | inl d ↦ ap (op_at g) (sym d) ∙ e ∙ sym (put_here (Some r) (Some x) (op_at g) y (ap Some d))
+      | inr n ↦ sym (put_away (Some r) (Some x) (op_at g) y (λ z. n (some_same z)))
+    ])
 
 still : (x : ℕ) (r s : OpRow) (g : Graph) → IsWhole g → op_at g x ≡ Some r → r ≡ s → Rewritten x s g g
 still x r s g w e d = record { ops = put_same x s g (e ∙ ap Some d); blocks = refl; count = refl; whole = w }
@@ -53,7 +54,7 @@ extended_more x v vs ws g h k f m d r e =
     let s : OpRow = record r { inputs = r.inputs ++ vs } in let a = f r e in let b = m s (row_after x s g h a) in
     let z : r.inputs ++ vs ++ v ∷ [] ≡ r.inputs ++ ws = append_assoc r.inputs vs (v ∷ []) ∙ ap (λ us. r.inputs ++ us) d in
     subst (λ us. Rewritten x (record r { inputs = us }) g k) z
-      (rewritten_trans x s (record s { inputs = s.inputs ++ v ∷ [] }) g h k a b)
+    (rewritten_trans x s (record s { inputs = s.inputs ++ v ∷ [] }) g h k a b)
 
 -- so far: the op has these many inputs less
 abbrev pub Shortened : ℕ → ℕ → Graph → Graph → Type 0
@@ -81,7 +82,7 @@ pub shortened_op : (x n : ℕ) (g h : Graph) → IsOp g x → Shortened x n g h 
 shortened_op x n g h o f =
     let r = value_of (op_at g x) o in
     subst IsSome (sym (row_after x (record r.0 { inputs = take (length r.0.inputs - n) r.0.inputs }) g h (f r.0 r.1)))
-      refl
+    refl
 
 length_take : (n : ℕ) (xs : List ℕ) → n ≤ length xs → length (take n xs) ≡ n
 length_take zero xs h = refl
@@ -112,7 +113,7 @@ shortened_more x n g h k f m low r e =
     let one : length r.inputs - n ≡ suc (length r.inputs - (n + 1)) = omega arith in
     let z : front (take (length r.inputs - n) r.inputs) ≡ take (length r.inputs - (n + 1)) r.inputs = ap (λ c. front (take c r.inputs)) one ∙ front_take (length r.inputs - (n + 1)) r.inputs (omega arith) in
     subst (λ us. Rewritten x (record r { inputs = us }) g k) z
-      (rewritten_trans x s (record s { inputs = front s.inputs }) g h k a b)
+    (rewritten_trans x s (record s { inputs = front s.inputs }) g h k a b)
 
 pub shortened_all : (x n : ℕ) (g h : Graph)
     → n ≡ length (inputs_in (op_at g x))
@@ -137,13 +138,13 @@ value_at g (v ∷ vs) (suc k) a low = value_at g vs k a.1 (omega arith)
 pub numbers_more : (vs : List ValueId) (k : ℕ)
     → k < length vs
     → numbers (take k vs) ++ (Rattle.std.proofs.Common.get_or vs k (record { 0 = 0 })).0 ∷ []
-      ≡ numbers (take (k + 1) vs)
+    ≡ numbers (take (k + 1) vs)
 numbers_more vs k low = more vs k low ∙ (let e : suc k ≡ k + 1 = omega arith in ap (λ n. numbers (take n vs)) e)
   where
     more : (ws : List ValueId) (n : ℕ)
         → n < length ws
         → numbers (take n ws) ++ (Rattle.std.proofs.Common.get_or ws n (record { 0 = 0 })).0 ∷ []
-          ≡ numbers (take (suc n) ws)
+        ≡ numbers (take (suc n) ws)
     more [] n h = absurd (omega arith)
     more (w ∷ ws) zero h = refl
     more (w ∷ ws) (suc n) h = ap (λ us. w.0 ∷ us) (more ws n (omega arith))

@@ -15,19 +15,21 @@ same_trans g h k a b = record {
   ops = b.ops ∙ a.ops;
   blocks = b.blocks ∙ a.blocks;
   count = b.count ∙ a.count;
-  uses = b.uses ∙ a.uses }
+  uses = b.uses ∙ a.uses;
+}
 
 module _ {X : Type 0} (x : ℕ) (a b : X) (f : ℕ → X) where
   pub put_twice : put_at (Some x) a (put_at (Some x) b f) ≡ put_at (Some x) a f
   put_twice =
       fun_ext (λ y.
-          elim (cases_eq x y) [
-              inl e ↦
-                  put_here a (Some x) (put_at (Some x) b f) y (ap Some e) ∙ sym (put_here a (Some x) f y (ap Some e))
-            | inr n ↦
-                  put_away a (Some x) (put_at (Some x) b f) y (λ e. n (some_same e))
-                  ∙ put_away b (Some x) f y (λ e. n (some_same e))
-                  ∙ sym (put_away a (Some x) f y (λ e. n (some_same e))) ])
+      elim (cases_eq x y) [
+        | inl e ↦
+            put_here a (Some x) (put_at (Some x) b f) y (ap Some e) ∙ sym (put_here a (Some x) f y (ap Some e))
+        | inr n ↦
+            put_away a (Some x) (put_at (Some x) b f) y (λ e. n (some_same e))
+            ∙ put_away b (Some x) f y (λ e. n (some_same e))
+            ∙ sym (put_away a (Some x) f y (λ e. n (some_same e)))
+      ])
 
 pub row_after : (x : ℕ) (r : OpRow) (g h : Graph) → Rewritten x r g h → op_at h x ≡ Some r
 row_after x r g h w = ap (λ (f : ℕ → Option OpRow). f x) w.ops ∙ put_here (Some r) (Some x) (op_at g) x refl
@@ -37,7 +39,8 @@ rewritten_trans x r s g h k a b = record {
   ops = b.ops ∙ ap (put_at (Some x) (Some s)) a.ops ∙ put_twice x (Some s) (Some r) (op_at g);
   blocks = b.blocks ∙ a.blocks;
   count = b.count ∙ a.count;
-  whole = b.whole }
+  whole = b.whole;
+}
 
 -- values stay where no width changes
 pub value_stays : (x : ℕ) (r s : OpRow) (g h : Graph)
@@ -49,11 +52,12 @@ pub value_stays : (x : ℕ) (r s : OpRow) (g h : Graph)
     → IsValue h v
 value_stays x r s g h e w a v q =
     subst has_width (sym (ap (λ (f : ℕ → Option OpRow). f v) a.ops))
-      (elim (cases_eq x v) [
-           inl d ↦
-               subst has_width (sym (put_here (Some s) (Some x) (op_at g) v (ap Some d)))
-                 (subst IsSome (sym w) (subst has_width (ap (op_at g) (sym d) ∙ e) q))
-         | inr n ↦ subst has_width (sym (put_away (Some s) (Some x) (op_at g) v (λ z. n (some_same z)))) q ])
+    (elim (cases_eq x v) [
+      | inl d ↦
+          subst has_width (sym (put_here (Some s) (Some x) (op_at g) v (ap Some d)))
+          (subst IsSome (sym w) (subst has_width (ap (op_at g) (sym d) ∙ e) q))
+      | inr n ↦ subst has_width (sym (put_away (Some s) (Some x) (op_at g) v (λ z. n (some_same z)))) q
+    ])
 
 pub values_stay : (g h : Graph) → ((v : ℕ) → IsValue g v → IsValue h v) → (vs : List ℕ)
     → AreValues g vs
@@ -78,9 +82,9 @@ pub added_value : (x : ℕ) (row : OpRow) (ps : List ℕ) (g h : Graph)
 added_value x row ps g h a v q =
     let other : x ≡ v → ⊥ = λ e. subst has_width (ap (op_at g) (sym e) ∙ a.fresh) q in
     subst has_width
-      (sym
-         (ap (λ (f : ℕ → Option OpRow). f v) a.ops ∙ put_away (Some row) (Some x) (op_at g) v (λ e. other (some_same e))))
-      q
+    (sym
+    (ap (λ (f : ℕ → Option OpRow). f v) a.ops ∙ put_away (Some row) (Some x) (op_at g) v (λ e. other (some_same e))))
+    q
 
 -- room is made, and then the op is there
 pub added_after : (x : ℕ) (row : OpRow) (ps qs : List ℕ) (g h k : Graph)
@@ -115,7 +119,8 @@ rewritten_after x row g h k s w = record {
   ops = w.ops ∙ ap (put_at (Some x) (Some row)) s.ops;
   blocks = w.blocks ∙ s.blocks;
   count = w.count ∙ s.count;
-  whole = w.whole }
+  whole = w.whole;
+}
 
 pub removed_after : (x : ℕ) (r now : OpRow) (g h k : Graph)
     → Rewritten x now g h
@@ -150,17 +155,18 @@ unused_after x r g h w a e = none_among (uses_at h x) (λ t m. old t (a.whole.us
         → ⊥
     old t f m =
         elim (cases_eq x t.op.0) [
-            inl d ↦
-                Rattle.heap_nodes.proofs.Places.none_some
-                  (sym
-                     (ap (λ z. Rattle.std.proofs.Common.slice_get (inputs_in z) t.slot)
-                        (ap (op_at h) (sym d) ∙ row_after x (record r { inputs = [] }) g h a))
-                   ∙ f m)
+          | inl d ↦
+              Rattle.heap_nodes.proofs.Places.none_some
+              (sym
+              (ap (λ z. Rattle.std.proofs.Common.slice_get (inputs_in z) t.slot)
+              (ap (op_at h) (sym d) ∙ row_after x (record r { inputs = [] }) g h a))
+              ∙ f m)
           | inr n ↦
-                subst (Rattle.opgraph.specs.Graph.IsAmong t) e
-                  ((w.uses x t).1
-                     (ap (λ z. Rattle.std.proofs.Common.slice_get (inputs_in z) t.slot)
-                        (sym
-                           (ap (λ (q : ℕ → Option OpRow). q t.op.0) a.ops
-                            ∙ put_away (Some (record r { inputs = [] })) (Some x) (op_at g) t.op.0 (λ z. n (some_same z))))
-                      ∙ f m)) ]
+              subst (Rattle.opgraph.specs.Graph.IsAmong t) e
+              ((w.uses x t).1
+              (ap (λ z. Rattle.std.proofs.Common.slice_get (inputs_in z) t.slot)
+              (sym
+              (ap (λ (q : ℕ → Option OpRow). q t.op.0) a.ops
+              ∙ put_away (Some (record r { inputs = [] })) (Some x) (op_at g) t.op.0 (λ z. n (some_same z))))
+              ∙ f m))
+        ]

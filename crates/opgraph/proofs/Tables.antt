@@ -53,8 +53,8 @@ module _ (o : Family Body) (i : Family ℕ) (u : Family (Unit {0})) where
       by_size x (inr h) =
           ap op_slot (table_out (length o.held) (row_of o i u) x h)
           ∙ sym
-              (ap (λ b. row_slot (key_at o x) b (Rattle.opgraph.specs.Parts.inputs_of i u x)) (get_past o.held x h)
-               ∙ no_body (key_at o x) (Rattle.opgraph.specs.Parts.inputs_of i u x))
+          (ap (λ b. row_slot (key_at o x) b (Rattle.opgraph.specs.Parts.inputs_of i u x)) (get_past o.held x h)
+          ∙ no_body (key_at o x) (Rattle.opgraph.specs.Parts.inputs_of i u x))
 
   pub uses_at_is : uses_at (graph_of o i u) ≡ uses_of i u
   uses_at_is = fun_ext (λ v. by_size v (below_or v (length u.lists)))

@@ -9,14 +9,14 @@ move_first-requires-clause-node c =
 pub loop-slot-smaller : goal.loop-slot-smaller
 loop-slot-smaller c =
     shorter c.args.before c.args.after c.requires.other c.in-Some.slot c.args.uses.now c.loop-slot.uses
-      c.move_first.new.self (sym c.first.ensures ∙ c.in-Some.is) c.move_first.ensures c.loop-slot.invariant
+    c.move_first.new.self (sym c.first.ensures ∙ c.in-Some.is) c.move_first.ensures c.loop-slot.invariant
 
 pub loop-slot-preserved : goal.loop-slot-preserved
 loop-slot-preserved c =
     step c.args.before c.args.after c.requires.other c.in-Some.slot c.args.uses.now c.loop-slot.uses
-      c.move_first.new.self (sym c.first.ensures ∙ c.in-Some.is) c.move_first.ensures c.loop-slot.invariant
+    c.move_first.new.self (sym c.first.ensures ∙ c.in-Some.is) c.move_first.ensures c.loop-slot.invariant
 
 pub returns : goal.returns
 returns c =
     all c.args.before c.args.after c.requires.other c.args.uses.now c.loop-slot.uses
-      (sym c.first.ensures ∙ c.in_default.is) c.loop-slot.invariant
+    (sym c.first.ensures ∙ c.in_default.is) c.loop-slot.invariant

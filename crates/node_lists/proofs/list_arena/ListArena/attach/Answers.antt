@@ -28,10 +28,11 @@ returns g c =
     let made = ends_made b (Some x) ((links t0).ends k) c.head-head.result head c.pick.result c.pick-2.result (c.head-head.result.len + 1) a (Some x) refl old c.pick.ensures.number c.pick-2.ensures.number in
     let len = ap (λ (h : Ends). h.len + 1) old in
     attached_steps t0 c.set_place.new.self c.set_next.new.self c.set_prev.new.self c.set_head.new.self x b a k
-      (ends_of head) c.set_place.ensures.edited c.set_next.ensures c.set_prev.ensures c.set_head.ensures
+    (ends_of head) c.set_place.ensures.edited c.set_next.ensures c.set_prev.ensures c.set_head.ensures
     (made
-     ∙ (λ i.
-           record {
-             first = if_none b (Some x) ((links t0).ends k).first;
-             last = if_none a (Some x) ((links t0).ends k).last;
-             len = len i }))
+    ∙ (λ i.
+    record {
+      first = if_none b (Some x) ((links t0).ends k).first;
+      last = if_none a (Some x) ((links t0).ends k).last;
+      len = len i;
+    }))

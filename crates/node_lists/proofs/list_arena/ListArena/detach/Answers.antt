@@ -26,16 +26,17 @@ returns g c =
     Rattle.std.proofs.Common.refl old c.pick.ensures.number c.pick-2.ensures.number in
     let len = ap (λ (h : Ends). h.len - 1) old in
     detached_steps t0 c.set_next.new.self c.set_prev.new.self c.set_head.new.self x (number node.prev)
-      (number node.next) k (ends_of head) c.set_next.ensures c.set_prev.ensures c.set_head.ensures
+    (number node.next) k (ends_of head) c.set_next.ensures c.set_prev.ensures c.set_head.ensures
     (ap (of_slot prev_of) c.node-node.ensures) (ap (of_slot next_of) c.node-node.ensures)
-      (ap (of_slot key_of) c.node-node.ensures)
-      (made
-       ∙ (λ i.
-             record {
-               first =
-                   Rattle.node_lists.specs.ListArena.if_none (number node.prev) (number node.next)
-                     ((links t0).ends k).first;
-               last =
-                   Rattle.node_lists.specs.ListArena.if_none (number node.next) (number node.prev)
-                     ((links t0).ends k).last;
-               len = len i }))
+    (ap (of_slot key_of) c.node-node.ensures)
+    (made
+    ∙ (λ i.
+    record {
+      first =
+          Rattle.node_lists.specs.ListArena.if_none (number node.prev) (number node.next)
+          ((links t0).ends k).first;
+      last =
+          Rattle.node_lists.specs.ListArena.if_none (number node.next) (number node.prev)
+          ((links t0).ends k).last;
+      len = len i;
+    }))

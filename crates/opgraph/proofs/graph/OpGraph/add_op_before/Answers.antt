@@ -15,9 +15,9 @@ attach_all-requires-clause-op c =
     let z = value_of (op_at c.want.new.self c.args.at.0) (same_op c.args.at.0 c.args.self.now c.want.new.self c.want.ensures.same c.requires.at) in
     let row : OpRow = record { block = z.0.block; code = c.args.code; inputs = []; width = c.args.width } in
     subst IsSome
-      (sym
-         (added_op x row (inserted x c.args.at.0 (block_at c.want.new.self z.0.block)) c.want.new.self
-            c.claim_before-op.new.self (c.claim_before-op.ensures.added z.0 z.1))) refl
+    (sym
+    (added_op x row (inserted x c.args.at.0 (block_at c.want.new.self z.0.block)) c.want.new.self
+    c.claim_before-op.new.self (c.claim_before-op.ensures.added z.0 z.1))) refl
 
 pub attach_all-requires-clause-values : goal.attach_all-requires-clause-values
 attach_all-requires-clause-values c =
@@ -25,10 +25,10 @@ attach_all-requires-clause-values c =
     let z = value_of (op_at c.want.new.self c.args.at.0) (same_op c.args.at.0 c.args.self.now c.want.new.self c.want.ensures.same c.requires.at) in
     let row : OpRow = record { block = z.0.block; code = c.args.code; inputs = []; width = c.args.width } in
     values_stay c.want.new.self c.claim_before-op.new.self
-      (added_value x row (inserted x c.args.at.0 (block_at c.want.new.self z.0.block)) c.want.new.self
-         c.claim_before-op.new.self (c.claim_before-op.ensures.added z.0 z.1)) (numbers c.args.inputs.now)
+    (added_value x row (inserted x c.args.at.0 (block_at c.want.new.self z.0.block)) c.want.new.self
+    c.claim_before-op.new.self (c.claim_before-op.ensures.added z.0 z.1)) (numbers c.args.inputs.now)
     (values_stay c.args.self.now c.want.new.self (same_value c.args.self.now c.want.new.self c.want.ensures.same)
-       (numbers c.args.inputs.now) c.requires.inputs)
+    (numbers c.args.inputs.now) c.requires.inputs)
 
 pub returns-clause-added : goal.returns-clause-added
 returns-clause-added c r e =
@@ -39,5 +39,5 @@ returns-clause-added c r e =
     let claimed = c.claim_before-op.ensures.added r (ap (λ (f : ℕ → Option OpRow). f c.args.at.0) c.want.ensures.same.ops ∙ e) in
     let a = added_after x row ps qs c.args.self.now c.want.new.self c.claim_before-op.new.self c.want.ensures.same claimed (ap (λ (f : ℕ → List ℕ). inserted x c.args.at.0 (f b)) c.want.ensures.same.blocks) in
     added_then x row (record row { inputs = numbers c.args.inputs.now }) qs c.args.self.now c.claim_before-op.new.self
-      c.attach_all.new.self a
-      (c.attach_all.ensures.row row (added_op x row ps c.want.new.self c.claim_before-op.new.self claimed)) refl
+    c.attach_all.new.self a
+    (c.attach_all.ensures.row row (added_op x row ps c.want.new.self c.claim_before-op.new.self claimed)) refl

@@ -20,24 +20,24 @@ pub move_before-requires-clause-node : goal.move_before-requires-clause-node
 move_before-requires-clause-node c =
     let f = free_op c.self.inside.ops c.self.inside.inputs c.self.inside.uses c.self.invariant c.in-Some.op (sym c.first.ensures ∙ c.in-Some.is) in
     subst (λ n. c.in-Some.op < n)
-      (sym
-         (ap (λ (z : Family Body). length z.held) c.set_held.ensures
-          ∙ length-set c.self.inside.ops.held c.in-Some.op (record { code = c.args.code; width = c.args.width }))) f.low
+    (sym
+    (ap (λ (z : Family Body). length z.held) c.set_held.ensures
+    ∙ length-set c.self.inside.ops.held c.in-Some.op (record { code = c.args.code; width = c.args.width }))) f.low
 
 pub move_before-requires-clause-at : goal.move_before-requires-clause-at
 move_before-requires-clause-at c =
     subst (λ n. c.args.at < n)
-      (sym
-         (ap (λ (z : Family Body). length z.held) c.set_held.ensures
-          ∙ length-set c.self.inside.ops.held c.in-Some.op (record { code = c.args.code; width = c.args.width })))
+    (sym
+    (ap (λ (z : Family Body). length z.held) c.set_held.ensures
+    ∙ length-set c.self.inside.ops.held c.in-Some.op (record { code = c.args.code; width = c.args.width })))
     (op_low c.self.inside.ops c.self.inside.inputs c.self.inside.uses c.self.invariant c.args.at
-       (subst (λ (z : Graph). IsOp z c.args.at) (sym c.self.view_is) c.requires.at))
+    (subst (λ (z : Graph). IsOp z c.args.at) (sym c.self.view_is) c.requires.at))
 
 pub move_before-requires-clause-other : goal.move_before-requires-clause-other
 move_before-requires-clause-other c =
     let f = free_op c.self.inside.ops c.self.inside.inputs c.self.inside.uses c.self.invariant c.in-Some.op (sym c.first.ensures ∙ c.in-Some.is) in
     op_other c.self.inside.ops c.self.inside.inputs c.self.inside.uses c.self.invariant c.in-Some.op c.args.at f
-      (subst (λ (z : Graph). IsOp z c.args.at) (sym c.self.view_is) c.requires.at)
+    (subst (λ (z : Graph). IsOp z c.args.at) (sym c.self.view_is) c.requires.at)
 
 pub invariant_of-self : goal.invariant_of-self
 invariant_of-self c =
@@ -48,8 +48,8 @@ invariant_of-self c =
     let key : key_at c.set_held.new.self c.args.at ≡ Some k.0 = ap (λ (z : Family Body). key_at z c.args.at) c.set_held.ensures ∙ k.1 in
     let m = subst (λ j. Rattle.node_lists.specs.Families.Moved c.in-Some.op j (inserted c.in-Some.op c.args.at (removed c.in-Some.op (list_at c.set_held.new.self j))) c.set_held.new.self c.move_before.new.self) key c.move_before.ensures in
     claimed_good o i u g c.in-Some.op k.0 (record { code = c.args.code; width = c.args.width })
-      (inserted c.in-Some.op c.args.at (removed c.in-Some.op (list_at c.set_held.new.self (Some k.0)))) f
-      c.set_held.new.self c.move_before.new.self c.set_held.ensures m
+    (inserted c.in-Some.op c.args.at (removed c.in-Some.op (list_at c.set_held.new.self (Some k.0)))) f
+    c.set_held.new.self c.move_before.new.self c.set_held.ensures m
 
 pub returns-in-Some-clause-added : goal.returns-in-Some-clause-added
 returns-in-Some-clause-added c r er =
@@ -63,13 +63,13 @@ returns-in-Some-clause-added c r er =
     let same = ap (λ (z : Family Body). removed c.in-Some.op (list_at z (Some r.block))) c.set_held.ensures ∙ absent o i u g c.in-Some.op r.block (record { code = c.args.code; width = c.args.width }) ps f c.set_held.new.self c.move_before.new.self c.set_held.ensures m (Some r.block) (λ d. none_some d) in
     let blocks = same ∙ ap (λ (z : Graph). block_at z r.block) c.self.view_is in
     subst
-      (λ (z : Graph).
-          Added c.in-Some.op (record { block = r.block; code = c.args.code; inputs = []; width = c.args.width })
-            (inserted c.in-Some.op c.args.at (block_at c.args.self.now r.block)) z (graph_of c.move_before.new.self i u))
-      c.self.view_is
+    (λ (z : Graph).
+    Added c.in-Some.op (record { block = r.block; code = c.args.code; inputs = []; width = c.args.width })
+    (inserted c.in-Some.op c.args.at (block_at c.args.self.now r.block)) z (graph_of c.move_before.new.self i u))
+    c.self.view_is
     (claimed o i u g c.in-Some.op r.block (record { code = c.args.code; width = c.args.width }) ps f c.set_held.new.self
-       c.move_before.new.self c.set_held.ensures m (inserted c.in-Some.op c.args.at (block_at c.args.self.now r.block))
-       (ap (inserted c.in-Some.op c.args.at) blocks))
+    c.move_before.new.self c.set_held.ensures m (inserted c.in-Some.op c.args.at (block_at c.args.self.now r.block))
+    (ap (inserted c.in-Some.op c.args.at) blocks))
 
 pub returns-in-Some-clause-spare_ops : goal.returns-in-Some-clause-spare_ops
 returns-in-Some-clause-spare_ops c =
@@ -80,6 +80,6 @@ returns-in-Some-clause-spare_ops c =
     let key : key_at c.set_held.new.self c.args.at ≡ Some k.0 = ap (λ (z : Family Body). key_at z c.args.at) c.set_held.ensures ∙ k.1 in
     let m = subst (λ j. Rattle.node_lists.specs.Families.Moved c.in-Some.op j (inserted c.in-Some.op c.args.at (removed c.in-Some.op (list_at c.set_held.new.self j))) c.set_held.new.self c.move_before.new.self) key c.move_before.ensures in
     claimed_spares o i u g c.in-Some.op k.0 (record { code = c.args.code; width = c.args.width })
-      (inserted c.in-Some.op c.args.at (removed c.in-Some.op (list_at c.set_held.new.self (Some k.0)))) f
-      c.set_held.new.self c.move_before.new.self c.set_held.ensures m
-      ∙ ap (λ (z : Graph). z.spare_ops) c.self.view_is
+    (inserted c.in-Some.op c.args.at (removed c.in-Some.op (list_at c.set_held.new.self (Some k.0)))) f
+    c.set_held.new.self c.move_before.new.self c.set_held.ensures m
+    ∙ ap (λ (z : Graph). z.spare_ops) c.self.view_is

@@ -10,7 +10,7 @@ use Rattle.opgraph.proofs.graph.OpGraph.code.Goals as goal
 pub held-requires : goal.held-requires
 held-requires c =
     op_low c.self.inside.ops c.self.inside.inputs c.self.inside.uses c.self.invariant c.args.op.0
-      (subst (λ (z : Graph). IsOp z c.args.op.0) (sym c.self.view_is) c.requires)
+    (subst (λ (z : Graph). IsOp z c.args.op.0) (sym c.self.view_is) c.requires)
 
 pub returns : goal.returns
 returns c =
@@ -19,4 +19,4 @@ returns c =
     let r = row_is o i u c.self.invariant x k.0 k.1 in
     let row = ap (λ (z : Graph). op_at z x) (sym c.self.view_is) ∙ ap (λ (h : ℕ → Option OpRow). h x) (op_at_is o i u) ∙ r.2 in
     subst (λ v. IfSome v (λ z. c.held.result.code ≡ z.code)) (sym row)
-      (ap (λ (b : Body). b.code) (some_same (sym c.held.ensures ∙ r.1)))
+    (ap (λ (b : Body). b.code) (some_same (sym c.held.ensures ∙ r.1)))

@@ -10,7 +10,7 @@ use Rattle.opgraph.proofs.graph.OpGraph.detach.Goals as goal
 pub last-requires : goal.last-requires
 last-requires c =
     op_list c.self.inside.ops c.self.inside.inputs c.self.inside.uses c.self.invariant c.args.op
-      (subst (λ (z : Graph). IsOp z c.args.op) (sym c.self.view_is) c.requires.op)
+    (subst (λ (z : Graph). IsOp z c.args.op) (sym c.self.view_is) c.requires.op)
 
 pub move_first-requires-clause-node : goal.move_first-requires-clause-node
 move_first-requires-clause-node c =
@@ -28,15 +28,15 @@ pub invariant_of-self : goal.invariant_of-self
 invariant_of-self c =
     let l = last_split (list_at c.self.inside.inputs (Some c.args.op)) c.in-Some.slot (sym c.last.ensures ∙ c.in-Some.is) in
     detached_good c.self.inside.ops c.self.inside.inputs c.self.inside.uses c.self.invariant c.in-Some.slot c.args.op
-      l.0 l.1 c.move_first.new.self c.move_first-in-Some.new.self c.move_first.ensures c.move_first-in-Some.ensures
+    l.0 l.1 c.move_first.new.self c.move_first-in-Some.new.self c.move_first.ensures c.move_first-in-Some.ensures
 
 pub returns-in-Some-clause-row : goal.returns-in-Some-clause-row
 returns-in-Some-clause-row c r e =
     let l = last_split (list_at c.self.inside.inputs (Some c.args.op)) c.in-Some.slot (sym c.last.ensures ∙ c.in-Some.is) in
     subst
-      (λ (z : Graph).
-          Rewritten c.args.op (record r { inputs = front r.inputs }) z
-            (graph_of c.self.inside.ops c.move_first.new.self c.move_first-in-Some.new.self)) c.self.view_is
+    (λ (z : Graph).
+    Rewritten c.args.op (record r { inputs = front r.inputs }) z
+    (graph_of c.self.inside.ops c.move_first.new.self c.move_first-in-Some.new.self)) c.self.view_is
     (detached_row c.self.inside.ops c.self.inside.inputs c.self.inside.uses c.self.invariant c.in-Some.slot c.args.op l.0 l.1 c.move_first.new.self c.move_first-in-Some.new.self c.move_first.ensures c.move_first-in-Some.ensures r
     (ap (λ (z : Graph). op_at z c.args.op) c.self.view_is ∙ e))
 
@@ -44,21 +44,21 @@ pub returns-in-Some-clause-spare_slots : goal.returns-in-Some-clause-spare_slots
 returns-in-Some-clause-spare_slots c =
     let l = last_split (list_at c.self.inside.inputs (Some c.args.op)) c.in-Some.slot (sym c.last.ensures ∙ c.in-Some.is) in
     detached_spares c.self.inside.ops c.self.inside.inputs c.self.inside.uses c.self.invariant c.in-Some.slot c.args.op
-      l.0 l.1 c.move_first.new.self c.move_first-in-Some.new.self c.move_first.ensures c.move_first-in-Some.ensures
+    l.0 l.1 c.move_first.new.self c.move_first-in-Some.new.self c.move_first.ensures c.move_first-in-Some.ensures
     ∙ ap (λ (z : Graph). z.spare_slots + 1) c.self.view_is
 
 pub returns-in_default-clause-row : goal.returns-in_default-clause-row
 returns-in_default-clause-row c r e =
     absurd
-      (last_some c.self.inside.ops c.self.inside.inputs c.self.inside.uses c.self.invariant c.args.op
-         (subst (λ (z : Graph). IsOp z c.args.op) (sym c.self.view_is) c.requires.op)
-         (subst (λ (z : Graph). 0 < length (inputs_in (op_at z c.args.op))) (sym c.self.view_is) c.requires.some)
-         (sym c.last.ensures ∙ c.in_default.is))
+    (last_some c.self.inside.ops c.self.inside.inputs c.self.inside.uses c.self.invariant c.args.op
+    (subst (λ (z : Graph). IsOp z c.args.op) (sym c.self.view_is) c.requires.op)
+    (subst (λ (z : Graph). 0 < length (inputs_in (op_at z c.args.op))) (sym c.self.view_is) c.requires.some)
+    (sym c.last.ensures ∙ c.in_default.is))
 
 pub returns-in_default-clause-spare_slots : goal.returns-in_default-clause-spare_slots
 returns-in_default-clause-spare_slots c =
     absurd
-      (last_some c.self.inside.ops c.self.inside.inputs c.self.inside.uses c.self.invariant c.args.op
-         (subst (λ (z : Graph). IsOp z c.args.op) (sym c.self.view_is) c.requires.op)
-         (subst (λ (z : Graph). 0 < length (inputs_in (op_at z c.args.op))) (sym c.self.view_is) c.requires.some)
-         (sym c.last.ensures ∙ c.in_default.is))
+    (last_some c.self.inside.ops c.self.inside.inputs c.self.inside.uses c.self.invariant c.args.op
+    (subst (λ (z : Graph). IsOp z c.args.op) (sym c.self.view_is) c.requires.op)
+    (subst (λ (z : Graph). 0 < length (inputs_in (op_at z c.args.op))) (sym c.self.view_is) c.requires.some)
+    (sym c.last.ensures ∙ c.in_default.is))

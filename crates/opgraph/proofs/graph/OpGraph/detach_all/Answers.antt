@@ -18,7 +18,7 @@ slots-preserved c =
     record {
       row =
           shortened_more c.args.op c.slots.counter c.args.self.now c.slots.self c.detach.new.self c.slots.invariant.row
-            c.detach.ensures.row low;
+          c.detach.ensures.row low;
       ops = omega arith;
       slots = omega arith;
     }

@@ -12,7 +12,7 @@ use Rattle.opgraph.proofs.graph.OpGraph.input.Goals.{in-None, in-Some}
 pub nth-requires : goal.nth-requires
 nth-requires c =
     op_list c.self.inside.ops c.self.inside.inputs c.self.inside.uses c.self.invariant c.args.op.0
-      (subst (λ (z : Graph). IsOp z c.args.op.0) (sym c.self.view_is) c.requires.op)
+    (subst (λ (z : Graph). IsOp z c.args.op.0) (sym c.self.view_is) c.requires.op)
 
 pub list-value-requires : goal.list-value-requires
 list-value-requires c =
@@ -32,14 +32,15 @@ returns-clause-value c =
     let got = get_in (list_at i (Some x)) c.args.slot low in
     let at = ap (λ z. slice_get (inputs_in z) c.args.slot) row ∙ get_map (λ s. or_zero (key_at u s)) (list_at i (Some x)) c.args.slot got.0 got.1 in
     elim c.match-nth.branch [
-        in-None w ↦ none_some (sym w.in-None.is ∙ c.nth.ensures ∙ got.1)
+      | in-None w ↦ none_some (sym w.in-None.is ∙ c.nth.ensures ∙ got.1)
       | in-Some w ↦
-            let e = some_same (sym w.in-Some.is ∙ c.nth.ensures ∙ got.1) in
-            at
-            ∙ ap Some
-                (same (key_at u got.0)
-                 ∙ ap (λ z. unwrap_or z 0) (ap (key_at u) (sym e) ∙ sym w.list-value.ensures ∙ sym w.value-is)
-                 ∙ sym c.unwrap_or.ensures) ]
+          let e = some_same (sym w.in-Some.is ∙ c.nth.ensures ∙ got.1) in
+          at
+          ∙ ap Some
+          (same (key_at u got.0)
+          ∙ ap (λ z. unwrap_or z 0) (ap (key_at u) (sym e) ∙ sym w.list-value.ensures ∙ sym w.value-is)
+          ∙ sym c.unwrap_or.ensures)
+    ]
   where
     same : (v : Option ℕ) → or_zero v ≡ unwrap_or v 0
     same None = Rattle.std.proofs.Common.refl

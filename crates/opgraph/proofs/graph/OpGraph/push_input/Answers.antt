@@ -14,5 +14,5 @@ attach-requires-clause-value c =
 pub returns-clause-row : goal.returns-clause-row
 returns-clause-row c r e =
     rewritten_after c.args.op.0 (record r { inputs = r.inputs ++ c.args.v.0 ∷ [] }) c.args.self.now c.reserve.new.self
-      c.attach.new.self c.reserve.ensures.same
-      (c.attach.ensures.row r (ap (λ (f : ℕ → Option OpRow). f c.args.op.0) c.reserve.ensures.same.ops ∙ e))
+    c.attach.new.self c.reserve.ensures.same
+    (c.attach.ensures.row r (ap (λ (f : ℕ → Option OpRow). f c.args.op.0) c.reserve.ensures.same.ops ∙ e))

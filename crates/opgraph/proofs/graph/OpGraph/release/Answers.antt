@@ -11,7 +11,7 @@ use Rattle.opgraph.proofs.graph.OpGraph.release.Goals as goal
 pub move_first-requires-clause-node : goal.move_first-requires-clause-node
 move_first-requires-clause-node c =
     op_low c.self.inside.ops c.self.inside.inputs c.self.inside.uses c.self.invariant c.args.op
-      (subst (λ (z : Graph). IsOp z c.args.op) (sym c.self.view_is) c.requires.op)
+    (subst (λ (z : Graph). IsOp z c.args.op) (sym c.self.view_is) c.requires.op)
 
 pub invariant_of-self : goal.invariant_of-self
 invariant_of-self c =
@@ -32,7 +32,7 @@ returns-clause-removed c r er =
     let none = sym (row_ins o i u g x r row) ∙ ap inputs_in (sym er) ∙ c.requires.inputs in
     let unused = ap (λ (h : ℕ → List Slot). h x) (sym (uses_at_is o i u)) ∙ ap (λ (z : Graph). uses_at z x) c.self.view_is ∙ c.requires.uses in
     subst (λ (z : Graph). Removed x r z (graph_of c.move_first.new.self i u)) c.self.view_is
-      (released o i u g x r row none unused c.move_first.new.self c.move_first.ensures)
+    (released o i u g x r row none unused c.move_first.new.self c.move_first.ensures)
 
 pub returns-clause-spare_ops : goal.returns-clause-spare_ops
 returns-clause-spare_ops c =
@@ -43,4 +43,4 @@ returns-clause-spare_ops c =
     let none = sym (row_ins o i u g x r.0 r.1) ∙ ap inputs_in (sym r.1 ∙ sym at) ∙ ap (λ (z : Graph). inputs_in (op_at z x)) c.self.view_is ∙ c.requires.inputs in
     let unused = ap (λ (h : ℕ → List Slot). h x) (sym (uses_at_is o i u)) ∙ ap (λ (z : Graph). uses_at z x) c.self.view_is ∙ c.requires.uses in
     released_spares o i u g x r.0 r.1 none unused c.move_first.new.self c.move_first.ensures
-      ∙ ap (λ (z : Graph). z.spare_ops + 1) c.self.view_is
+    ∙ ap (λ (z : Graph). z.spare_ops + 1) c.self.view_is

@@ -12,7 +12,7 @@ use Rattle.opgraph.proofs.graph.OpGraph.set_input.Goals as goal
 pub nth-requires : goal.nth-requires
 nth-requires c =
     op_list c.self.inside.ops c.self.inside.inputs c.self.inside.uses c.self.invariant c.args.op.0
-      (subst (λ (z : Graph). IsOp z c.args.op.0) (sym c.self.view_is) c.requires.op)
+    (subst (λ (z : Graph). IsOp z c.args.op.0) (sym c.self.view_is) c.requires.op)
 
 pub move_first-requires-clause-node : goal.move_first-requires-clause-node
 move_first-requires-clause-node c =
@@ -24,22 +24,22 @@ move_first-requires-clause-node c =
 pub move_first-requires-clause-list : goal.move_first-requires-clause-list
 move_first-requires-clause-list c =
     value_list c.self.inside.ops c.self.inside.inputs c.self.inside.uses c.self.invariant c.args.v.0
-      (subst (λ (z : Graph). IsValue z c.args.v.0) (sym c.self.view_is) c.requires.value)
+    (subst (λ (z : Graph). IsValue z c.args.v.0) (sym c.self.view_is) c.requires.value)
 
 pub invariant_of-self : goal.invariant_of-self
 invariant_of-self c =
     relinked_good c.self.inside.ops c.self.inside.inputs c.self.inside.uses c.self.invariant c.in-Some.slot c.args.op.0
-      c.args.slot c.args.v.0 (sym c.nth.ensures ∙ c.in-Some.is)
-      (subst (λ (z : Graph). IsValue z c.args.v.0) (sym c.self.view_is) c.requires.value) c.move_first.new.self
-      c.move_first.ensures
+    c.args.slot c.args.v.0 (sym c.nth.ensures ∙ c.in-Some.is)
+    (subst (λ (z : Graph). IsValue z c.args.v.0) (sym c.self.view_is) c.requires.value) c.move_first.new.self
+    c.move_first.ensures
 
 pub returns-in-Some-clause-row : goal.returns-in-Some-clause-row
 returns-in-Some-clause-row c r e =
     let o = c.self.inside.ops in let i = c.self.inside.inputs in let u = c.self.inside.uses in
     subst
-      (λ (z : Graph).
-          Rewritten c.args.op.0 (record r { inputs = set r.inputs c.args.slot c.args.v.0 }) z
-            (graph_of o i c.move_first.new.self)) c.self.view_is
+    (λ (z : Graph).
+    Rewritten c.args.op.0 (record r { inputs = set r.inputs c.args.slot c.args.v.0 }) z
+    (graph_of o i c.move_first.new.self)) c.self.view_is
     (relinked_row o i u c.self.invariant c.in-Some.slot c.args.op.0 c.args.slot c.args.v.0 (sym c.nth.ensures ∙ c.in-Some.is) (subst (λ (z : Graph). IsValue z c.args.v.0) (sym c.self.view_is) c.requires.value) c.move_first.new.self c.move_first.ensures r
     (ap (λ (z : Graph). op_at z c.args.op.0) c.self.view_is ∙ e))
 
