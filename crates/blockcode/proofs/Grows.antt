@@ -1,6 +1,6 @@
 -- The run of code on blocks only adds to what it has shown.
 use Rattle.std.proofs.Common.{◌≡◌, ℕ, Bool, true, false, List, [], ◌∷◌, refl, Option, Some, None}
-use Rattle.std.specs.Prelude.{◌==◌, ◌%◌, cond, slice_get}
+use Rattle.std.specs.Prelude.{◌==◌, ◌%◌, cond, drop, slice_get}
 use Rattle.machine.specs.Trace.{End, Call, Other, Store}
 use Rattle.machine.specs.TwoWay.{IsFront}
 use Rattle.machine.specs.Machine.{IsMonotone}
@@ -24,7 +24,7 @@ use Rattle.blockcode.specs.declared.code.Block.{Block}
 use Rattle.blockcode.specs.declared.code.Code.{Code}
 use Rattle.blockcode.specs.declared.code.Exit.{Exit}
 use Rattle.blockcode.specs.declared.code.Exit.TheVariants as X
-use Rattle.blockcode.specs.Run.{CodeState, widths, does_return, enters, enters_by, returns_with, chosen, leave, pass, pass_in, code_machine}
+use Rattle.blockcode.specs.Run.{CodeState, widths, call_returns, enters, enters_by, returns_with, chosen, leave, pass, pass_in, code_machine}
 
 -- ---- statements
 
@@ -109,13 +109,13 @@ adds_leave ws (X.Test e taken other) s = adds_enters (value_of ws s.local.env e)
 adds_leave ws (X.Switch e arms) s = adds_enters (value_of ws s.local.env e) s (chosen arms s) (λ n. adds_chosen arms s n)
 adds_leave ws X.Stop s = adds_none s.local.world
 
-adds_pass : (l : Listing) (ws : ℕ → ℕ) (o : Option Stmt) (e : Exit) (s : CodeState) → Passes s (pass l ws o e s)
-adds_pass l ws (Some x) e s = adds_simple l ws (does_return l) x s.local
-adds_pass l ws None e s = adds_leave ws e s
+adds_pass : (l : Listing) (ws : ℕ → ℕ) (ss : List Stmt) (e : Exit) (s : CodeState) → Passes s (pass l ws ss e s)
+adds_pass l ws [] e s = adds_leave ws e s
+adds_pass l ws (x ∷ rest) e s = adds_simple l ws (λ a. call_returns rest e) x s.local
 
 adds_in : (l : Listing) (ws : ℕ → ℕ) (b : Option Block) (s : CodeState) → Passes s (pass_in l ws b s)
 adds_in l ws None s = adds_none s.local.world
-adds_in l ws (Some b) s = adds_pass l ws (slice_get b.body s.position) b.exit s
+adds_in l ws (Some b) s = adds_pass l ws (drop s.position b.body) b.exit s
 
 code_at : (over : Option End) (s t : CodeState) → s.local.world.over ≡ over → Passes s t → IsFront (shown s.local.world) (shown (unless_over over s t).local.world)
 code_at None s t e h = front_of_going (shown s.local.world) (shown t.local.world) e h

@@ -9,6 +9,6 @@ pub mod Runs
 mod Sets
 pub mod Places
 mod Firsts
-mod Order
+pub mod Order
 mod Entries
 pub mod Grows

@@ -1,5 +1,5 @@
 -- Numbering by what is mentioned.
-use Rattle.std.proofs.Common.{◌≡◌, ℕ, ◌+◌, ◌<◌, List, [], ◌∷◌, ◌++◌, length, drop, Option, refl, sym, ap, ◌∙◌}
+use Rattle.std.proofs.Common.{◌≡◌, ℕ, ◌+◌, ◌<◌, List, [], ◌∷◌, ◌++◌, length, drop, Option, refl, sym, ap, ◌∙◌, append_assoc}
 use Rattle.std.proofs.Math.ListN.{get_or}
 use Rattle.std.proofs.lemmas.List.{at_drop_more}
 use Rattle.cmeaning.specs.declared.numbering.Next.{Next}
@@ -21,6 +21,10 @@ use Rattle.cmeaning.specs.declared.tree.Stmt.TheOpen.{Stmt-F}
 use Rattle.cmeaning.specs.declared.tree.Stmt.TheVariants as S
 use Rattle.cmeaning.specs.declared.tree.CalleeDecl.{CalleeDecl}
 use Rattle.cmeaning.specs.Mentions.{Mention, Callee, Variable, mentioned, numbered, expr_step, in_expr, in_exprs, in_target, stmt_step, arm_step, in_stmt, in_arm, in_arms, in_body}
+
+pub in_append : (xs ys : List Stmt) → in_body (xs ++ ys) ≡ in_body xs ++ in_body ys
+in_append [] ys = refl
+in_append (x ∷ xs) ys = ap (λ l. in_stmt x ++ l) (in_append xs ys) ∙ sym (append_assoc (in_stmt x) (in_body xs) (in_body ys))
 
 pub numbered_append : (callees : List CalleeDecl) (xs ys : List Mention) (n : Option Next) → numbered callees (xs ++ ys) n ≡ numbered callees ys (numbered callees xs n)
 numbered_append callees [] ys n = refl
@@ -59,7 +63,7 @@ pub numbered_overflow : (callees : List CalleeDecl) (next : Option Next) (op : O
 numbered_overflow callees next op a b = of_two callees (E.Overflow op a b) a b next (in_layer (E.Overflow op a b) (Expr-F.Overflow op a b) (E.rolls-Overflow op a b))
 
 -- a statement that is a layer
-in_statement : (s : Stmt) (l : Stmt-F Stmt Arm) → roll-Stmt l ≡ s → in_stmt s ≡ stmt_step (map-Stmt Stmt Arm (List Mention) (List Mention) in_stmt in_arm l)
+pub in_statement : (s : Stmt) (l : Stmt-F Stmt Arm) → roll-Stmt l ≡ s → in_stmt s ≡ stmt_step (map-Stmt Stmt Arm (List Mention) (List Mention) in_stmt in_arm l)
 unfolding in_stmt in_arm
 in_statement s l is = ap in_stmt (sym is) ∙ fold-roll-Stmt (List Mention) (List Mention) stmt_step arm_step l
 

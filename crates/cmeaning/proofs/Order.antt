@@ -47,7 +47,7 @@ below_chain_z (negsuc a) (pos b) (negsuc c) p q = absurd cc
 below_chain_z (negsuc a) (negsuc b) (pos c) p q = refl
 below_chain_z (negsuc a) (negsuc b) (negsuc c) p q = below_chain c b a q p
 
-before_chain : (a b c : ParamStorage) → is_before a b ≡ true → is_before b c ≡ true → is_before a c ≡ true
+pub before_chain : (a b c : ParamStorage) → is_before a b ≡ true → is_before b c ≡ true → is_before a c ≡ true
 before_chain (Register a) (Register b) (Register c) p q = below_chain a b c p q
 before_chain (Register a) (Register b) (Unique c) p q = refl
 before_chain (Register a) (Register b) (Stack c) p q = refl

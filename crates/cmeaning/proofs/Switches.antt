@@ -3,7 +3,7 @@ use Rattle.std.proofs.Common.{◌≡◌, ℕ, ◌&&◌, Bool, List, [], ◌∷�
 use Rattle.cmeaning.specs.declared.tree.CFunction.{CFunction}
 use Rattle.cmeaning.specs.declared.tree.Expr.{Expr}
 use Rattle.cmeaning.specs.declared.tree.Arm.{Arm}
-use Rattle.cmeaning.specs.declared.tree.Stmt.{Stmt, fold-roll-Stmt}
+use Rattle.cmeaning.specs.declared.tree.Stmt.{Stmt, fold-roll-Stmt, roll-Stmt, map-Stmt}
 use Rattle.cmeaning.specs.declared.tree.Stmt.TheFolds.{fold_out-Arm}
 use Rattle.cmeaning.specs.declared.tree.Stmt.TheOpen.{Stmt-F}
 use Rattle.cmeaning.specs.declared.tree.Stmt.TheVariants as S
@@ -11,6 +11,12 @@ use Rattle.cmeaning.specs.Do.{widths_in}
 use Rattle.cmeaning.specs.Shape.{shape_of, is_condition}
 use Rattle.cmeaning.specs.Valid.{Rule, Cased, rule_step, cased_step, rule_of, cased_of, cases_of, all_cases, has_case, all_hold, arms_hold, are_cases_of}
 use Rattle.cmeaning.specs.Arms.{arms_right}
+
+-- of a statement that is a layer
+pub rule_of_layer : (f : CFunction) (labels : ℕ) (s : Stmt) (y : Stmt-F Stmt Arm) → roll-Stmt y ≡ s
+    → rule_of f labels s ≡ rule_step f labels (map-Stmt Stmt Arm Rule Cased (rule_of f labels) (cased_of f labels) y)
+unfolding rule_of cased_of
+rule_of_layer f labels s y is = ap (rule_of f labels) (sym is) ∙ fold-roll-Stmt Rule Cased (rule_step f labels) cased_step y
 
 pub cased_is : (f : CFunction) (labels : ℕ) (a : Arm) → cased_of f labels a ≡ record { cases = a.cases; body = map (rule_of f labels) a.body }
 unfolding cased_of rule_of

@@ -130,6 +130,14 @@ left_word l offset k left = word_of (is_big l (register_space l)) (bytes_at (siz
 
 -- ---- simple statements
 
+-- the address that a statement calls
+abbrev pub callee_in : Stmt-F Stmt Arm → Option ℕ
+callee_in (Stmt-F.Call v callee args) = Some callee
+callee_in s = None
+
+abbrev pub callee_of : Stmt → Option ℕ
+callee_of s = callee_in (out-Stmt s)
+
 -- by the widths of the variables, and by whether the callee at an address returns. What is no simple statement has no
 -- meaning here.
 abbrev pub do_layer : Listing → (ℕ → ℕ) → (ℕ → Bool) → Stmt-F Stmt Arm → Local → Local

@@ -22,11 +22,12 @@ use Rattle.blockcode.specs.declared.code.Exit.TheVariants as X
 use Rattle.blockcode.specs.declared.code.Block.{Block}
 use Rattle.blockcode.specs.declared.code.Code.{Code}
 use Rattle.blockcode.specs.Run.{CodeState, widths, enters, enters_by, returns_with, leave, code_step, code_machine}
+use Rattle.blockcode.specs.Plain.{AreSimple}
 use Rattle.blockcode.specs.Laid.{label_at, goto_line, goto, exit_lines, laid_from}
 use Rattle.cmeaning.proofs.Grows.{c_grows}
 use Rattle.blockcode.proofs.Grows.{code_grows}
-use Rattle.blockcode.proofs.Straight.{get_of_drop, none_of_drop, rest_of_drop, still, step_in}
-use Rattle.layout_laws.proofs.Pieces.{steps_of, AllSimple}
+use Rattle.blockcode.proofs.Straight.{get_of_drop, rest_of_drop, still, step_in}
+use Rattle.layout_laws.proofs.Pieces.{steps_of}
 use Rattle.layout_laws.proofs.Follows.{Given, StandsFrom, Leads, JumpLeads, IsLaid, Related, Went, goes_on, entered, arrives, ended_goes, jump_goes, simple_goes, c_is, c_still, front}
 
 -- ---- returns
@@ -123,9 +124,9 @@ exit_goes l k f g n (X.Test e taken other) u c go same mu laid left rank = test_
 exit_goes l k f g n (X.Switch e arms) u c go same mu laid left rank = absurd laid
 exit_goes l k f g n X.Stop u c go same mu laid left rank = absurd laid
 
-body_goes : (l : Listing) (k : Code) (f : CFunction) (g : Given l k f) (n : ℕ) (b : Block) (ss : List Stmt) (u : CodeState) (c : CState) → u.local.world.over ≡ None → u.local ≡ c.local → slice_get k.blocks u.block ≡ Some b → drop u.position b.body ≡ ss → AllSimple (returns_by f.callees) ss → drop c.position (flat_of f) ≡ steps_of (returns_by f.callees) g.place g.out (ss ++ (exit_lines g.labels (suc u.block) b.exit ++ laid_from g.labels (suc u.block) (drop (suc u.block) k.blocks))) c.position → n + u.block ≡ length k.blocks → Went l k f g n u c
+body_goes : (l : Listing) (k : Code) (f : CFunction) (g : Given l k f) (n : ℕ) (b : Block) (ss : List Stmt) (u : CodeState) (c : CState) → u.local.world.over ≡ None → u.local ≡ c.local → slice_get k.blocks u.block ≡ Some b → drop u.position b.body ≡ ss → AreSimple (returns_by f.callees) ss b.exit → drop c.position (flat_of f) ≡ steps_of (returns_by f.callees) g.place g.out (ss ++ (exit_lines g.labels (suc u.block) b.exit ++ laid_from g.labels (suc u.block) (drop (suc u.block) k.blocks))) c.position → n + u.block ≡ length k.blocks → Went l k f g n u c
 body_goes l k f g n b [] u c go same get here simple left rank =
-    exit_goes l k f g n b.exit u c go same (step_in l k u b None go get (none_of_drop b.body u.position here)) (g.exits u.block b get) left rank
+    exit_goes l k f g n b.exit u c go same (step_in l k u b [] go get here) (g.exits u.block b get) left rank
 body_goes l k f g n b (s ∷ ss) u c go same get here simple left rank = simple_goes l k f g n u c b s ss go same get here simple left rank
 
 goes_at : (l : Listing) (k : Code) (f : CFunction) (g : Given l k f) (n : ℕ) (u : CodeState) (c : CState) (o : Option End) → u.local.world.over ≡ o → Related l k f g n u c → Went l k f g n u c

@@ -12,15 +12,17 @@ use Rattle.cmeaning.specs.declared.tree.CFunction.{CFunction}
 use Rattle.cmeaning.specs.Do.{Local, do_simple, widths_in}
 use Rattle.cmeaning.specs.Flat.{Flat, Do, Test, Jump, flat_of, returns_by, piece_of}
 use Rattle.cmeaning.specs.Step.{CState, carry_out, c_step, c_machine}
+use Rattle.cmeaning.proofs.Do.{do_by_callee}
 use Rattle.cmeaning.proofs.Flat.{piece_of_goto}
 use Rattle.blockcode.specs.declared.code.Exit.{Exit}
 use Rattle.blockcode.specs.declared.code.Exit.TheVariants as X
 use Rattle.blockcode.specs.declared.code.Block.{Block}
 use Rattle.blockcode.specs.declared.code.Code.{Code}
-use Rattle.blockcode.specs.Run.{CodeState, widths, does_return, enters, code_step, code_machine}
+use Rattle.blockcode.specs.Run.{CodeState, widths, call_returns, enters, code_step, code_machine}
+use Rattle.blockcode.specs.Plain.{AreSimple}
 use Rattle.blockcode.specs.Laid.{label_at, goto_line, goto, exit_lines, laid_from}
 use Rattle.blockcode.proofs.Straight.{dropped, get_of_drop, rest_of_drop, step_in}
-use Rattle.layout_laws.proofs.Pieces.{steps_of, AllSimple}
+use Rattle.layout_laws.proofs.Pieces.{steps_of}
 use Rattle.layout_laws.proofs.Positions.{label_steps}
 
 -- from the position p on stand the lines of the blocks from a number on
@@ -51,8 +53,7 @@ pub record Given (l : Listing) (k : Code) (f : CFunction) : Type 0 where
   pub place : ℕ → ℕ
   pub out : ℕ
   pub widths_are : widths k.variables ≡ widths_in f
-  pub returns_are : does_return l ≡ returns_by f.callees
-  pub simple : (n : ℕ) (x : Block) → slice_get k.blocks n ≡ Some x → AllSimple (returns_by f.callees) x.body
+  pub simple : (n : ℕ) (x : Block) → slice_get k.blocks n ≡ Some x → AreSimple (returns_by f.callees) x.body x.exit
   pub exits : (n : ℕ) (x : Block) → slice_get k.blocks n ≡ Some x → IsLaid l k f labels place out (suc n) x.exit
 
 -- ---- what is related
@@ -61,7 +62,7 @@ pub record Given (l : Listing) (k : Code) (f : CFunction) : Type 0 where
 pub record At (k : Code) (f : CFunction) (labels : List (Option ℕ)) (place : ℕ → ℕ) (out n : ℕ) (u : CodeState) (c : CState) : Type 0 where
   pub block : Block
   pub get : slice_get k.blocks u.block ≡ Some block
-  pub simple : AllSimple (returns_by f.callees) (drop u.position block.body)
+  pub simple : AreSimple (returns_by f.callees) (drop u.position block.body) block.exit
   pub left : drop c.position (flat_of f) ≡ steps_of (returns_by f.callees) place out (drop u.position block.body ++ (exit_lines labels (suc u.block) block.exit ++ laid_from labels (suc u.block) (drop (suc u.block) k.blocks))) c.position
   pub rank : n + u.block ≡ length k.blocks
 
@@ -90,7 +91,7 @@ enters_at l k f g u c begin lt stands =
     let returns = returns_by f.callees in
     let rest = exit_lines g.labels (suc u.block) (b.0).exit ++ laid_from g.labels (suc u.block) (drop (suc u.block) k.blocks) in
     let whole : (b.0).body ≡ drop u.position (b.0).body = ap (λ z. drop z (b.0).body) (sym begin) in
-    let P : List Stmt → Type 0 = λ ss. AllSimple returns ss in
+    let P : List Stmt → Type 0 = λ ss. AreSimple returns ss (b.0).exit in
     record {
       block = b.0;
       get = b.1;
@@ -124,22 +125,23 @@ front f place out p s x rest left steps span =
 
 -- ---- a statement
 
-pub simple_goes : (l : Listing) (k : Code) (f : CFunction) (g : Given l k f) (n : ℕ) (u : CodeState) (c : CState) (b : Block) (s : Stmt) (ss : List Stmt) → u.local.world.over ≡ None → u.local ≡ c.local → slice_get k.blocks u.block ≡ Some b → drop u.position b.body ≡ s ∷ ss → AllSimple (returns_by f.callees) (s ∷ ss) → drop c.position (flat_of f) ≡ steps_of (returns_by f.callees) g.place g.out (s ∷ (ss ++ (exit_lines g.labels (suc u.block) b.exit ++ laid_from g.labels (suc u.block) (drop (suc u.block) k.blocks)))) c.position → n + u.block ≡ length k.blocks → Went l k f g n u c
+pub simple_goes : (l : Listing) (k : Code) (f : CFunction) (g : Given l k f) (n : ℕ) (u : CodeState) (c : CState) (b : Block) (s : Stmt) (ss : List Stmt) → u.local.world.over ≡ None → u.local ≡ c.local → slice_get k.blocks u.block ≡ Some b → drop u.position b.body ≡ s ∷ ss → AreSimple (returns_by f.callees) (s ∷ ss) b.exit → drop c.position (flat_of f) ≡ steps_of (returns_by f.callees) g.place g.out (s ∷ (ss ++ (exit_lines g.labels (suc u.block) b.exit ++ laid_from g.labels (suc u.block) (drop (suc u.block) k.blocks)))) c.position → n + u.block ≡ length k.blocks → Went l k f g n u c
 simple_goes l k f g n u c b s ss go same get here simple left rank =
     let returns = returns_by f.callees in
     let ws = widths_in f in
     let rest = ss ++ (exit_lines g.labels (suc u.block) b.exit ++ laid_from g.labels (suc u.block) (drop (suc u.block) k.blocks)) in
-    let one = front f g.place g.out c.position s (Do s) rest left (ap (λ a. a.steps g.place g.out c.position) simple.0.piece) (ap (λ a. a.span) simple.0.piece) in
-    let x : Local = do_simple l (widths k.variables) (does_return l) s u.local in
+    let one = front f g.place g.out c.position s (Do s) rest left (ap (λ a. a.steps g.place g.out c.position) (simple.0.0).piece) (ap (λ a. a.span) (simple.0.0).piece) in
+    let says : ℕ → Bool = λ a. call_returns ss b.exit in
+    let x : Local = do_simple l (widths k.variables) says s u.local in
     let y : Local = do_simple l ws returns s c.local in
-    let xy : x ≡ y = ap (λ w. do_simple l w (does_return l) s u.local) g.widths_are ∙ ap (λ r. do_simple l ws r s u.local) g.returns_are ∙ ap (do_simple l ws returns s) same in
+    let xy : x ≡ y = ap (λ w. do_simple l w says s u.local) g.widths_are ∙ do_by_callee l ws says returns s u.local simple.0.1 ∙ ap (do_simple l ws returns s) same in
     let u' : CodeState = record { block = u.block; position = suc u.position; local = x } in
     let c' : CState = record { position = suc c.position; local = y } in
-    let mu : code_step l k u ≡ u' = step_in l k u b (Some s) go get (get_of_drop b.body u.position s ss here) in
+    let mu : code_step l k u ≡ u' = step_in l k u b (s ∷ ss) go get here in
     let goc : c.local.world.over ≡ None = ap (λ z. z.world.over) (sym same) ∙ go in
     let mc : c_step l f c ≡ c' = c_is l f c (Some (Do s)) goc (get_of_drop (flat_of f) c.position (Do s) (steps_of returns g.place g.out rest (suc c.position)) one) in
     let next : ss ≡ drop (suc u.position) b.body = sym (rest_of_drop b.body u.position s ss here) in
-    let P : List Stmt → Type 0 = λ z. AllSimple returns z in
+    let P : List Stmt → Type 0 = λ z. AreSimple returns z b.exit in
     let Q : List Stmt → Type 0 = λ z. drop (suc c.position) (flat_of f) ≡ steps_of returns g.place g.out (z ++ (exit_lines g.labels (suc u.block) b.exit ++ laid_from g.labels (suc u.block) (drop (suc u.block) k.blocks))) (suc c.position) in
     let rel : Related l k f g n u' c' = record {
       local = xy;

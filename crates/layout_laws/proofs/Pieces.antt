@@ -3,7 +3,9 @@ use Rattle.std.proofs.Common.{◌≡◌, ℕ, zero, suc, ◌+◌, Bool, List, []
 use Rattle.cmeaning.specs.declared.tree.Expr.{Expr}
 use Rattle.cmeaning.specs.declared.tree.Stmt.{Stmt}
 use Rattle.cmeaning.specs.declared.tree.Stmt.TheVariants as S
-use Rattle.cmeaning.specs.Flat.{Flat, Do, Test, Jump, spans, all_labels, all_steps, single, piece_of, pieces_of}
+use Rattle.cmeaning.specs.Flat.{Flat, Do, Test, Jump, spans, all_labels, all_steps, piece_of, pieces_of}
+use Rattle.blockcode.specs.declared.code.Exit.{Exit}
+use Rattle.blockcode.specs.Plain.{AreSimple}
 use Rattle.cmeaning.proofs.Flat.{piece_of_if, piece_of_goto, piece_of_label, piece_of_return}
 
 -- by whether callees return: how many steps, the labels from a position on, and the steps
@@ -36,41 +38,31 @@ labels_append returns (x ∷ xs) ys p =
     ap (λ l. a.labels p ++ l) (labels_append returns xs ys (p + a.span) ∙ ap (λ q. labels_in returns xs (p + a.span) ++ labels_in returns ys q) e)
     ∙ sym (append_assoc (a.labels p) (labels_in returns xs (p + a.span)) (labels_in returns ys (p + (a.span + span_of returns xs))))
 
--- a statement that is one step
-pub record IsSingle (returns : ℕ → Bool) (s : Stmt) (x : Flat) : Type 0 where
-  pub leaves : Bool
-  pub piece : piece_of returns s ≡ single leaves x
-
 pub goto_single : (returns : ℕ → Bool) (n : ℕ) (s : Stmt) → s ≡ S.Goto n → (place : ℕ → ℕ) (out p : ℕ) → (piece_of returns s).steps place out p ≡ Jump (place n) ∷ []
 goto_single returns n s e place out p = ap (λ x. (piece_of returns x).steps place out p) e ∙ ap (λ a. a.steps place out p) (piece_of_goto returns n)
 
--- all statements are simple ones
-abbrev pub AllSimple : (ℕ → Bool) → List Stmt → Type 0
-AllSimple returns [] = Unit {0}
-AllSimple returns (s ∷ ss) = IsSingle returns s (Do s) × AllSimple returns ss
+pub simple_span : (returns : ℕ → Bool) (ss : List Stmt) (e : Exit) → AreSimple returns ss e → span_of returns ss ≡ length ss
+simple_span returns [] e h = refl
+simple_span returns (s ∷ ss) e h = let one : (piece_of returns s).span ≡ 1 = ap (λ a. a.span) (h.0.0).piece in omega (arith, one, simple_span returns ss e h.1)
 
-pub simple_span : (returns : ℕ → Bool) (ss : List Stmt) → AllSimple returns ss → span_of returns ss ≡ length ss
-simple_span returns [] h = refl
-simple_span returns (s ∷ ss) h = let e : (piece_of returns s).span ≡ 1 = ap (λ a. a.span) h.0.piece in omega (arith, e, simple_span returns ss h.1)
-
-pub simple_labels : (returns : ℕ → Bool) (ss : List Stmt) (p : ℕ) → AllSimple returns ss → labels_in returns ss p ≡ []
-simple_labels returns [] p h = refl
-simple_labels returns (s ∷ ss) p h =
-    ap (λ l. l ++ labels_in returns ss (p + (piece_of returns s).span)) (ap (λ a. a.labels p) h.0.piece)
-    ∙ simple_labels returns ss (p + (piece_of returns s).span) h.1
+pub simple_labels : (returns : ℕ → Bool) (ss : List Stmt) (e : Exit) (p : ℕ) → AreSimple returns ss e → labels_in returns ss p ≡ []
+simple_labels returns [] e p h = refl
+simple_labels returns (s ∷ ss) e p h =
+    ap (λ l. l ++ labels_in returns ss (p + (piece_of returns s).span)) (ap (λ a. a.labels p) (h.0.0).piece)
+    ∙ simple_labels returns ss e (p + (piece_of returns s).span) h.1
 
 -- as many steps as the span says, and no labels
 pub record IsMeasured (returns : ℕ → Bool) (ss : List Stmt) : Type 0 where
   pub steps : (place : ℕ → ℕ) (out p : ℕ) → length (steps_of returns place out ss p) ≡ span_of returns ss
 
-pub simple_measured : (returns : ℕ → Bool) (ss : List Stmt) → AllSimple returns ss → IsMeasured returns ss
-simple_measured returns [] h = record { steps = λ place out p. refl }
-simple_measured returns (s ∷ ss) h =
-    let e : (piece_of returns s).span ≡ 1 = ap (λ a. a.span) h.0.piece in
-    let rest = simple_measured returns ss h.1 in
+pub simple_measured : (returns : ℕ → Bool) (ss : List Stmt) (e : Exit) → AreSimple returns ss e → IsMeasured returns ss
+simple_measured returns [] e h = record { steps = λ place out p. refl }
+simple_measured returns (s ∷ ss) x h =
+    let e : (piece_of returns s).span ≡ 1 = ap (λ a. a.span) (h.0.0).piece in
+    let rest = simple_measured returns ss x h.1 in
     record {
       steps = λ place out p.
-          let f : (piece_of returns s).steps place out p ≡ Do s ∷ [] = ap (λ a. a.steps place out p) h.0.piece in
+          let f : (piece_of returns s).steps place out p ≡ Do s ∷ [] = ap (λ a. a.steps place out p) (h.0.0).piece in
           ap (λ l. length (l ++ steps_of returns place out ss (p + (piece_of returns s).span))) f
           ∙ (let g : suc (length (steps_of returns place out ss (p + (piece_of returns s).span))) ≡ suc (span_of returns ss) = ap suc (rest.steps place out (p + (piece_of returns s).span)) in omega (arith, e, g));
     }

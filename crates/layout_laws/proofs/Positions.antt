@@ -9,8 +9,9 @@ use Rattle.cmeaning.proofs.Flat.{piece_of_if, piece_of_label, piece_of_return}
 use Rattle.blockcode.specs.declared.code.Exit.{Exit}
 use Rattle.blockcode.specs.declared.code.Exit.TheVariants as X
 use Rattle.blockcode.specs.declared.code.Block.{Block}
+use Rattle.blockcode.specs.Plain.{AllSimple, AreSimple}
 use Rattle.blockcode.specs.Laid.{numbered, label_at, label_line, goto_line, goto, exit_lines, laid_from}
-use Rattle.layout_laws.proofs.Pieces.{span_of, labels_in, steps_of, steps_append, labels_append, AllSimple, simple_labels, IsMeasured, simple_measured, measured_append, drop_past, measured_goto, measured_return, measured_label, measured_if, label_none}
+use Rattle.layout_laws.proofs.Pieces.{span_of, labels_in, steps_of, steps_append, labels_append, simple_labels, IsMeasured, simple_measured, measured_append, drop_past, measured_goto, measured_return, measured_label, measured_if, label_none}
 
 measured_none : (returns : ℕ → Bool) → IsMeasured returns []
 measured_none returns = record { steps = λ place out p. refl }
@@ -62,10 +63,6 @@ unlabelled_exit returns labels next X.Stop p = refl
 
 -- ---- blocks
 
-abbrev pub AllBlocks : (ℕ → Bool) → List Block → Type 0
-AllBlocks returns [] = Unit {0}
-AllBlocks returns (x ∷ xs) = AllSimple returns x.body × AllBlocks returns xs
-
 -- a block's lines without the label
 abbrev pub lines_of : List (Option ℕ) → ℕ → Block → List Stmt
 lines_of labels n x = x.body ++ exit_lines labels (suc n) x.exit
@@ -84,7 +81,7 @@ label_steps returns place out (Some n) rest p =
     ∙ ap (steps_of returns place out rest) (let e : p + 0 ≡ p = omega arith in e)
 
 -- after a block's lines come the next block's
-pub past_block : (returns : ℕ → Bool) (place : ℕ → ℕ) (out : ℕ) (labels : List (Option ℕ)) (n : ℕ) (x : Block) (xs : List Block) (p m : ℕ) → AllSimple returns x.body → let k = span_of returns x.body + span_of returns (exit_lines labels (suc n) x.exit) in drop (k + m) (steps_of returns place out (laid_from labels n (x ∷ xs)) p) ≡ drop m (steps_of returns place out (laid_from labels (suc n) xs) (p + k))
+pub past_block : (returns : ℕ → Bool) (place : ℕ → ℕ) (out : ℕ) (labels : List (Option ℕ)) (n : ℕ) (x : Block) (xs : List Block) (p m : ℕ) → AreSimple returns x.body x.exit → let k = span_of returns x.body + span_of returns (exit_lines labels (suc n) x.exit) in drop (k + m) (steps_of returns place out (laid_from labels n (x ∷ xs)) p) ≡ drop m (steps_of returns place out (laid_from labels (suc n) xs) (p + k))
 past_block returns place out labels n x xs p m simple =
     let a = span_of returns x.body in
     let ex = exit_lines labels (suc n) x.exit in
@@ -95,13 +92,13 @@ past_block returns place out labels n x xs p m simple =
     let f : p + a + b ≡ p + (a + b) = omega arith in
     ap (drop ((a + b) + m)) (label_steps returns place out (label_at labels n) (x.body ++ r) p ∙ steps_append returns place out x.body r p)
     ∙ ap (λ k. drop k (steps_of returns place out x.body p ++ steps_of returns place out r (p + a))) e
-    ∙ drop_past (steps_of returns place out x.body p) (steps_of returns place out r (p + a)) a (b + m) ((simple_measured returns x.body simple).steps place out p)
+    ∙ drop_past (steps_of returns place out x.body p) (steps_of returns place out r (p + a)) a (b + m) ((simple_measured returns x.body x.exit simple).steps place out p)
     ∙ ap (drop (b + m)) (steps_append returns place out ex rest (p + a))
     ∙ drop_past (steps_of returns place out ex (p + a)) (steps_of returns place out rest (p + a + b)) b m ((measured_exit returns labels (suc n) x.exit).steps place out (p + a))
     ∙ ap (λ q. drop m (steps_of returns place out rest q)) f
 
 -- a block's code stands at its position
-pub placed : (returns : ℕ → Bool) (place : ℕ → ℕ) (out : ℕ) (labels : List (Option ℕ)) (c n m : ℕ) (xs : List Block) (p : ℕ) → m ≡ n + c → AllBlocks returns xs → c < length xs → drop (position returns labels n xs c) (steps_of returns place out (laid_from labels n xs) p) ≡ steps_of returns place out (laid_from labels m (drop c xs)) (p + position returns labels n xs c)
+pub placed : (returns : ℕ → Bool) (place : ℕ → ℕ) (out : ℕ) (labels : List (Option ℕ)) (c n m : ℕ) (xs : List Block) (p : ℕ) → m ≡ n + c → AllSimple returns xs → c < length xs → drop (position returns labels n xs c) (steps_of returns place out (laid_from labels n xs) p) ≡ steps_of returns place out (laid_from labels m (drop c xs)) (p + position returns labels n xs c)
 placed returns place out labels c n m [] p e all lt = absurd (omega arith)
 placed returns place out labels zero n m (x ∷ xs) p e all lt =
     let h : n ≡ m = omega (arith, e) in
@@ -150,7 +147,7 @@ found_past : (labels : List (ℕ × ℕ)) (d m n p : ℕ) → n ≢ m → found_
 found_past labels d m n p ne = let t : (n == m) ≡ false = grind (arith, nat_tests) in ap (λ b. cond b p (found_in labels d m)) t
 
 -- the labels of a block and of those after it
-block_labels : (returns : ℕ → Bool) (labels : List (Option ℕ)) (n : ℕ) (x : Block) (xs : List Block) (p : ℕ) → AllSimple returns x.body → labels_in returns (x.body ++ (exit_lines labels (suc n) x.exit ++ laid_from labels (suc n) xs)) p ≡ labels_in returns (laid_from labels (suc n) xs) (p + (span_of returns x.body + span_of returns (exit_lines labels (suc n) x.exit)))
+block_labels : (returns : ℕ → Bool) (labels : List (Option ℕ)) (n : ℕ) (x : Block) (xs : List Block) (p : ℕ) → AreSimple returns x.body x.exit → labels_in returns (x.body ++ (exit_lines labels (suc n) x.exit ++ laid_from labels (suc n) xs)) p ≡ labels_in returns (laid_from labels (suc n) xs) (p + (span_of returns x.body + span_of returns (exit_lines labels (suc n) x.exit)))
 block_labels returns labels n x xs p simple =
     let a = span_of returns x.body in
     let ex = exit_lines labels (suc n) x.exit in
@@ -158,7 +155,7 @@ block_labels returns labels n x xs p simple =
     let rest = laid_from labels (suc n) xs in
     let f : p + a + b ≡ p + (a + b) = omega arith in
     labels_append returns x.body (ex ++ rest) p
-    ∙ ap (λ l. l ++ labels_in returns (ex ++ rest) (p + a)) (simple_labels returns x.body p simple)
+    ∙ ap (λ l. l ++ labels_in returns (ex ++ rest) (p + a)) (simple_labels returns x.body x.exit p simple)
     ∙ labels_append returns ex rest (p + a)
     ∙ ap (λ l. l ++ labels_in returns rest (p + a + b)) (unlabelled_exit returns labels (suc n) x.exit (p + a))
     ∙ ap (labels_in returns rest) f
@@ -181,7 +178,7 @@ line_here returns (Some n) rest d m p e =
     ∙ found_here (labels_in returns rest (p + 0)) d m p
 
 -- the label of a block leads to its position
-pub label_leads : (returns : ℕ → Bool) (labels : List (Option ℕ)) → AreOnce labels → (c n b m : ℕ) (xs : List Block) (d p : ℕ) → b ≡ n + c → AllBlocks returns xs → c < length xs → label_at labels b ≡ Some m → found_in (labels_in returns (laid_from labels n xs) p) d m ≡ p + position returns labels n xs c
+pub label_leads : (returns : ℕ → Bool) (labels : List (Option ℕ)) → AreOnce labels → (c n b m : ℕ) (xs : List Block) (d p : ℕ) → b ≡ n + c → AllSimple returns xs → c < length xs → label_at labels b ≡ Some m → found_in (labels_in returns (laid_from labels n xs) p) d m ≡ p + position returns labels n xs c
 label_leads returns labels once c n b m [] d p e all lt is = absurd (omega arith)
 label_leads returns labels once zero n b m (x ∷ xs) d p e all lt is =
     let h : b ≡ n = omega (arith, e) in

@@ -3,6 +3,7 @@ use Rattle.std.proofs.Common.{◌≡◌, ◌≢◌, ◌⊎◌, ◌≤◌, ◌<�
 use Rattle.std.specs.Prelude.{◌==◌, slice_get}
 use Rattle.std.proofs.lemmas.Bool.Decides.{nat_tests}
 use Rattle.std.proofs.lemmas.Option.{none-some}
+use Rattle.std.proofs.lemmas.Int.{ints}
 use Rattle.pcode_model.specs.declared.storage.ParamStorage.{ParamStorage}
 use Rattle.pcode_model.specs.declared.storage.ParamStorage.TheVariants as P
 use Rattle.pcode_model.specs.declared.atoms.Atom.{Atom}
@@ -88,17 +89,25 @@ mapped l (x ∷ xs) (suc n) v h = mapped l xs n v h
 pub before_trans : (r s t : ParamStorage) → StandsBefore r s → StandsBefore s t → StandsBefore r t
 before_trans (P.Register a) (P.Register b) (P.Register c) p q = omega (arith, p, q)
 before_trans (P.Register a) (P.Register b) (P.Unique c) p q = tt
-before_trans (P.Register a) (P.Register b) (P.Stack c) p q = absurd q
+before_trans (P.Register a) (P.Register b) (P.Stack c) p q = tt
 before_trans (P.Register a) (P.Unique b) (P.Register c) p q = absurd q
 before_trans (P.Register a) (P.Unique b) (P.Unique c) p q = tt
-before_trans (P.Register a) (P.Unique b) (P.Stack c) p q = absurd q
-before_trans (P.Register a) (P.Stack b) t p q = absurd p
+before_trans (P.Register a) (P.Unique b) (P.Stack c) p q = tt
+before_trans (P.Register a) (P.Stack b) (P.Register c) p q = absurd q
+before_trans (P.Register a) (P.Stack b) (P.Unique c) p q = absurd q
+before_trans (P.Register a) (P.Stack b) (P.Stack c) p q = tt
 before_trans (P.Unique a) (P.Register b) t p q = absurd p
 before_trans (P.Unique a) (P.Unique b) (P.Register c) p q = absurd q
 before_trans (P.Unique a) (P.Unique b) (P.Unique c) p q = omega (arith, p, q)
-before_trans (P.Unique a) (P.Unique b) (P.Stack c) p q = absurd q
-before_trans (P.Unique a) (P.Stack b) t p q = absurd p
-before_trans (P.Stack a) s t p q = absurd p
+before_trans (P.Unique a) (P.Unique b) (P.Stack c) p q = tt
+before_trans (P.Unique a) (P.Stack b) (P.Register c) p q = absurd q
+before_trans (P.Unique a) (P.Stack b) (P.Unique c) p q = absurd q
+before_trans (P.Unique a) (P.Stack b) (P.Stack c) p q = tt
+before_trans (P.Stack a) (P.Register b) t p q = absurd p
+before_trans (P.Stack a) (P.Unique b) t p q = absurd p
+before_trans (P.Stack a) (P.Stack b) (P.Register c) p q = absurd q
+before_trans (P.Stack a) (P.Stack b) (P.Unique c) p q = absurd q
+before_trans (P.Stack a) (P.Stack b) (P.Stack c) p q = omega (arith, ints, p, q)
 
 first_before : (a : Atom) (rest : List Atom) → InOrder (a ∷ rest) → (b : Atom) → IsIn b rest → StandsBefore a.storage b.storage
 first_before a [] h b is = absurd is
@@ -116,27 +125,35 @@ spaces_differ l formed e =
       kinds_differ : Register ≡ Unique → ⊥
       kinds_differ h = cc
 
-different : (l : Listing) → IsFormed l → (s t : ParamStorage) (j k : ℕ) → StandsBefore s t → range_at l s j ≡ range_at l t k → ⊥
-different l formed (P.Register a) (P.Register b) j k p e = let f : a ≡ b = ap (λ v. v.offset) e in absurd (omega (arith, p, f))
-different l formed (P.Register a) (P.Unique b) j k p e = spaces_differ l formed (ap (λ v. v.space) e)
-different l formed (P.Register a) (P.Stack b) j k p e = p
-different l formed (P.Unique a) (P.Register b) j k p e = p
-different l formed (P.Unique a) (P.Unique b) j k p e = let f : a ≡ b = ap (λ v. v.offset) e in absurd (omega (arith, p, f))
-different l formed (P.Unique a) (P.Stack b) j k p e = p
-different l formed (P.Stack a) t j k p e = p
+different : (l : Listing) → IsFormed l → (s t : ParamStorage) (j k : ℕ) → IsLocalStorage s → IsLocalStorage t
+    → StandsBefore s t → range_at l s j ≡ range_at l t k → ⊥
+different l formed (P.Register a) (P.Register b) j k x y p e = let f : a ≡ b = ap (λ v. v.offset) e in absurd (omega (arith, p, f))
+different l formed (P.Register a) (P.Unique b) j k x y p e = spaces_differ l formed (ap (λ v. v.space) e)
+different l formed (P.Unique a) (P.Register b) j k x y p e = p
+different l formed (P.Unique a) (P.Unique b) j k x y p e = let f : a ≡ b = ap (λ v. v.offset) e in absurd (omega (arith, p, f))
+different l formed (P.Stack a) t j k x y p e = x
+different l formed s (P.Stack b) j k x y p e = y
 
-distinct : (l : Listing) → IsFormed l → (atoms : List Atom) → InOrder atoms → (m n : ℕ) (a b : Atom) → slice_get atoms m ≡ Some a → slice_get atoms n ≡ Some b → m ≢ n → range_of l a ≡ range_of l b → ⊥
-distinct l formed [] order m n a b p q ne e = absurd (cc)
-distinct l formed (x ∷ xs) order zero zero a b p q ne e = ne refl
-distinct l formed (x ∷ xs) order zero (suc n) a b p q ne e =
+-- each atom is of the register space or of the unique space
+abbrev AreLocal : List Atom → Type 0
+AreLocal atoms = (a : Atom) → IsIn a atoms → IsLocalStorage a.storage
+
+distinct : (l : Listing) → IsFormed l → (atoms : List Atom) → AreLocal atoms → InOrder atoms → (m n : ℕ) (a b : Atom)
+    → slice_get atoms m ≡ Some a → slice_get atoms n ≡ Some b → m ≢ n → range_of l a ≡ range_of l b → ⊥
+distinct l formed [] local order m n a b p q ne e = absurd (cc)
+distinct l formed (x ∷ xs) local order zero zero a b p q ne e = ne refl
+distinct l formed (x ∷ xs) local order zero (suc n) a b p q ne e =
     let is : x ≡ a = cc in
     let Q : Atom → Type 0 = λ y. StandsBefore y.storage b.storage in
-    different l formed a.storage b.storage a.size b.size (subst Q is (first_before x xs order b (got_in xs n b q))) e
-distinct l formed (x ∷ xs) order (suc m) zero a b p q ne e =
+    different l formed a.storage b.storage a.size b.size (local a (inl (sym is))) (local b (inr (got_in xs n b q)))
+    (subst Q is (first_before x xs order b (got_in xs n b q))) e
+distinct l formed (x ∷ xs) local order (suc m) zero a b p q ne e =
     let is : x ≡ b = cc in
     let Q : Atom → Type 0 = λ y. StandsBefore y.storage a.storage in
-    different l formed b.storage a.storage b.size a.size (subst Q is (first_before x xs order a (got_in xs m a p))) (sym e)
-distinct l formed (x ∷ xs) order (suc m) (suc n) a b p q ne e = distinct l formed xs (order_tail x xs order) m n a b p q (λ i. ne (ap suc i)) e
+    different l formed b.storage a.storage b.size a.size (local b (inl (sym is))) (local a (inr (got_in xs m a p)))
+    (subst Q is (first_before x xs order a (got_in xs m a p))) (sym e)
+distinct l formed (x ∷ xs) local order (suc m) (suc n) a b p q ne e =
+    distinct l formed xs (λ c h. local c (inr h)) (order_tail x xs order) m n a b p q (λ i. ne (ap suc i)) e
 
 -- ---- the table of variables
 
@@ -164,7 +181,7 @@ table_of l sup formed atoms are = record {
       let k = mapped l atoms o w i in
       let a = known l atoms are m.0 (got_in atoms n m.0 m.1.0) in
       let b = known l atoms are k.0 (got_in atoms o k.0 k.1.0) in
-      let differ : range_of l m.0 ≡ range_of l k.0 → ⊥ = λ e. distinct l formed atoms are.listed.in_order n o m.0 k.0 m.1.0 k.1.0 ne e in
+      let differ : range_of l m.0 ≡ range_of l k.0 → ⊥ = λ e. distinct l formed atoms (λ c h. (known l atoms are c h).local) are.listed.in_order n o m.0 k.0 m.1.0 k.1.0 ne e in
       let Q : Varnode → Type 0 = λ x. table.AreApart x w in
       let R : Varnode → Type 0 = λ x. table.AreApart (range_of l m.0) x in
       subst Q (sym m.1.1) (subst R (sym k.1.1) (apart_by (range_of l m.0) (range_of l k.0) differ (accessed_apart l sup formed (range_of l m.0) (range_of l k.0) a.accessed b.accessed)));

@@ -11,7 +11,7 @@ use Rattle.cmeaning.specs.Do.{widths_in}
 use Rattle.cmeaning.specs.Shape.{shape_of, is_condition}
 use Rattle.cmeaning.specs.Mentions.{in_expr, in_option, in_body, numbered}
 use Rattle.cmeaning.specs.Valid.{is_name, are_params, is_returned, first_next, IsValid}
-use Rattle.cmeaning.proofs.Mentions.{numbered_append}
+use Rattle.cmeaning.proofs.Mentions.{in_append, numbered_append}
 use Rattle.blockcode.specs.declared.code.Exit.{Exit}
 use Rattle.blockcode.specs.declared.code.Exit.TheVariants as X
 use Rattle.blockcode.specs.declared.code.Block.{Block}
@@ -19,7 +19,6 @@ use Rattle.blockcode.specs.declared.code.Code.{Code}
 use Rattle.blockcode.specs.Laid.{is_named, flags_from, numbered as label_list, labels_of, label_at, label_line, goto_line, goto, exit_lines, laid_from, laid_body, locals_of, laid_out}
 use Rattle.plain_valid.proofs.Shapes.{AllBelow, below_append}
 use Rattle.plain_valid.proofs.Statements.{AllObey, obey_append, obey_all, return_obeys, label_obeys, goto_obeys, if_none_obeys, if_goto_obeys, in_return, in_label, in_goto, in_if, still, at_label, label_met, AreQuiet, quiet_none, quiet_append, quiet_one}
-use Rattle.layout_laws.proofs.Valid.{in_append}
 
 -- ---- labels
 

@@ -5,16 +5,16 @@ use Rattle.std.proofs.lemmas.Bool.Decides.{nat_tests}
 use Rattle.cmeaning.specs.declared.numbering.Next.{Next}
 use Rattle.cmeaning.specs.declared.tree.CFunction.{CFunction}
 use Rattle.cmeaning.specs.declared.tree.Expr.{Expr}
-use Rattle.cmeaning.specs.declared.tree.Arm.{Arm}
-use Rattle.cmeaning.specs.declared.tree.Stmt.{Stmt, fold-roll-Stmt, roll-Stmt, map-Stmt}
+use Rattle.cmeaning.specs.declared.tree.Stmt.{Stmt}
 use Rattle.cmeaning.specs.declared.tree.Stmt.TheOpen.{Stmt-F}
 use Rattle.cmeaning.specs.declared.tree.Stmt.TheVariants as S
 use Rattle.cmeaning.specs.Do.{widths_in}
 use Rattle.cmeaning.specs.Shape.{shape_of, is_condition}
-use Rattle.cmeaning.specs.Mentions.{Mention, Variable, Callee, LabelLine, in_expr, in_option, in_stmt, in_arm, in_body, stmt_step, arm_step, met, with_variable, with_label, mentioned, numbered}
+use Rattle.cmeaning.specs.Mentions.{Mention, Variable, Callee, LabelLine, in_expr, in_option, in_stmt, in_body, met, with_variable, with_label, mentioned, numbered}
 use Rattle.cmeaning.specs.Valid.{all_hold, rule_of, is_assigned, is_returned}
+use Rattle.cmeaning.proofs.Mentions.{in_append, in_statement}
+use Rattle.cmeaning.proofs.Switches.{rule_of_layer}
 use Rattle.plain_valid.proofs.Shapes.{AllBelow, below_append}
-use Rattle.layout_laws.proofs.Valid.{rule_roll, in_append}
 
 -- ---- rules
 
@@ -37,24 +37,24 @@ obey_all f labels (s ∷ ss) after h =
     ∙ obey_all f labels ss (rule_of f labels s).calls h.1
 
 pub assign_obeys : (f : CFunction) (labels v : ℕ) (e : Expr) → is_assigned (widths_in f) v (shape_of (widths_in f) e) ≡ true → Obeys f labels (S.Assign v e)
-assign_obeys f labels v e is after = ap (λ r. r.holds after false 255) (rule_roll f labels (S.Assign v e) (Stmt-F.Assign v e) (S.rolls-Assign v e)) ∙ is
+assign_obeys f labels v e is after = ap (λ r. r.holds after false 255) (rule_of_layer f labels (S.Assign v e) (Stmt-F.Assign v e) (S.rolls-Assign v e)) ∙ is
 
 pub return_obeys : (f : CFunction) (labels : ℕ) (e : Option Expr) → is_returned (widths_in f) f.gives e ≡ true → Obeys f labels (S.Return e)
-return_obeys f labels e is after = ap (λ r. r.holds after false 255) (rule_roll f labels (S.Return e) (Stmt-F.Return e) (S.rolls-Return e)) ∙ is
+return_obeys f labels e is after = ap (λ r. r.holds after false 255) (rule_of_layer f labels (S.Return e) (Stmt-F.Return e) (S.rolls-Return e)) ∙ is
 
 pub label_obeys : (f : CFunction) (labels n : ℕ) → n < 2 ^ 32 → Obeys f labels (S.Label n)
-label_obeys f labels n few after = ap (λ r. r.holds after false 255) (rule_roll f labels (S.Label n) (Stmt-F.Label n) (S.rolls-Label n)) ∙ grind (arith, nat_tests)
+label_obeys f labels n few after = ap (λ r. r.holds after false 255) (rule_of_layer f labels (S.Label n) (Stmt-F.Label n) (S.rolls-Label n)) ∙ grind (arith, nat_tests)
 
 goto_holds : (f : CFunction) (labels n : ℕ) → 0 < n → n < labels → (after : Bool) (room : ℕ) → (rule_of f labels (S.Goto n)).holds after false room ≡ true
 goto_holds f labels n from to after room =
     let t : (nat_lt 0 n && nat_lt n labels) ≡ true = grind (arith, nat_tests) in
-    ap (λ r. r.holds after false room) (rule_roll f labels (S.Goto n) (Stmt-F.Goto n) (S.rolls-Goto n)) ∙ t
+    ap (λ r. r.holds after false room) (rule_of_layer f labels (S.Goto n) (Stmt-F.Goto n) (S.rolls-Goto n)) ∙ t
 
 pub goto_obeys : (f : CFunction) (labels n : ℕ) → 0 < n → n < labels → Obeys f labels (S.Goto n)
 goto_obeys f labels n from to after = goto_holds f labels n from to after 255
 
 if_is : (f : CFunction) (labels : ℕ) (c : Expr) (body : List Stmt) (after : Bool) (room : ℕ) → (rule_of f labels (S.If c body)).holds after false room ≡ (is_condition (shape_of (widths_in f) c) && all_hold false (map (rule_of f labels) body) false room)
-if_is f labels c body after room = ap (λ r. r.holds after false room) (rule_roll f labels (S.If c body) (Stmt-F.If c body) (S.rolls-If c body))
+if_is f labels c body after room = ap (λ r. r.holds after false room) (rule_of_layer f labels (S.If c body) (Stmt-F.If c body) (S.rolls-If c body))
 
 pub if_none_obeys : (f : CFunction) (labels : ℕ) (c : Expr) → is_condition (shape_of (widths_in f) c) ≡ true → Obeys f labels (S.If c [])
 if_none_obeys f labels c is after = if_is f labels c [] after 255 ∙ ap (λ b. b && true) is
@@ -67,24 +67,20 @@ if_goto_obeys f labels c n is from to after =
 
 -- ---- mentions
 
-mentions_layer : (s : Stmt) (y : Stmt-F Stmt Arm) → roll-Stmt y ≡ s → in_stmt s ≡ stmt_step (map-Stmt Stmt Arm (List Mention) (List Mention) in_stmt in_arm y)
-unfolding in_stmt in_arm
-mentions_layer s y is = ap in_stmt (sym is) ∙ fold-roll-Stmt (List Mention) (List Mention) stmt_step arm_step y
-
 pub in_assign : (v : ℕ) (e : Expr) → in_stmt (S.Assign v e) ≡ Variable v ∷ in_expr e
-in_assign v e = mentions_layer (S.Assign v e) (Stmt-F.Assign v e) (S.rolls-Assign v e)
+in_assign v e = in_statement (S.Assign v e) (Stmt-F.Assign v e) (S.rolls-Assign v e)
 
 pub in_return : (e : Option Expr) → in_stmt (S.Return e) ≡ in_option e
-in_return e = mentions_layer (S.Return e) (Stmt-F.Return e) (S.rolls-Return e)
+in_return e = in_statement (S.Return e) (Stmt-F.Return e) (S.rolls-Return e)
 
 pub in_label : (n : ℕ) → in_stmt (S.Label n) ≡ LabelLine n ∷ []
-in_label n = mentions_layer (S.Label n) (Stmt-F.Label n) (S.rolls-Label n)
+in_label n = in_statement (S.Label n) (Stmt-F.Label n) (S.rolls-Label n)
 
 pub in_goto : (n : ℕ) → in_stmt (S.Goto n) ≡ []
-in_goto n = mentions_layer (S.Goto n) (Stmt-F.Goto n) (S.rolls-Goto n)
+in_goto n = in_statement (S.Goto n) (Stmt-F.Goto n) (S.rolls-Goto n)
 
 pub in_if : (c : Expr) (body : List Stmt) → in_stmt (S.If c body) ≡ in_expr c ++ in_body body
-in_if c body = mentions_layer (S.If c body) (Stmt-F.If c body) (S.rolls-If c body)
+in_if c body = in_statement (S.If c body) (Stmt-F.If c body) (S.rolls-If c body)
 
 -- ---- numbers
 

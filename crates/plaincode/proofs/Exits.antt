@@ -22,6 +22,7 @@ use Rattle.pcode_model.specs.World.{ended}
 use Rattle.pcode_model.specs.Step.{State, moved, in_world, local_word, with_first, effect_at, apply, gone, step_at, proto_of, result_of}
 use Rattle.pcode_model.specs.Flow.{turn_of, turn_in, next_in, IsStart, JumpsTo, TestsTo, LeavesBy}
 use Rattle.cmeaning.specs.declared.tree.Expr.{Expr}
+use Rattle.cmeaning.specs.declared.tree.Stmt.{Stmt}
 use Rattle.cmeaning.specs.Do.{Local, ends}
 use Rattle.cmeaning.specs.Step.{tested}
 use Rattle.cmeaning.specs.Value.{value_of}
@@ -41,11 +42,11 @@ pub record Left {M : Type 0} (l : Listing) (ranges : List Varnode) (look : M →
   pub at : s.world.over ≡ None → (u.position ≡ 0) × (slice_get starts u.block ≡ Some s.at)
 
 -- what stands at a place from which the run goes on to the next one
-pub goes_to : {M : Type 0} (m : Acts M) (l : Listing) (f : Frame) (look : M → Bytes) (ranges : List Varnode) (ws : ℕ → ℕ) → Setting l ranges ws → (here : Standing) (q : Place) (s : State M) (x : Local) → IsPlain l ranges here → turn_in l here ≡ GoesOn → next_in here s.at.index ≡ Some q → s.world.over ≡ None → Sees l ranges look s x → Meets l ranges look q (step_at m l f here s) (run_all l ws (statements_in l ranges here) x)
-goes_to m l f look ranges ws set Nothing q s x h turn next go sees = absurd h
-goes_to m l f look ranges ws set (Passes i) q s x h turn next go sees = record { sees = record { world = sees.world; holds = sees.holds; bytes = sees.bytes }; at = λ _. cc }
-goes_to m l f look ranges ws set (Does i op) q s x h turn next go sees =
-    let met = op_meets m l f look ranges ws set i op.code op.out op.inputs s x h turn go sees in
+pub goes_to : {M : Type 0} (m : Acts M) (l : Listing) (f : Frame) (look : M → Bytes) (ranges : List Varnode) (ws : ℕ → ℕ) (returns : List Stmt → Bool) → Setting l ranges ws → (here : Standing) (q : Place) (s : State M) (x : Local) → IsPlain l ranges here → turn_in l here ≡ GoesOn → next_in here s.at.index ≡ Some q → s.world.over ≡ None → Sees l ranges look s x → Meets l ranges look q (step_at m l f here s) (run_all l ws returns (statements_in l ranges here) x)
+goes_to m l f look ranges ws returns set Nothing q s x h turn next go sees = absurd h
+goes_to m l f look ranges ws returns set (Passes i) q s x h turn next go sees = record { sees = record { world = sees.world; holds = sees.holds; bytes = sees.bytes }; at = λ _. cc }
+goes_to m l f look ranges ws returns set (Does i op) q s x h turn next go sees =
+    let met = op_meets m l f look ranges ws returns set i op.code op.out op.inputs s x h turn go sees in
     record { sees = met.sees; at = λ g. let e = met.at g in cc }
 
 -- ---- the ways to leave
@@ -69,15 +70,15 @@ jump_by l ranges look ws starts q n s u v (Some h) go met e leaving =
     let P : CodeState → Type 0 = λ w. Left l ranges look starts s w in
     subst P (sym (leaving.off h (ap (λ w. w.over) (sym met.sees.world) ∙ go))) (record { sees = met.sees; at = λ g. absurd (cc) })
 
-leaves_on : {M : Type 0} (m : Acts M) (l : Listing) (f : Frame) (look : M → Bytes) (ranges : List Varnode) (ws : ℕ → ℕ) (starts : List Place) → Setting l ranges ws → (here : Standing) (e : flow_exit.Exit) (s : State M) (x : Local) (u v : CodeState) → IsPlain l ranges here → turn_in l here ≡ GoesOn → JumpsTo starts (next_in here s.at.index) e → s.world.over ≡ None → Sees l ranges look s x → u.local ≡ run_all l ws (statements_in l ranges here) x → Leaving ws (exit_by l ranges here e) u v → Left l ranges look starts (step_at m l f here s) v
-leaves_on m l f look ranges ws starts set here F.Return s x u v h turn jump go sees is leaving = absurd jump
-leaves_on m l f look ranges ws starts set here (F.Jump n) s x u v h turn jump go sees is leaving =
-    let met = goes_to m l f look ranges ws set here jump.0 s x h turn jump.1.0 go sees in
+leaves_on : {M : Type 0} (m : Acts M) (l : Listing) (f : Frame) (look : M → Bytes) (ranges : List Varnode) (ws : ℕ → ℕ) (returns : List Stmt → Bool) (starts : List Place) → Setting l ranges ws → (here : Standing) (e : flow_exit.Exit) (s : State M) (x : Local) (u v : CodeState) → IsPlain l ranges here → turn_in l here ≡ GoesOn → JumpsTo starts (next_in here s.at.index) e → s.world.over ≡ None → Sees l ranges look s x → u.local ≡ run_all l ws returns (statements_in l ranges here) x → Leaving ws (exit_by l ranges here e) u v → Left l ranges look starts (step_at m l f here s) v
+leaves_on m l f look ranges ws returns starts set here F.Return s x u v h turn jump go sees is leaving = absurd jump
+leaves_on m l f look ranges ws returns starts set here (F.Jump n) s x u v h turn jump go sees is leaving =
+    let met = goes_to m l f look ranges ws returns set here jump.0 s x h turn jump.1.0 go sees in
     let P : Local → Type 0 = λ y. Meets l ranges look jump.0 (step_at m l f here s) y in
     jump_by l ranges look ws starts jump.0 n (step_at m l f here s) u v (step_at m l f here s).world.over refl (subst P (sym is) met) jump.1.1 leaving
-leaves_on m l f look ranges ws starts set here (F.Test a b) s x u v h turn jump go sees is leaving = absurd jump
-leaves_on m l f look ranges ws starts set here (F.Switch t ns) s x u v h turn jump go sees is leaving = absurd jump
-leaves_on m l f look ranges ws starts set here F.Stop s x u v h turn jump go sees is leaving = absurd jump
+leaves_on m l f look ranges ws returns starts set here (F.Test a b) s x u v h turn jump go sees is leaving = absurd jump
+leaves_on m l f look ranges ws returns starts set here (F.Switch t ns) s x u v h turn jump go sees is leaving = absurd jump
+leaves_on m l f look ranges ws returns starts set here F.Stop s x u v h turn jump go sees is leaving = absurd jump
 
 sees_at : {M : Type 0} (l : Listing) (ranges : List Varnode) (look : M → Bytes) (s : State M) (x y : Local) → y ≡ x → Sees l ranges look s x → Sees l ranges look s y
 sees_at l ranges look s x y e sees = let P : Local → Type 0 = λ z. Sees l ranges look s z in subst P (sym e) sees
@@ -174,21 +175,21 @@ taken l ranges look ws starts e s s' x u v go sees is leaving left =
     let P : CodeState → Type 0 = λ w. Left l ranges look starts s' w in
     subst P (sym (leaving.on (ap (λ y. y.world.over) is ∙ ap (λ w. w.over) (sym sees.world) ∙ go))) left
 
-leaves_op : {M : Type 0} (m : Acts M) (l : Listing) (f : Frame) (look : M → Bytes) (ranges : List Varnode) (ws : ℕ → ℕ) (t : List TableAt) (starts : List Place) → Setting l ranges ws → (i : Instruction) (code : Opcode) (out : Option Varnode) (vs : List Varnode) (e : flow_exit.Exit) (s : State M) (x : Local) (u v : CodeState) → IsPlainOp l ranges code out vs → LeavesBy t starts s.at (Does i (op_of code out vs)) (turn_of l code vs) e → s.world.over ≡ None → Sees l ranges look s x → u.local ≡ run_all l ws (statements_in l ranges (Does i (op_of code out vs))) x → Leaving ws (exit_by l ranges (Does i (op_of code out vs)) e) u v → Left l ranges look starts (step_at m l f (Does i (op_of code out vs)) s) v
-leaves_op m l f look ranges ws t starts set i (O.Unary op) out vs e s x u v h by go sees is leaving = leaves_on m l f look ranges ws starts set (Does i (op_of (O.Unary op) out vs)) e s x u v h refl by go sees is leaving
-leaves_op m l f look ranges ws t starts set i (O.Binary op) out vs e s x u v h by go sees is leaving = leaves_on m l f look ranges ws starts set (Does i (op_of (O.Binary op) out vs)) e s x u v h refl by go sees is leaving
-leaves_op m l f look ranges ws t starts set i O.Branch None (to ∷ []) e s x u v h by go sees is leaving =
+leaves_op : {M : Type 0} (m : Acts M) (l : Listing) (f : Frame) (look : M → Bytes) (ranges : List Varnode) (ws : ℕ → ℕ) (returns : List Stmt → Bool) (t : List TableAt) (starts : List Place) → Setting l ranges ws → (i : Instruction) (code : Opcode) (out : Option Varnode) (vs : List Varnode) (e : flow_exit.Exit) (s : State M) (x : Local) (u v : CodeState) → IsPlainOp l ranges code out vs → LeavesBy t starts s.at (Does i (op_of code out vs)) (turn_of l code vs) e → s.world.over ≡ None → Sees l ranges look s x → u.local ≡ run_all l ws returns (statements_in l ranges (Does i (op_of code out vs))) x → Leaving ws (exit_by l ranges (Does i (op_of code out vs)) e) u v → Left l ranges look starts (step_at m l f (Does i (op_of code out vs)) s) v
+leaves_op m l f look ranges ws returns t starts set i (O.Unary op) out vs e s x u v h by go sees is leaving = leaves_on m l f look ranges ws returns starts set (Does i (op_of (O.Unary op) out vs)) e s x u v h refl by go sees is leaving
+leaves_op m l f look ranges ws returns t starts set i (O.Binary op) out vs e s x u v h by go sees is leaving = leaves_on m l f look ranges ws returns starts set (Does i (op_of (O.Binary op) out vs)) e s x u v h refl by go sees is leaving
+leaves_op m l f look ranges ws returns t starts set i O.Branch None (to ∷ []) e s x u v h by go sees is leaving =
     let here = Does i (op_of O.Branch None (to ∷ [])) in
     taken l ranges look ws starts (exit_by l ranges here e) s (step_at m l f here s) x u v go sees is leaving (branch_left l look ranges ws starts i to e s x u here by sees is)
-leaves_op m l f look ranges ws t starts set i O.CBranch None (to ∷ c ∷ []) e s x u v h by go sees is leaving =
+leaves_op m l f look ranges ws returns t starts set i O.CBranch None (to ∷ c ∷ []) e s x u v h by go sees is leaving =
     let here = Does i (op_of O.CBranch None (to ∷ c ∷ [])) in
     taken l ranges look ws starts (exit_by l ranges here e) s (step_at m l f here s) x u v go sees is leaving (test_left m l f look ranges ws starts set i to c e s x u h by sees is)
-leaves_op m l f look ranges ws t starts set i O.Return None (to ∷ []) e s x u v h by go sees is leaving =
+leaves_op m l f look ranges ws returns t starts set i O.Return None (to ∷ []) e s x u v h by go sees is leaving =
     let here = Does i (op_of O.Return None (to ∷ [])) in
     taken l ranges look ws starts (exit_by l ranges here e) s (step_at m l f here s) x u v go sees is leaving (return_left m l f look ranges ws starts set i to e s x u h by sees is)
-leaves_op m l f look ranges ws t starts set i code out vs e s x u v h by go sees is leaving = absurd h
+leaves_op m l f look ranges ws returns t starts set i code out vs e s x u v h by go sees is leaving = absurd h
 
-pub leaves : {M : Type 0} (m : Acts M) (l : Listing) (f : Frame) (look : M → Bytes) (ranges : List Varnode) (ws : ℕ → ℕ) (t : List TableAt) (starts : List Place) → Setting l ranges ws → (here : Standing) (e : flow_exit.Exit) (s : State M) (x : Local) (u v : CodeState) → IsPlain l ranges here → LeavesBy t starts s.at here (turn_in l here) e → s.world.over ≡ None → Sees l ranges look s x → u.local ≡ run_all l ws (statements_in l ranges here) x → Leaving ws (exit_by l ranges here e) u v → Left l ranges look starts (step_at m l f here s) v
-leaves m l f look ranges ws t starts set Nothing e s x u v h by go sees is leaving = absurd h
-leaves m l f look ranges ws t starts set (Passes i) e s x u v h by go sees is leaving = leaves_on m l f look ranges ws starts set (Passes i) e s x u v h refl by go sees is leaving
-leaves m l f look ranges ws t starts set (Does i op) e s x u v h by go sees is leaving = leaves_op m l f look ranges ws t starts set i op.code op.out op.inputs e s x u v h by go sees is leaving
+pub leaves : {M : Type 0} (m : Acts M) (l : Listing) (f : Frame) (look : M → Bytes) (ranges : List Varnode) (ws : ℕ → ℕ) (returns : List Stmt → Bool) (t : List TableAt) (starts : List Place) → Setting l ranges ws → (here : Standing) (e : flow_exit.Exit) (s : State M) (x : Local) (u v : CodeState) → IsPlain l ranges here → LeavesBy t starts s.at here (turn_in l here) e → s.world.over ≡ None → Sees l ranges look s x → u.local ≡ run_all l ws returns (statements_in l ranges here) x → Leaving ws (exit_by l ranges here e) u v → Left l ranges look starts (step_at m l f here s) v
+leaves m l f look ranges ws returns t starts set Nothing e s x u v h by go sees is leaving = absurd h
+leaves m l f look ranges ws returns t starts set (Passes i) e s x u v h by go sees is leaving = leaves_on m l f look ranges ws returns starts set (Passes i) e s x u v h refl by go sees is leaving
+leaves m l f look ranges ws returns t starts set (Does i op) e s x u v h by go sees is leaving = leaves_op m l f look ranges ws returns t starts set i op.code op.out op.inputs e s x u v h by go sees is leaving

@@ -26,7 +26,7 @@ use Rattle.blockcode.specs.declared.code.Exit.{Exit}
 use Rattle.blockcode.specs.declared.code.Code.{Code}
 use Rattle.blockcode.specs.Run.{CodeState, at, widths, leave, code_step, code_machine}
 use Rattle.blockcode.proofs.Grows.{code_grows}
-use Rattle.blockcode.proofs.Straight.{none_of_drop, step_in, still, Stands, arrives}
+use Rattle.blockcode.proofs.Straight.{step_in, still, Stands, arrives, returns_in}
 use Rattle.plaincode.specs.Lowered.{statements, body_of, exit_by, exit_of, block_of}
 use Rattle.plaincode.specs.Form.{IsPlain}
 use Rattle.plaincode.proofs.Operands.{over, Sees, Setting}
@@ -145,8 +145,8 @@ next_goes m l f t blocks ranges k look given n s u b q others exit go sees runs 
     let ss = statements l ranges s.at in
     let s' : State _ = step_at m l f (standing l s.at) s in
     let u' : CodeState = after (code_step l k) (length ss) u in
-    let there = arrives l k b ss (body_of l ranges (q ∷ others)) u here in
-    let met = goes_to m l f look ranges ws given.setting (standing l s.at) q s u.local (plain s.at (inl refl)) runs.0.goes_on runs.0.next go sees in
+    let there = arrives l k b (body_of l ranges (q ∷ others)) ss u here in
+    let met = goes_to m l f look ranges ws (returns_in b (body_of l ranges (q ∷ others))) given.setting (standing l s.at) q s u.local (plain s.at (inl refl)) runs.0.goes_on runs.0.next go sees in
     let P : Local → Type 0 = λ x. Sees l ranges look s' x in
     let sees' : Sees l ranges look s' u'.local = subst P (sym there.local) met.sees in
     let rel : Related l t blocks ranges k look (length others) s' u' = record {
@@ -180,12 +180,12 @@ last_goes m l f t blocks ranges k look given n s u b exit go sees runs plain her
     let s' : State _ = step_at m l f (standing l s.at) s in
     let u1 : CodeState = after (code_step l k) (length ss) u in
     let u' : CodeState = code_step l k u1 in
-    let there = arrives l k b ss [] u here in
+    let there = arrives l k b [] ss u here in
     let leaving : Leaving ws (exit_by l ranges (standing l s.at) exit) u1 u' = record {
-      on = λ g. step_in l k u1 b None g there.here.block (none_of_drop b.body u1.position (there.here.left g)) ∙ ap (λ e. leave ws e u1) exit_is;
+      on = λ g. step_in l k u1 b [] g there.here.block (there.here.left g) ∙ ap (λ e. leave ws e u1) exit_is;
       off = λ h g. still l k u1 h g;
     } in
-    let left = leaves m l f look ranges ws t (starts_of blocks) given.setting (standing l s.at) exit s u.local u1 u' plain runs go sees there.local leaving in
+    let left = leaves m l f look ranges ws (returns_in b []) t (starts_of blocks) given.setting (standing l s.at) exit s u.local u1 u' plain runs go sees there.local leaving in
     let rel = relates l t blocks ranges k look given s' u' s'.world.over refl left in
     goes_on m l f t blocks ranges k look n s s' u u' (length ss + 1) rel.0 (stepped m l f s go) (sym (after_more (code_step l k) u (length ss) 1)) (inl (omega arith)) rel.1
 

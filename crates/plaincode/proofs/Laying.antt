@@ -1,14 +1,12 @@
 -- The lowered code can be laid out.
 use Rattle.std.proofs.Common.{◌≡◌, ℕ, zero, suc, ◌<◌, Bool, true, false, List, [], ◌∷◌, ◌++◌, length, map, Option, Some, None, refl, sym, ap, ◌∙◌, subst, arith, inl, inr, ⊎_elim}
 use Rattle.std.specs.Prelude.{slice_get, ◌==◌, cond}
-use Rattle.std.proofs.lemmas.Option.{slice_get_within}
+use Rattle.std.proofs.lemmas.Option.{none-some, slice_get_within}
 use Rattle.std.proofs.lemmas.Bool.Decides.{nat_tests}
-use Rattle.std.proofs.Math.Path.{fun_ext}
 use Rattle.pcode_model.specs.declared.listing.Varnode.{Varnode}
 use Rattle.pcode_model.specs.declared.listing.Instruction.{Instruction}
 use Rattle.pcode_model.specs.declared.listing.Place.{Place}
 use Rattle.pcode_model.specs.declared.listing.Listing.{Listing}
-use Rattle.pcode_model.specs.declared.listing.Function.{Function}
 use Rattle.pcode_model.specs.declared.opcode.Opcode.{Opcode}
 use Rattle.pcode_model.specs.declared.opcode.Opcode.TheVariants as O
 use Rattle.pcode_model.specs.declared.tables.TableAt.{TableAt}
@@ -17,52 +15,64 @@ use Rattle.pcode_model.specs.declared.flow.Exit as flow_exit
 use Rattle.pcode_model.specs.declared.flow.Exit.TheVariants as F
 use Rattle.pcode_model.specs.declared.flow.Block as flow_block
 use Rattle.pcode_model.specs.Places.{Standing, Nothing, Passes, Does, standing}
-use Rattle.pcode_model.specs.Step.{first_place, callee_in, returns}
+use Rattle.pcode_model.specs.Step.{first_place}
 use Rattle.pcode_model.specs.Flow.{IsIn, IsFlow, turn_of, turn_in, next_in, IsStart, JumpsTo, TestsTo, LeavesBy, RunsBlock, AllRun, starts_of, places_of, first_in, Entry}
 use Rattle.cmeaning.specs.declared.tree.Expr.{Expr}
 use Rattle.cmeaning.specs.declared.tree.Stmt.{Stmt}
+use Rattle.cmeaning.specs.Do.{callee_of}
 use Rattle.cmeaning.specs.Flat.{returns_by}
+use Rattle.cmeaning.proofs.Do.{callee_of_assign}
 use Rattle.cmeaning.proofs.Flat.{piece_of_assign}
 use Rattle.blockcode.specs.declared.code.Exit.{Exit}
 use Rattle.blockcode.specs.declared.code.Exit.TheVariants as X
 use Rattle.blockcode.specs.declared.code.Block.{Block}
-use Rattle.blockcode.specs.Run.{does_return}
 use Rattle.blockcode.specs.Numbers.{ExitBelow, ExitsBelow}
-use Rattle.blockcode.specs.Plain.{AreParams, IsDirect}
-use Rattle.layout_laws.proofs.Pieces.{AllSimple}
-use Rattle.layout_laws.proofs.Positions.{AllBlocks}
-use Rattle.layout_laws.proofs.Laid.{CanLay}
+use Rattle.blockcode.specs.Plain.{AllSimple, AreParams, AreSimple, CanLay, IsDirect, IsSimple}
 use Rattle.plaincode.specs.Lowered.{ranges_of, variable_for, variable_of, assigns, op_statements, statements_in, statements, body_of, exit_by, exit_of, block_of, same_place, place_number, lowered}
 use Rattle.plaincode.specs.Form.{IsPlainOp, IsPlain, IsPlainForm}
 use Rattle.plaincode.proofs.Follows.{in_block}
 
 -- ---- statements are assignments
 
-simple_append : (returns : ℕ → Bool) (xs ys : List Stmt) → AllSimple returns xs → AllSimple returns ys → AllSimple returns (xs ++ ys)
-simple_append returns [] ys h g = g
-simple_append returns (x ∷ xs) ys h g = (h.0, simple_append returns xs ys h.1 g)
+-- simple statements that call no address
+abbrev CallNothing : List Stmt → Type 0
+CallNothing [] = Unit {0}
+CallNothing (s ∷ ss) = (((returns : ℕ → Bool) → IsSimple returns s) × (callee_of s ≡ None)) × CallNothing ss
 
-assigns_simple : (returns : ℕ → Bool) (ranges : List Varnode) (out : Option Varnode) (e : Expr) → AllSimple returns (assigns ranges out e)
-assigns_simple returns ranges None e = tt
-assigns_simple returns ranges (Some z) e = (record { leaves = false; piece = piece_of_assign returns (variable_of ranges z) e }, tt)
+quiet_append : (xs ys : List Stmt) → CallNothing xs → CallNothing ys → CallNothing (xs ++ ys)
+quiet_append [] ys h g = g
+quiet_append (x ∷ xs) ys h g = (h.0, quiet_append xs ys h.1 g)
 
-op_simple : (returns : ℕ → Bool) (l : Listing) (ranges : List Varnode) (code : Opcode) (out : Option Varnode) (vs : List Varnode) → AllSimple returns (op_statements l ranges code out vs)
-op_simple returns l ranges (O.Unary op) out vs = assigns_simple returns ranges out _
-op_simple returns l ranges (O.Binary op) out vs = assigns_simple returns ranges out _
-op_simple returns l ranges code out vs = tt
+assigns_quiet : (ranges : List Varnode) (out : Option Varnode) (e : Expr) → CallNothing (assigns ranges out e)
+assigns_quiet ranges None e = tt
+assigns_quiet ranges (Some z) e =
+    let v = variable_of ranges z in
+    ((λ returns. record { leaves = false; piece = piece_of_assign returns v e }, callee_of_assign v e), tt)
 
-here_simple : (returns : ℕ → Bool) (l : Listing) (ranges : List Varnode) (here : Standing) → AllSimple returns (statements_in l ranges here)
-here_simple returns l ranges Nothing = tt
-here_simple returns l ranges (Passes i) = tt
-here_simple returns l ranges (Does i op) = op_simple returns l ranges op.code op.out op.inputs
+module _ (l : Listing) (ranges : List Varnode) where
+  op_quiet : (code : Opcode) (out : Option Varnode) (vs : List Varnode) → CallNothing (op_statements l ranges code out vs)
+  op_quiet (O.Unary op) out vs = assigns_quiet ranges out _
+  op_quiet (O.Binary op) out vs = assigns_quiet ranges out _
+  op_quiet code out vs = tt
 
-body_simple : (returns : ℕ → Bool) (l : Listing) (ranges : List Varnode) (ps : List Place) → AllSimple returns (body_of l ranges ps)
-body_simple returns l ranges [] = tt
-body_simple returns l ranges (p ∷ ps) = simple_append returns (statements l ranges p) (body_of l ranges ps) (here_simple returns l ranges (standing l p)) (body_simple returns l ranges ps)
+  here_quiet : (here : Standing) → CallNothing (statements_in l ranges here)
+  here_quiet Nothing = tt
+  here_quiet (Passes i) = tt
+  here_quiet (Does i op) = op_quiet op.code op.out op.inputs
 
-blocks_simple : (returns : ℕ → Bool) (l : Listing) (ranges : List Varnode) (blocks : List flow_block.Block) → AllBlocks returns (map (block_of l ranges) blocks)
-blocks_simple returns l ranges [] = tt
-blocks_simple returns l ranges (b ∷ blocks) = (body_simple returns l ranges b.places, blocks_simple returns l ranges blocks)
+  body_quiet : (ps : List Place) → CallNothing (body_of l ranges ps)
+  body_quiet [] = tt
+  body_quiet (p ∷ ps) = quiet_append (statements l ranges p) (body_of l ranges ps) (here_quiet (standing l p)) (body_quiet ps)
+
+  are_simple : (returns : ℕ → Bool) (ss : List Stmt) (e : Exit) → CallNothing ss → AreSimple returns ss e
+  are_simple returns [] e h = tt
+  are_simple returns (s ∷ ss) e h =
+      ((h.0.0 returns, λ a is. absurd (none-some a (sym h.0.1 ∙ is))), are_simple returns ss e h.1)
+
+  blocks_simple : (returns : ℕ → Bool) (blocks : List flow_block.Block) → AllSimple returns (map (block_of l ranges) blocks)
+  blocks_simple returns [] = tt
+  blocks_simple returns (b ∷ blocks) =
+      (are_simple returns (body_of l ranges b.places) (exit_of l ranges b.places b.exit) (body_quiet b.places), blocks_simple returns blocks)
 
 -- ---- exits
 
@@ -170,10 +180,8 @@ are_params : (atoms : List Atom) → AreParams (map variable_for atoms)
 are_params [] = tt
 are_params (a ∷ atoms) = (tt, are_params atoms)
 
-all_return : (l : Listing) → l.callees ≡ [] → does_return l ≡ returns_by []
-all_return l e = fun_ext (λ a. ap (λ (fs : List Function). returns (callee_in fs a)) e)
-
-pub can_lay : (l : Listing) (t : List TableAt) (blocks : List flow_block.Block) (atoms : List Atom) → IsPlainForm l t blocks atoms → CanLay l (lowered l blocks atoms)
+-- The code can be laid out.
+pub can_lay : (l : Listing) (t : List TableAt) (blocks : List flow_block.Block) (atoms : List Atom) → IsPlainForm l t blocks atoms → CanLay (lowered l blocks atoms)
 can_lay l t blocks atoms form =
     let ranges = ranges_of l atoms in
     let starts = starts_of blocks in
@@ -188,8 +196,7 @@ can_lay l t blocks atoms form =
         entry = omega (arith, slice_get_within starts (place_number starts (first_place l)) (first_place l) (entry_found l t blocks form.flow), many, long);
         exits = exits_below (length (map (block_of l ranges) blocks)) (map (block_of l ranges) blocks) below;
       };
-      simple = blocks_simple (returns_by []) l ranges blocks;
+      simple = blocks_simple l ranges (returns_by []) blocks;
       direct = λ n x e. (fits n x e).0;
       params = are_params atoms;
-      returns = all_return l form.callees;
     }

@@ -6,4 +6,4 @@ pub mod Ops
 pub mod Exits
 pub mod Follows
 pub mod Laying
-pub mod Agrees
+pub mod Keeps
