@@ -1,5 +1,5 @@
 -- The prototypes of the lines so far.
-use Rattle.std.proofs.Common.{◌≡◌, ◌<◌, ◌≤◌, ◌+◌, ℕ, suc, Bool, true, false, List, [], ◌∷◌, ◌++◌, length, ap, sym, refl, arith, subst, map}
+use Rattle.std.proofs.Common.{◌≡◌, ◌<◌, ◌≤◌, ℕ, true, false, List, [], ◌∷◌, ◌++◌, length, ap, sym, refl, arith, subst, map}
 use Rattle.std.specs.Prelude.{◌==◌, ◌&&◌, ◌||◌, not, nat_lt, Option, Some, None, IfSome, IsSome}
 use Rattle.std.specs.List.{AllByRecursion, list_any}
 use Rattle.std.specs.Option.{is_none, option_map}
@@ -19,7 +19,7 @@ use Rattle.pcodetext.specs.Faults.{has_bad_size, is_bad_argument, is_bad_kept, i
 use Rattle.pcodetext.specs.Meaning.{storage_of, varnode}
 use Rattle.pcodetext.specs.Tables.{proto_name}
 use Rattle.pcodetext.proofs.Distinct.{distinct_snoc}
-use Rattle.pcodetext.proofs.Passing.{all_snoc, left_false, length_snoc, never, nil_is, right_false, zero_false}
+use Rattle.pcodetext.proofs.Passing.{all_snoc, left_false, length_snoc, never, right_false, zero_false}
 use Rattle.pcodetext.proofs.Ranges.{apart_from_result, apart_from_stack, register_by, register_is, register_kind}
 use Rattle.pcodetext.proofs.Spaces.{complete_is}
 

@@ -41,7 +41,12 @@ pub fn form(alloc: Global, said: &PartialListing, line: &[u8]) -> Result<Form, A
     head_form(alloc, said, word, rest)
 }
 
-fn head_form(alloc: Global, said: &PartialListing, word: &[u8], rest: &[u8]) -> Result<Form, AllocError>
+fn head_form(
+    alloc: Global,
+    said: &PartialListing,
+    word: &[u8],
+    rest: &[u8],
+) -> Result<Form, AllocError>
     ensures { IfOk result (λ form. form ≡ head_form said.now word.now (left 32 rest.now)) }
 {
     if word == b"pcode".as_slice() {
