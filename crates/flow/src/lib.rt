@@ -10,4 +10,4 @@ mod places;
 mod reach;
 mod starts;
 
-pub use answer::{FlowFault, MAX_BLOCKS, follow};
+pub use answer::{FlowFault, follow};

@@ -16,4 +16,4 @@ pub mod values;
 
 pub use framing::lies_in_ram;
 pub use listing_run::{NoRun, run_listing};
-pub use run::{can_run, run_p};
+pub use run::run_p;

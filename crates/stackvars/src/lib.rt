@@ -5,4 +5,4 @@ mod accessed;
 pub mod laws;
 mod ranges;
 
-pub use accessed::{AtomFault, MAX_ATOMS, atoms};
+pub use accessed::{AtomFault, atoms};
