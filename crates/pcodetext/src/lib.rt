@@ -10,7 +10,7 @@ pub mod form;
 pub mod forms;
 pub mod opcodes;
 pub mod reader;
-pub mod said;
+pub mod partial_listing;
 pub mod steps;
 pub mod tables;
 pub mod written;
@@ -21,4 +21,4 @@ pub use form::{
 };
 pub use listing_print::print_listing;
 pub use reader::read_listing;
-pub use said::Said;
+pub use partial_listing::PartialListing;
