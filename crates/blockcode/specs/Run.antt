@@ -1,12 +1,11 @@
 -- The run of a code of blocks: one step carries out one statement, or leaves a block. Its statements do what they do in
 -- a C function. This project's own.
-use Rattle.std.specs.Prelude.{ℕ, suc, ◌==◌, Bool, if◌then◌else◌, List, [], ◌∷◌, slice_get, Option, Some, None}
+use Rattle.std.specs.Prelude.{ℕ, suc, ◌==◌, Bool, true, false, if◌then◌else◌, List, [], ◌∷◌, drop, slice_get, Option, Some, None}
 use Rattle.machine.specs.Trace.{Returned, BadTarget, Undefined, Trace}
 use Rattle.machine.specs.Machine.{Machine, seen}
 use Rattle.pcode_model.specs.declared.storage.ParamStorage.{ParamStorage}
 use Rattle.pcode_model.specs.declared.listing.Listing.{Listing}
 use Rattle.pcode_model.specs.World.{Entry, first_world, shown, unless_over}
-use Rattle.pcode_model.specs.Step.{returns, callee_at}
 use Rattle.cmeaning.specs.declared.tree.Stmt.{Stmt}
 use Rattle.cmeaning.specs.Value.{value_of}
 use Rattle.cmeaning.specs.Do.{Local, ends, do_simple}
@@ -49,11 +48,13 @@ first_word l e (Some v) = word_in l e v.width.bytes v.storage
 abbrev pub first_local : Listing → List Variable → Entry → Local
 first_local l vs e = record { env = λ n. first_word l e (slice_get vs n); left = λ o. 0; world = first_world e.bytes e }
 
--- whether the callee at an address returns
-abbrev pub does_return : Listing → ℕ → Bool
-does_return l a = returns (callee_at l a)
-
 -- ---- a step
+
+-- Whether a call returns, by the statements behind it in its block and by the block's exit: not where it is the last one
+-- and the exit is Stop.
+abbrev pub call_returns : List Stmt → Exit → Bool
+call_returns [] Stop = false
+call_returns rest e = true
 
 abbrev pub undefined : CodeState → CodeState
 undefined s = at s.block s.position (ends Undefined s.local)
@@ -84,14 +85,14 @@ leave ws (Test e taken other) s = enters_by (value_of ws s.local.env e) s (λ n.
 leave ws (Switch e arms) s = enters_by (value_of ws s.local.env e) s (chosen arms s)
 leave ws Stop s = undefined s
 
--- the next statement, or the exit where none is left
-abbrev pub pass : Listing → (ℕ → ℕ) → Option Stmt → Exit → CodeState → CodeState
-pass l ws (Some x) e s = at s.block (suc s.position) (do_simple l ws (does_return l) x s.local)
-pass l ws None e s = leave ws e s
+-- the first of the statements that are left, or the exit where none is
+abbrev pub pass : Listing → (ℕ → ℕ) → List Stmt → Exit → CodeState → CodeState
+pass l ws [] e s = leave ws e s
+pass l ws (x ∷ rest) e s = at s.block (suc s.position) (do_simple l ws (λ a. call_returns rest e) x s.local)
 
 abbrev pub pass_in : Listing → (ℕ → ℕ) → Option Block → CodeState → CodeState
 pass_in l ws None s = undefined s
-pass_in l ws (Some b) s = pass l ws (slice_get b.body s.position) b.exit s
+pass_in l ws (Some b) s = pass l ws (drop s.position b.body) b.exit s
 
 -- After an end nothing changes.
 abbrev pub code_step : Listing → Code → CodeState → CodeState

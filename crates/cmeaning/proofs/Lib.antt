@@ -9,6 +9,7 @@ pub mod Runs
 mod Sets
 pub mod Places
 mod Firsts
-mod Order
+pub mod Order
 mod Entries
 pub mod Grows
+pub mod Names

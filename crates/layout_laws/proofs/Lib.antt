@@ -3,4 +3,4 @@ pub mod Positions
 pub mod Follows
 pub mod Ends
 pub mod Laid
-pub mod Valid
+pub mod Keeps

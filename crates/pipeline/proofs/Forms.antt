@@ -26,7 +26,7 @@ use Rattle.bits_core.specs.declared.word.Width.{Width}
 use Rattle.blockcode.specs.Laid.{laid_out}
 use Rattle.blockcode.specs.declared.code.Code.{Code}
 use Rattle.plaincode.specs.Lowered.{lowered, plain_function, result_width}
-use Rattle.plaincode.proofs.Agrees.{plain_agrees}
+use Rattle.pipeline.proofs.Keeps.{agrees as plain_agrees}
 use Rattle.plain_valid.specs.Long.{AreLong, IsLong}
 use Rattle.plain_valid.proofs.Valid.{plain_valid}
 use Rattle.plain_form.proofs.Formed.{IsFormed, Inside}

@@ -6,3 +6,4 @@ pub mod Spaces
 pub mod Formed
 pub mod Ordered
 pub mod Verdicts
+pub mod Keeps

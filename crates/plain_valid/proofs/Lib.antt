@@ -4,3 +4,5 @@ pub mod Lines
 pub mod Lowering
 pub mod Long
 pub mod Valid
+pub mod Fit
+pub mod Signature

@@ -1,26 +1,50 @@
--- The atoms of a listing begin at numbers of 64 bits, where each access ends within them.
-use Rattle.std.proofs.Common.{ℕ, ◌+◌, ◌<◌, ◌≤◌, ◌^◌, List, [], ◌∷◌, refl, arith, inl, inr}
+-- The atoms of a listing without frame variables begin at numbers of 64 bits, where each access ends within them.
+use Rattle.std.proofs.Common.{◌≡◌, ℕ, ◌+◌, ◌<◌, ◌≤◌, ◌^◌, List, [], ◌∷◌, refl, arith, inl, inr}
+use Rattle.std.specs.Prelude.{pos, ◌+ℤ◌}
+use Rattle.std.proofs.lemmas.Int.{ints}
 use Rattle.pcode_model.specs.declared.listing.Varnode.{Varnode}
 use Rattle.pcode_model.specs.declared.listing.Listing.{Listing}
 use Rattle.pcode_model.specs.declared.storage.ParamStorage.{ParamStorage}
 use Rattle.pcode_model.specs.declared.storage.ParamStorage.TheVariants as P
 use Rattle.pcode_model.specs.declared.tables.TableAt.{TableAt}
 use Rattle.pcode_model.specs.declared.atoms.Atom.{Atom}
-use Rattle.pcode_model.specs.Atoms.{Accesses, IsPart, IsAtomOf, IsAtom, AreAtoms}
+use Rattle.pcode_model.specs.Atoms.{Accesses, AreAtoms, IsAccessed, IsAtom, area_of, offset_of, range}
 use Rattle.pcode_model.specs.Flow.{IsIn}
+use Rattle.pcode_model.specs.Frame.{no_variables}
 use Rattle.plain_valid.specs.Long.{IsLong, AreLong}
 
-part_long : (l : Listing) (t : List TableAt) (s o k : ℕ) → ((v : Varnode) → Accesses l t v → v.offset + v.size ≤ 2 ^ 64) → IsPart l t s o k → o < 2 ^ 64
-part_long l t s o k low part = omega (arith, part.some, part.to, low part.access part.accessed)
+module _
+    (l : Listing)
+    (t : List TableAt)
+    (low : (v : Varnode) → Accesses l t v → v.offset + v.size ≤ 2 ^ 64)
+  where
+    -- so many bytes of a storage lie in an access of m bytes, d bytes above where it begins
+    within_long : (s r : ParamStorage) (size m d : ℕ) → 0 < size
+        → area_of s ≡ area_of r → offset_of s ≡ offset_of r +ℤ pos d → d + size ≤ m
+        → IsAccessed l t no_variables (range r m) → IsLong s
+    within_long (P.Register o) (P.Register p) size m d some area at fits acc =
+        omega (arith, ints, some, at, fits, low _ acc)
+    within_long (P.Register o) (P.Unique p) size m d some area at fits acc = absurd (cc)
+    within_long (P.Register o) (P.Stack p) size m d some area at fits acc = absurd acc.1.0
+    within_long (P.Unique o) (P.Register p) size m d some area at fits acc = absurd (cc)
+    within_long (P.Unique o) (P.Unique p) size m d some area at fits acc =
+        omega (arith, ints, some, at, fits, low _ acc)
+    within_long (P.Unique o) (P.Stack p) size m d some area at fits acc = absurd acc.1.0
+    within_long (P.Stack o) (P.Register p) size m d some area at fits acc = absurd (cc)
+    within_long (P.Stack o) (P.Unique p) size m d some area at fits acc = absurd (cc)
+    within_long (P.Stack o) (P.Stack p) size m d some area at fits acc = absurd acc.1.0
 
-storage_long : (l : Listing) (t : List TableAt) (s : ParamStorage) (k : ℕ) → ((v : Varnode) → Accesses l t v → v.offset + v.size ≤ 2 ^ 64) → IsAtomOf l t s k → IsLong s
-storage_long l t (P.Register o) k low part = part_long l t _ o k low part
-storage_long l t (P.Unique o) k low part = part_long l t _ o k low part
-storage_long l t (P.Stack o) k low part = absurd part
+    atom_long : (a : Atom) → IsAtom l t no_variables a → IsLong a.storage
+    atom_long a is =
+        let place = is.inside.1 in
+        within_long a.storage is.access.storage a.size is.access.size place.0 is.some is.inside.0 place.1.0 place.1.1
+        is.accessed
 
-each_long : (l : Listing) (t : List TableAt) (atoms : List Atom) → ((v : Varnode) → Accesses l t v → v.offset + v.size ≤ 2 ^ 64) → ((a : Atom) → IsIn a atoms → IsAtom l t a) → AreLong atoms
-each_long l t [] low each = tt
-each_long l t (a ∷ atoms) low each = (storage_long l t a.storage a.size low (each a (inl refl)), each_long l t atoms low (λ b h. each b (inr h)))
+    each_long : (atoms : List Atom) → ((a : Atom) → IsIn a atoms → IsAtom l t no_variables a) → AreLong atoms
+    each_long [] each = tt
+    each_long (a ∷ atoms) each = (atom_long a (each a (inl refl)), each_long atoms (λ b h. each b (inr h)))
 
-pub atoms_long : (l : Listing) (t : List TableAt) (atoms : List Atom) → AreAtoms l t atoms → ((v : Varnode) → Accesses l t v → v.offset + v.size ≤ 2 ^ 64) → AreLong atoms
-atoms_long l t atoms are low = each_long l t atoms low (λ a. (are.each a).0)
+-- Each atom begins at a number of 64 bits.
+pub atoms_long : (l : Listing) (t : List TableAt) (atoms : List Atom) → AreAtoms l t no_variables atoms
+    → ((v : Varnode) → Accesses l t v → v.offset + v.size ≤ 2 ^ 64) → AreLong atoms
+atoms_long l t atoms are low = each_long l t low atoms (λ a. (are.each a).0)

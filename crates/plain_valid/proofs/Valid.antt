@@ -1,8 +1,10 @@
 -- The C function of the plain lowering is a valid tree.
 use Rattle.std.proofs.Common.{◌≡◌, ℕ, zero, suc, ◌≤◌, ◌^◌, true, false, List, [], ◌∷◌, length, map, Option, Some, refl, sym, ap, ◌∙◌, arith}
-use Rattle.std.specs.Prelude.{IsTrue, slice_get, ◌&&◌}
+use Rattle.std.specs.Prelude.{Bool, IsTrue, ℤ, slice_get, ◌&&◌, ◌<ℤ◌}
+use Rattle.std.specs.Int.Signed.{lt_z}
 use Rattle.std.proofs.lemmas.Option.{slice_get_within}
 use Rattle.std.proofs.lemmas.Bool.Decides.{nat_tests}
+use Rattle.std.proofs.lemmas.Int.{ints}
 use Rattle.pcode_model.specs.declared.listing.Varnode.{Varnode}
 use Rattle.pcode_model.specs.declared.listing.Listing.{Listing}
 use Rattle.pcode_model.specs.declared.storage.ParamStorage.{ParamStorage}
@@ -16,6 +18,7 @@ use Rattle.cmeaning.specs.declared.tree.Param.{Param}
 use Rattle.cmeaning.specs.declared.tree.Local as tree
 use Rattle.cmeaning.specs.Do.{variable_width}
 use Rattle.cmeaning.specs.Valid.{is_name, is_storage, is_before, precedes_all, are_params, IsValid}
+use Rattle.cmeaning.proofs.Order.{before_chain}
 use Rattle.blockcode.specs.Laid.{params_of, locals_of}
 use Rattle.plaincode.specs.Nodes.{width_by}
 use Rattle.plaincode.specs.Lowered.{range_of, ranges_of, variable_of, variable_for, lowered, result_width, plain_function}
@@ -26,7 +29,7 @@ use Rattle.plaincode.proofs.Laying.{map_length}
 use Rattle.plain_valid.specs.Long.{IsLong, AreLong}
 use Rattle.plain_valid.proofs.Lines.{laid_valid}
 use Rattle.plain_valid.proofs.Lowering.{Setting, blocks_suit}
-use Rattle.plaincode.proofs.Agrees.{range_size}
+use Rattle.plaincode.proofs.Keeps.{range_size}
 
 -- ---- parameters
 
@@ -50,43 +53,41 @@ no_locals (a ∷ atoms) = no_locals atoms
 
 -- ---- their order
 
-before_trans : (r s t : ParamStorage) → StandsBefore r s → StandsBefore s t → StandsBefore r t
-before_trans (P.Register a) (P.Register b) (P.Register c) h g = omega (arith, h, g)
-before_trans (P.Register a) (P.Register b) (P.Unique c) h g = tt
-before_trans (P.Register a) (P.Register b) (P.Stack c) h g = absurd g
-before_trans (P.Register a) (P.Unique b) (P.Register c) h g = absurd g
-before_trans (P.Register a) (P.Unique b) (P.Unique c) h g = tt
-before_trans (P.Register a) (P.Unique b) (P.Stack c) h g = absurd g
-before_trans (P.Register a) (P.Stack b) t h g = absurd h
-before_trans (P.Unique a) (P.Register b) t h g = absurd h
-before_trans (P.Unique a) (P.Unique b) (P.Register c) h g = absurd g
-before_trans (P.Unique a) (P.Unique b) (P.Unique c) h g = omega (arith, h, g)
-before_trans (P.Unique a) (P.Unique b) (P.Stack c) h g = absurd g
-before_trans (P.Unique a) (P.Stack b) t h g = absurd h
-before_trans (P.Stack a) s t h g = absurd h
+before_int : (m n : ℤ) → m <ℤ n → lt_z m n ≡ true
+before_int m n h = by (lt_z m n) refl where
+  by : (t : Bool) → lt_z m n ≡ t → t ≡ true
+  by true e = refl
+  by false e = absurd (omega (arith, ints, h, e))
 
 is_before_by : (r s : ParamStorage) → StandsBefore r s → is_before r s ≡ true
 is_before_by (P.Register a) (P.Register b) h = grind (arith, nat_tests)
 is_before_by (P.Register a) (P.Unique b) h = refl
-is_before_by (P.Register a) (P.Stack b) h = absurd h
+is_before_by (P.Register a) (P.Stack b) h = refl
 is_before_by (P.Unique a) (P.Register b) h = absurd h
 is_before_by (P.Unique a) (P.Unique b) h = grind (arith, nat_tests)
-is_before_by (P.Unique a) (P.Stack b) h = absurd h
-is_before_by (P.Stack a) s h = absurd h
+is_before_by (P.Unique a) (P.Stack b) h = refl
+is_before_by (P.Stack a) (P.Register b) h = absurd h
+is_before_by (P.Stack a) (P.Unique b) h = absurd h
+is_before_by (P.Stack a) (P.Stack b) h = before_int a b h
 
 is_storage_by : (s : ParamStorage) → IsLong s → is_storage s ≡ true
 is_storage_by (P.Register o) h = grind (arith, nat_tests)
 is_storage_by (P.Unique o) h = grind (arith, nat_tests)
 is_storage_by (P.Stack o) h = absurd h
 
--- without the second one
-without : (a b : Atom) (atoms : List Atom) → InOrder (a ∷ b ∷ atoms) → InOrder (a ∷ atoms)
-without a b [] h = tt
-without a b (c ∷ atoms) h = (before_trans a.storage b.storage c.storage h.0 h.1.0, h.1.1)
+-- what stands before the first one stands before all
+precedes : (p a : Atom) (atoms : List Atom) → is_before p.storage a.storage ≡ true → InOrder (a ∷ atoms)
+    → precedes_all (param_for p) (params (a ∷ atoms)) ≡ true
+precedes p a [] first h = ap (λ t. t && true) first
+precedes p a (b ∷ atoms) first h =
+    ap (λ t. t && precedes_all (param_for p) (params (b ∷ atoms))) first
+    ∙ precedes p b atoms
+    (before_chain p.storage a.storage b.storage first (is_before_by a.storage b.storage h.0)) h.1
 
-precedes : (a : Atom) (atoms : List Atom) → InOrder (a ∷ atoms) → precedes_all (param_for a) (params atoms) ≡ true
-precedes a [] h = refl
-precedes a (b ∷ atoms) h = ap (λ t. t && precedes_all (param_for a) (params atoms)) (is_before_by a.storage b.storage h.0) ∙ precedes a atoms (without a b atoms h)
+precedes_rest : (a : Atom) (atoms : List Atom) → InOrder (a ∷ atoms)
+    → precedes_all (param_for a) (params atoms) ≡ true
+precedes_rest a [] h = refl
+precedes_rest a (b ∷ atoms) h = precedes a b atoms (is_before_by a.storage b.storage h.0) h.1
 
 rest_in_order : (a : Atom) (atoms : List Atom) → InOrder (a ∷ atoms) → InOrder atoms
 rest_in_order a [] h = tt
@@ -95,20 +96,27 @@ rest_in_order a (b ∷ atoms) h = h.1
 params_right : (atoms : List Atom) → AreLong atoms → InOrder atoms → are_params (params atoms) ≡ true
 params_right [] long order = refl
 params_right (a ∷ atoms) long order =
-    ap (λ t. t && (precedes_all (param_for a) (params atoms) && are_params (params atoms))) (is_storage_by a.storage long.0)
-    ∙ ap (λ t. t && are_params (params atoms)) (precedes a atoms order)
+    ap (λ t. t && (precedes_all (param_for a) (params atoms) && are_params (params atoms)))
+    (is_storage_by a.storage long.0)
+    ∙ ap (λ t. t && are_params (params atoms)) (precedes_rest a atoms order)
     ∙ params_right atoms long.1 (rest_in_order a atoms order)
 
 -- ---- their widths
 
-width_at : (l : Listing) (atoms : List Atom) (n : ℕ) (v : Varnode) (o : Option tree.Local) → AreNarrow atoms → slice_get (ranges_of l atoms) n ≡ Some v → variable_width (slice_get (params atoms) n) o ≡ v.size
+width_at : (l : Listing) (atoms : List Atom) (n : ℕ) (v : Varnode) (o : Option tree.Local)
+    → AreNarrow atoms
+    → slice_get (ranges_of l atoms) n ≡ Some v
+    → variable_width (slice_get (params atoms) n) o ≡ v.size
 width_at l [] n v o all e = absurd (cc)
 width_at l (a ∷ atoms) zero v o all e =
     let r : range_of l a ≡ v = cc in
     nearest_is a.size (all.0.1).0 (all.0.1).1 ∙ sym (range_size l a.storage a.size) ∙ ap (λ (w : Varnode). w.size) r
 width_at l (a ∷ atoms) (suc n) v o all e = width_at l atoms n v o all.1 e
 
-setting : (l : Listing) (blocks : List flow_block.Block) (atoms : List Atom) → AreNarrow atoms → length atoms ≤ 2 ^ 32 → Setting l (ranges_of l atoms) (plain_function l blocks atoms)
+setting : (l : Listing) (blocks : List flow_block.Block) (atoms : List Atom)
+    → AreNarrow atoms
+    → length atoms ≤ 2 ^ 32
+    → Setting l (ranges_of l atoms) (plain_function l blocks atoms)
 setting l blocks atoms narrow few =
     let ranges = ranges_of l atoms in
     record {
@@ -116,7 +124,12 @@ setting l blocks atoms narrow few =
       parameters = λ v h.
           let e = found ranges v h in
           record {
-            within = omega (arith, slice_get_within ranges (variable_of ranges v) v e, ranges_length l atoms, params_length atoms);
+            within = omega (
+              arith,
+              slice_get_within ranges (variable_of ranges v) v e,
+              ranges_length l atoms,
+              params_length atoms,
+            );
             width = width_at l atoms (variable_of ranges v) v _ narrow e;
           };
       gives = refl;
@@ -126,11 +139,19 @@ setting l blocks atoms narrow few =
 
 -- Where the atoms stand in their order, at numbers of 64 bits, are no more than numbers of 32 bits, and the name has the
 -- form of one.
-pub plain_valid : (l : Listing) (t : List TableAt) (blocks : List flow_block.Block) (atoms : List Atom) → IsPlainForm l t blocks atoms → InOrder atoms → AreLong atoms → length atoms ≤ 2 ^ 32 → IsTrue (is_name l.func.name) → IsValid (plain_function l blocks atoms)
+pub plain_valid : (l : Listing) (t : List TableAt) (blocks : List flow_block.Block) (atoms : List Atom)
+    → IsPlainForm l t blocks atoms
+    → InOrder atoms
+    → AreLong atoms
+    → length atoms ≤ 2 ^ 32
+    → IsTrue (is_name l.func.name)
+    → IsValid (plain_function l blocks atoms)
 plain_valid l t blocks atoms form order long few named =
     let f = plain_function l blocks atoms in
     let ranges = ranges_of l atoms in
     let set = setting l blocks atoms form.narrow few in
-    laid_valid l.func.name (result_width l) (lowered l blocks atoms) named (params_right atoms long order) (no_locals atoms)
+    laid_valid l.func.name (result_width l) (lowered l blocks atoms) named (params_right atoms long order)
+    (no_locals atoms)
     (omega (arith, form.few, map_length l ranges blocks))
-    (λ labels. blocks_suit l ranges f labels t (starts_of blocks) set blocks (λ q h. form.plain q ((form.flow.each q).0 h)) form.flow.run)
+    (λ labels. blocks_suit l ranges f labels t (starts_of blocks) set blocks
+    (λ q h. form.plain q ((form.flow.each q).0 h)) form.flow.run)

@@ -1,3 +1,4 @@
+pub mod Members
 pub mod Words
 pub mod Last
 pub mod Nodes
@@ -6,4 +7,4 @@ pub mod Ops
 pub mod Exits
 pub mod Follows
 pub mod Laying
-pub mod Agrees
+pub mod Keeps

@@ -40,16 +40,29 @@ declared_size (s ∷ ss) (suc n) all other = declared_size ss n all.1 other
 -- a space other than the constant space has at most 2 to the 64 bytes
 pub size_most : (ss : List Space) (n : ℕ) → AreSpaces ss → same_kind Constant (kind_in (slice_get ss n)) ≡ false → size_in (slice_get ss n) ≤ 2 ^ 64
 size_most [] n good other = absurd good
-size_most (s ∷ ss) zero good other = absurd (not_constant s good.0 other) where
-  not_constant : (s : Space) → s ≡ constant_space → same_kind Constant s.kind ≡ false → ⊥
-  not_constant s is isnt = let e : true ≡ false = ap (λ (x : Space). same_kind Constant x.kind) (sym is) ∙ isnt in cc
+size_most (s ∷ ss) zero good other = absurd (not_constant s.kind (ap (λ (x : Space). x.kind) good.0) other) where
+  not_constant : (k : SpaceKind) → k ≡ Constant → same_kind Constant k ≡ false → ⊥
+  not_constant k is isnt = let e : true ≡ false = ap (same_kind Constant) (sym is) ∙ isnt in cc
 size_most (s ∷ ss) (suc n) good other = declared_size ss n good.1 other
 
+-- a ram, a register or a unique space isn't the constant space
 pub ram_not_constant : (k : SpaceKind) → same_kind Ram k ≡ true → same_kind Constant k ≡ false
 ram_not_constant Constant e = sym e
 ram_not_constant Ram e = refl
 ram_not_constant Register e = refl
 ram_not_constant Unique e = refl
+
+pub register_not_constant : (k : SpaceKind) → same_kind Register k ≡ true → same_kind Constant k ≡ false
+register_not_constant Constant e = sym e
+register_not_constant Ram e = refl
+register_not_constant Register e = refl
+register_not_constant Unique e = refl
+
+pub unique_not_constant : (k : SpaceKind) → same_kind Unique k ≡ true → same_kind Constant k ≡ false
+unique_not_constant Constant e = sym e
+unique_not_constant Ram e = refl
+unique_not_constant Register e = refl
+unique_not_constant Unique e = refl
 
 pub fixed_ends : (ss : List Space) (f : Fixed) → AreSpaces ss → IsFixed ss f → f.offset + length f.bytes ≤ 2 ^ 64
 fixed_ends ss f good is =

@@ -53,8 +53,7 @@ pub(crate) fn fixed_bytes(alloc: Global, fixed: &[Fixed]) -> Result<ByteMap, Mem
 
 impl Setting {
     pub fn new(alloc: Global, listing: &Listing) -> Result<Setting, Memory>
-        requires formed { IsWellFormed listing.now }
-        requires few { length listing.now.spaces ≤ 256 }
+        requires { IsWellFormed listing.now }
         ensures { IfOk result (IsSetting listing.now) }
     {
         let spaces = listing.spaces.as_slice();

@@ -1,4 +1,3 @@
-pub mod Rows
 pub mod Exact
 pub mod Four
 pub mod Ending

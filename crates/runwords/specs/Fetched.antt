@@ -1,23 +1,21 @@
 -- What comes of reading the files. This project's own.
-use Rattle.std.specs.Prelude.{◌≡◌, ◌⊎◌, ◌≤◌, ℕ, List, length, nat_lt, Option, Some, None, Result, Ok, Err, if◌then◌else◌}
+use Rattle.std.specs.Prelude.{◌≡◌, ◌⊎◌, ◌≤◌, ℕ, List, length, Option, Some, None, Result, Ok, Err}
 use Rattle.outside.specs.Causes.{Rose}
 use Rattle.outside.specs.Files.{IsFile, IsMissing, file_of}
 use Rattle.outside.specs.Reading.{Gave}
 use Rattle.outside.specs.Told.{Folder, Told}
 use Rattle.outside.specs.declared.reading.ReadEnd.{ReadEnd}
-use Rattle.outside.specs.declared.reading.ReadEnd.TheVariants.{Fault, TooLong}
+use Rattle.outside.specs.declared.reading.ReadEnd.TheVariants.{Fault}
+use Rattle.pcode_model.specs.Limits.{max_input}
+use Rattle.statuses.specs.Told.{whole}
 use Rattle.runwords.specs.Request.{Asked}
 use Rattle.runwords.specs.declared.files.Inputs.{Inputs}
 
--- the greatest number of bytes of a file
-abbrev pub limit : ℕ
-limit = 4194304
-
 -- no file has more bytes
 pub record AreShort (i : Inputs) : Type 0 where
-  pub listing : length i.listing ≤ limit
-  pub c_text : length i.c_text ≤ limit
-  pub entry : length i.entry ≤ limit
+  pub listing : length i.listing ≤ max_input
+  pub c_text : length i.c_text ≤ max_input
+  pub entry : length i.entry ≤ max_input
 
 -- the named file was selected, and nothing else changed
 pub record Selected (name : List ℕ) (old new : Told) : Type 0 where
@@ -27,7 +25,7 @@ pub record Selected (name : List ℕ) (old new : Told) : Type 0 where
 
 -- the file was selected and reading it gave this; or it couldn't be selected
 abbrev pub Fetched : List ℕ → Told → Told → Result (List ℕ) ReadEnd → Type 0
-Fetched name old new came = ((mid : Told) × (Selected name old mid × Gave limit mid new came))
+Fetched name old new came = ((mid : Told) × (Selected name old mid × Gave max_input mid new came))
     ⊎ ((came ≡ Err Fault) × (Rose old.faults new.faults ⊎ IsMissing name old.files))
 
 -- a file was read, and nothing but what is left changed
@@ -41,15 +39,15 @@ AllFetched a old new (Err end) = Fetched a.listing old new (Err end)
     ⊎ (((first : Told) × ((bytes : List ℕ) × (Passed a.listing old first bytes × Fetched a.c_text first new (Err end))))
     ⊎ ((first : Told) × ((second : Told) × ((bytes : List ℕ) × ((more : List ℕ) × (Passed a.listing old first bytes × (Passed a.c_text first second more × Fetched a.entry second new (Err end))))))))
 
--- ---- what must come where the files are told, no fault is counted and memory suffices
+-- --what must come where the files are told, no fault is counted and memory suffices
 
-abbrev pub whole : Option (List ℕ) → Result (List ℕ) ReadEnd
-whole None = Err Fault
-whole (Some bytes) = if nat_lt limit (length bytes) then Err TooLong else Ok bytes
+abbrev pub file_whole : Option (List ℕ) → Result (List ℕ) ReadEnd
+file_whole None = Err Fault
+file_whole (Some bytes) = whole max_input bytes
 
 -- a file of a folder
 abbrev pub in_folder : Folder → List ℕ → Result (List ℕ) ReadEnd
-in_folder files name = whole (file_of name files)
+in_folder files name = file_whole (file_of name files)
 
 abbrev pub with_entry : List ℕ → List ℕ → Result (List ℕ) ReadEnd → Result Inputs ReadEnd
 with_entry listing c_text (Err end) = Err end

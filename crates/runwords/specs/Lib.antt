@@ -1,4 +1,3 @@
 pub mod Request
 pub mod Fetched
-pub mod Told
 pub mod Table

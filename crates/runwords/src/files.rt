@@ -2,14 +2,13 @@
 
 ghost use Rattle.std.specs.Prelude.{◌≡◌, ◌≤◌, length, IfOk};
 ghost use Rattle.runwords.specs.Request.{plan_of};
-ghost use Rattle.runwords.specs.Fetched.{AllFetched, AreShort, Fetched, limit};
+ghost use Rattle.pcode_model.specs.Limits.{max_input};
+ghost use Rattle.runwords.specs.Fetched.{AllFetched, AreShort, Fetched};
 
 use crate::plan::Plan;
 use outside::{Bytes, ReadEnd, Shelf, read_all};
+use pcode_model::MAX_INPUT;
 use std::alloc::Global;
-
-/// The greatest number of bytes of a file.
-pub const LIMIT: u32 = 4_194_304;
 
 /// The bytes of the three files.
 #[derive(Debug, Drop)]
@@ -19,15 +18,15 @@ pub struct Inputs {
     pub entry: Bytes,
 }
 
-// The bytes of a file, if these are at most `LIMIT`.
+// The bytes of a file, if these are at most `MAX_INPUT`.
 fn fetch_one<H: Shelf>(alloc: Global, shelf: &mut H, name: &str) -> Result<Bytes, ReadEnd>
     ensures fetched { Fetched name.now (H.told shelf.old) (H.told shelf.new) result }
-    ensures short { IfOk result (λ bytes. length bytes ≤ limit) }
+    ensures short { IfOk result (λ bytes. length bytes ≤ max_input) }
     ensures files { (H.told shelf.new).files ≡ (H.told shelf.old).files }
     ensures later { (H.told shelf.old).faults ≤ (H.told shelf.new).faults }
 {
     match shelf.select(name) {
-        Ok(()) => read_all(alloc, shelf, LIMIT),
+        Ok(()) => read_all(alloc, shelf, MAX_INPUT as u32),
         Err(_) => Err(ReadEnd::Fault),
     }
 }

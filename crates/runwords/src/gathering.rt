@@ -3,12 +3,14 @@
 ghost use Rattle.std.specs.Prelude.{◌≡◌, ◌≤◌, map, string_bytes, None, IfErr, IfOk};
 ghost use Rattle.runwords.specs.Fetched.{AllFetched, AreShort};
 ghost use Rattle.runwords.specs.Request.{asked_by};
-ghost use Rattle.runwords.specs.Table.{Ends, IsGathered};
+ghost use Rattle.runwords.specs.Table.{IsGathered};
+ghost use Rattle.statuses.specs.Answer.{answer_of};
+ghost use Rattle.statuses.specs.Cause.{Ends};
 
 use crate::files::{Inputs, fetch};
-use crate::outcome::Outcome;
 use crate::plan::read_words;
 use outside::{ReadEnd, Shelf, Words};
+use statuses::Outcome;
 use std::alloc::Global;
 
 /// The bytes of the three files, and how many steps each machine makes.
@@ -23,7 +25,7 @@ pub struct Gathered {
 pub fn gather<H: Shelf>(alloc: Global, words: &Words, shelf: &mut H) -> Result<Gathered, Outcome>
     ensures inputs { IfOk result (λ g. IsGathered (asked_by (map string_bytes words.now)) (λ a came. AllFetched a (H.told shelf.old) (H.told shelf.new) came) g) }
     ensures short { IfOk result (λ g. AreShort g.inputs) }
-    ensures ends { IfErr result (λ outcome. Ends (asked_by (map string_bytes words.now)) (λ a came. AllFetched a (H.told shelf.old) (H.told shelf.new) came) outcome) }
+    ensures ends { IfErr result (λ outcome. Ends (asked_by (map string_bytes words.now)) (λ a came. AllFetched a (H.told shelf.old) (H.told shelf.new) came) (answer_of outcome)) }
     ensures stays { asked_by (map string_bytes words.now) ≡ None → shelf.new ≡ shelf.old }
     ensures files { (H.told shelf.new).files ≡ (H.told shelf.old).files }
     ensures later { (H.told shelf.old).faults ≤ (H.told shelf.new).faults }

@@ -3,13 +3,8 @@
 
 mod files;
 mod gathering;
-mod outcome;
 mod plan;
 
-pub use files::{Inputs, LIMIT, fetch};
+pub use files::{Inputs, fetch};
 pub use gathering::{Gathered, gather};
-pub use outcome::{Outcome, deliver};
 pub use plan::{Plan, read_words};
-
-#[cfg(test)]
-mod tests;

@@ -1,0 +1,5 @@
+pub mod Pieces
+pub mod Told
+pub mod Cause
+pub mod Rows
+pub mod Table

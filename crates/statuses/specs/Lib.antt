@@ -1,0 +1,5 @@
+pub mod Answer
+pub mod Delivery
+pub mod Cause
+pub mod Told
+pub mod Table
