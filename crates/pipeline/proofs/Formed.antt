@@ -2,6 +2,7 @@
 use Rattle.std.proofs.Common.{◌≡◌, ◌≤◌, ◌<◌, ◌+◌, ◌^◌, ◌⊎◌, ℕ, zero, suc, Bool, true, false, List, [], ◌∷◌, ◌++◌, Option, Some, None, length, refl, inl, inr, sym, subst, ap, ◌∙◌, arith}
 use Rattle.std.specs.Prelude.{◌&&◌, ◌==◌, if◌then◌else◌, not, slice_get, IfSome}
 use Rattle.std.specs.List.{AllByRecursion}
+use Rattle.std.specs.Option.{option_map}
 use Rattle.std.proofs.lemmas.Bool.Decides.{nat_tests}
 use Rattle.std.proofs.lemmas.Bool.{not-false, not-true, ltb-false, eqb-true, and_parts}
 use Rattle.pcode_model.specs.declared.listing.Instruction.{Instruction}
@@ -23,10 +24,17 @@ use Rattle.pcode_model.specs.Ranges.{leaves}
 use Rattle.pcode_model.specs.Rules.{any_leaves, any_wide, breaks, first_bad, input_ranges, inputs_stand, is_constant, is_in_first_ram, is_out_of_space, is_too_wide, is_wide, leaves_space, names_address, output_is_constant, output_leaves, output_wide, past_first, rules}
 use Rattle.pcode_model.specs.Spaces.{first_ram, kind_of, or, register_space, same_kind, size_of, unique_space}
 use Rattle.pcode_model.specs.Step.{proto_in, proto_of}
-use Rattle.pcode_model.specs.WellFormed.{HasOps, IsArgument, IsOp, IsOperand, IsProto, IsStorage}
-use Rattle.pcodetext.specs.Formed.{HasKnownOps, IsKnown, IsKnownOp, IsRead}
+use Rattle.pcode_model.specs.WellFormed as M
+use Rattle.pcode_model.specs.WellFormed.{HasKnownOps, HasOps, IsKnown, IsKnownOp, IsOp, IsOperand, IsProto, IsStorage, IsWellFormed}
 use Rattle.supported.specs.Ranges.{code_ranges, is_local, is_local_kind, local_of, locals_of, named_ranges, op_ranges, ops_ranges, output_of, result_range, storage_range, storage_ranges}
-use Rattle.plain_form.proofs.Accessed.{in_either}
+use Rattle.supported.specs.Supported.{IsSupported}
+use Rattle.stackvars.specs.Laws.{IsArgument, IsUncut}
+use Rattle.bits_core.specs.declared.word.Width.{Width}
+use Rattle.plaincode.specs.Lowered.{result_width, width_of_result}
+use Rattle.plaincode.specs.Nodes.{width_by}
+use Rattle.plaincode.proofs.Nodes.{nearest_is}
+use Rattle.plain_form.proofs.Accessed.{accessed_named, behind, in_either, in_front}
+use Rattle.plain_form.proofs.Form.{accessed_equal_or_apart, accessed_sized, spaces_differ}
 use Rattle.plain_form.proofs.Formed.{IsFormed, IsInput, IsWritten, Inside}
 use Rattle.pcode_laws.proofs.Rules.{breaks_none, neither}
 use Rattle.plain_form.proofs.Standing.{StandsIn}
@@ -67,6 +75,12 @@ register_kind Constant h = absurd (cc)
 register_kind Ram h = absurd (cc)
 register_kind Register h = refl
 register_kind Unique h = absurd (cc)
+
+same_register : (k : SpaceKind) → same_kind Register k ≡ true → k ≡ Register
+same_register Constant h = absurd (cc)
+same_register Ram h = absurd (cc)
+same_register Register h = refl
+same_register Unique h = absurd (cc)
 
 no_constant : (k : SpaceKind) → is_local_kind k ≡ true → k ≡ Constant → ⊥
 no_constant k h e = let P : SpaceKind → Type 0 = λ x. is_local_kind x ≡ true in let q : is_local_kind Constant ≡ true = subst P e h in cc
@@ -183,33 +197,36 @@ destination l (O.FloatConversion op) x vs names stands = absurd (cc)
 destination l (O.Analysis op) x vs names stands = absurd (cc)
 destination l (O.LeftOut op) x vs names stands = absurd (cc)
 
-module _ (l : Listing) (read : IsRead l) (good : first_bad l ≡ None) where
+module _ (l : Listing) (read : IsWellFormed l) (good : first_bad l ≡ None) where
   pub register_is : kind_of l (register_space l) ≡ Register
-  register_is = kind_of_first Register l.spaces (omega (arith, read.formed.complete.register))
+  register_is = kind_of_first Register l.spaces (omega (arith, read.complete.register))
 
   pub unique_is : kind_of l (unique_space l) ≡ Unique
-  unique_is = kind_of_first Unique l.spaces (omega (arith, read.formed.complete.unique))
+  unique_is = kind_of_first Unique l.spaces (omega (arith, read.complete.unique))
 
   ram_is : kind_of l (first_ram l) ≡ Ram
-  ram_is = kind_of_first Ram l.spaces read.formed.complete.ram
+  ram_is = kind_of_first Ram l.spaces read.complete.ram
+
+  register_number : (n : ℕ) → same_kind Register (kind_of l n) ≡ true → n ≡ register_space l
+  register_number n h = only Register register_constant l.spaces read.complete.register n (same_register (kind_of l n) h)
 
   home_of : (n : ℕ) → is_local_kind (kind_of l n) ≡ true → IsLocal l n
   home_of n h = elim (local_is (kind_of l n) h) [
-    | inl e ↦ inl (only Register register_constant l.spaces read.formed.complete.register n e)
-    | inr e ↦ inr (only Unique unique_constant l.spaces read.formed.complete.unique n e)
+    | inl e ↦ inl (only Register register_constant l.spaces read.complete.register n e)
+    | inr e ↦ inr (only Unique unique_constant l.spaces read.complete.unique n e)
   ]
 
   inside : (v : Varnode) → is_local l v ≡ true → 0 < v.size → v.size ≤ 16 → leaves l.spaces v.space v.offset v.size ≡ false → Inside l v
   inside v local some narrow stays =
       let within : v.offset + v.size ≤ size_of l v.space = ltb-false _ _ stays in
-      let small : size_of l v.space ≤ 2 ^ 64 = low l.spaces read.formed.spaces v.space (no_constant (kind_of l v.space) local) in
+      let small : size_of l v.space ≤ 2 ^ 64 = low l.spaces read.spaces v.space (no_constant (kind_of l v.space) local) in
       record { some = some; narrow = narrow; low = omega (arith, within, small); inside = within; home = home_of v.space local; local = local }
 
   -- a range of the register space or of the unique space isn't in space 0
   off_constants : (v : Varnode) → is_local l v ≡ true → v.space ≡ 0 → ⊥
   off_constants v local e =
       let P : ℕ → Type 0 = λ n. kind_of l n ≡ Constant in
-      no_constant (kind_of l v.space) local (subst P (sym e) (first_constant l.spaces read.formed.spaces))
+      no_constant (kind_of l v.space) local (subst P (sym e) (first_constant l.spaces read.spaces))
 
   local_stays : (v : Varnode) → is_local l v ≡ true → leaves_space l v ≡ false → leaves l.spaces v.space v.offset v.size ≡ false
   local_stays v local h = second _ _ (other_number v.space 0 (off_constants v local)) h
@@ -246,7 +263,7 @@ module _ (l : Listing) (read : IsRead l) (good : first_bad l ≡ None) where
     leaving = obeys OutOfSpace (inr (inr (inr (inr (inr (inr (inl refl)))))))
 
     formed : IsOp op
-    formed = all_in IsOp i.ops (all_in HasOps l.code read.formed.ops i stand.code_has) op stand.ops_have
+    formed = all_in IsOp i.ops (all_in HasOps l.code read.ops i stand.code_has) op stand.ops_have
 
     known : IsKnownOp l.spaces op
     known = all_in (IsKnownOp l.spaces) i.ops (all_in (HasKnownOps l.spaces) l.code read.known i stand.code_has) op stand.ops_have
@@ -255,13 +272,13 @@ module _ (l : Listing) (read : IsRead l) (good : first_bad l ≡ None) where
     input v is =
         let operand = all_in IsOperand op.inputs formed.inputs v is in
         let small = all_in (IsKnown l.spaces) op.inputs known.inputs v is in
-        record { some = operand.some; fits = λ e. operand.reduced (constant_is l.spaces read.formed.spaces v.space small e) }
+        record { some = operand.some; fits = λ e. operand.reduced (constant_is l.spaces read.spaces v.space small e) }
 
     pub output : (v : Varnode) → IsIn v (one_range op.out) → IsWritten l v
     output v is =
         let operand = one_in IsOperand op.out formed.out v is in
         let small = one_in (IsKnown l.spaces) op.out known.out v is in
-        record { some = operand.some; variable = λ e. no_output_constant op.out (not-true _ (and_parts _ _ spaces).0) v is (constant_is l.spaces read.formed.spaces v.space small e) }
+        record { some = operand.some; variable = λ e. no_output_constant op.out (not-true _ (and_parts _ _ spaces).0) v is (constant_is l.spaces read.spaces v.space small e) }
 
     input_inside : (v : Varnode) → Local l op.inputs v → Inside l v
     input_inside v h =
@@ -285,12 +302,12 @@ module _ (l : Listing) (read : IsRead l) (good : first_bad l ≡ None) where
   storage_inside : (v : Varnode) → IsStorage l.spaces v → Inside l v
   storage_inside v h = inside v (register_kind (kind_of l v.space) h.register.kind) h.register.some h.few h.register.inside
 
-  argument_inside : (a : Storage) → IsArgument l.spaces l.stack a → (v : Varnode) → IsIn v (storage_range a) → Inside l v
+  argument_inside : (a : Storage) → M.IsArgument l.spaces l.stack a → (v : Varnode) → IsIn v (storage_range a) → Inside l v
   argument_inside (At w) h v (inl e) = let P : Varnode → Type 0 = λ x. Inside l x in subst P (sym e) (storage_inside w h)
   argument_inside (At w) h v (inr is) = absurd is
   argument_inside (Stack o k) h v is = absurd is
 
-  arguments_inside : (args : List Storage) → AllByRecursion (IsArgument l.spaces l.stack) args → (v : Varnode) → IsIn v (storage_ranges args) → Inside l v
+  arguments_inside : (args : List Storage) → AllByRecursion (M.IsArgument l.spaces l.stack) args → (v : Varnode) → IsIn v (storage_ranges args) → Inside l v
   arguments_inside [] h v is = absurd is
   arguments_inside (a ∷ args) h v is = elim (in_either (storage_range a) (storage_ranges args) v is) [
     | inl here ↦ argument_inside a h.0 v here
@@ -303,7 +320,7 @@ module _ (l : Listing) (read : IsRead l) (good : first_bad l ≡ None) where
   result_inside (Some w) h v (inr is) = absurd is
 
   proto_is : IsProto l.spaces l.stack (proto_of l None)
-  proto_is = at l.protos read.formed.protos l.func.proto read.formed.func.proto
+  proto_is = at l.protos read.protos l.func.proto read.func.proto
     where
       at : (protos : List Proto) → AllByRecursion (IsProto l.spaces l.stack) protos → (n : ℕ) → n < length protos → IsProto l.spaces l.stack (proto_in (slice_get protos n))
       at [] h n small = absurd (omega arith)
@@ -327,3 +344,41 @@ module _ (l : Listing) (read : IsRead l) (good : first_bad l ≡ None) where
     unique = unique_is;
     ranges = named_inside;
   }
+
+  -- ---- nothing cuts a range that is accessed
+
+  -- an argument's range is one of the register space
+  in_registers : (args : List Storage) → AllByRecursion (M.IsArgument l.spaces l.stack) args → (v : Varnode) → IsIn v (storage_ranges args) → v.space ≡ register_space l
+  in_registers [] h v is = absurd is
+  in_registers (At w ∷ args) h v (inl e) = ap (λ x. x.space) e ∙ register_number w.space h.0.register.kind
+  in_registers (At w ∷ args) h v (inr is) = in_registers args h.1 v is
+  in_registers (Stack o k ∷ args) h v is = in_registers args h.1 v is
+
+  module _ (built : IsSupported l) where
+    argument_named : (v : Varnode) → IsArgument l v → IsIn v (named_ranges l)
+    argument_named v is = behind (code_ranges l l.code) (storage_ranges (proto_of l None).args ++ result_range (proto_of l None).gives) v
+        (in_front (storage_ranges (proto_of l None).args) (result_range (proto_of l None).gives) v is)
+
+    -- In a listing that is built no end of a range cuts another range.
+    pub uncut : IsUncut l
+    uncut = record {
+      spaces = spaces_differ l formed_is;
+      sized = accessed_sized l built formed_is;
+      apart = accessed_equal_or_apart l built formed_is;
+      registers = in_registers (proto_of l None).args proto_is.args;
+      arguments = λ v w is acc. built.ranges v w (argument_named v is) (accessed_named l built formed_is w acc);
+      keeps = built.keeps;
+    }
+
+  -- ---- the result
+
+  width_is : (v : Varnode) → IsStorage l.spaces v → (width_by v.size).bytes ≡ v.size
+  width_is v h = nearest_is v.size h.register.some h.few
+
+  -- The width of the function's result is that of its prototype's.
+  pub gives_is : option_map (λ width. width.bytes) (result_width l) ≡ option_map (λ range. range.size) (proto_of l None).gives
+  gives_is = by (proto_of l None).gives proto_is.gives
+    where
+      by : (gives : Option Varnode) → IfSome gives (IsStorage l.spaces) → option_map (λ (width : Width). width.bytes) (width_of_result gives) ≡ option_map (λ (range : Varnode). range.size) gives
+      by None h = refl
+      by (Some v) h = ap Some (width_is v h)

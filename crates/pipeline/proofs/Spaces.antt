@@ -59,7 +59,7 @@ constant_is (s ∷ declared) h (suc n) small e = absurd (none_constant declared 
 
 pub first_constant : (spaces : List Space) → AreSpaces spaces → kind_at spaces 0 ≡ Constant
 first_constant [] h = absurd h
-first_constant (s ∷ declared) h = h.0
+first_constant (s ∷ declared) h = ap (λ x. x.kind) h.0
 
 -- ---- sizes
 
@@ -73,7 +73,7 @@ declared_low (s ∷ declared) h (suc n) = declared_low declared h.1 n
 -- a space that isn't the constant space has at most 2^64 bytes
 pub low : (spaces : List Space) → AreSpaces spaces → (n : ℕ) → (kind_at spaces n ≡ Constant → ⊥) → size_in (slice_get spaces n) ≤ 2 ^ 64
 low [] h n not = absurd h
-low (s ∷ declared) h zero not = absurd (not h.0)
+low (s ∷ declared) h zero not = absurd (not (ap (λ x. x.kind) h.0))
 low (s ∷ declared) h (suc n) not = declared_low declared h.1 n
 
 -- ---- the first space of a kind

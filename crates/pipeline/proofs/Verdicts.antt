@@ -13,16 +13,17 @@ use Rattle.pcode_model.specs.Flow.{AreStarts, IsIn}
 use Rattle.pcode_model.specs.Rules.{first_bad}
 use Rattle.pcodetext.specs.declared.fault.TextFault.{TextFault}
 use Rattle.pcodetext.specs.Meaning.{Good, Bad}
-use Rattle.pcodetext.proofs.Whole.{is_read, good_same}
+use Rattle.pcodetext.proofs.Whole.{is_well_formed, good_same}
 use Rattle.flow.specs.declared.answer.FlowFault.TheVariants as F
 use Rattle.stackvars.specs.Accessed as listed
 use Rattle.stackvars.specs.Accessed.{AccessesSoMany, ListsAccessed}
 use Rattle.stackvars.specs.declared.accessed.AtomFault.TheVariants as A
 use Rattle.plain_form.proofs.Form.{spaces_differ}
 use Rattle.plain_form.proofs.Formed.{IsFormed}
-use Rattle.pipeline.specs.Verdict.{Accepts, Bytes, IsAccepted, IsRefused, RefusedBy}
-use Rattle.pipeline.specs.declared.refusal.Refusal.{Refusal}
-use Rattle.pipeline.specs.declared.refusal.Refusal.TheVariants as R
+use Rattle.refusals.specs.Good.{Bytes, RefusedBy}
+use Rattle.refusals.specs.declared.refusal.Refusal.{Refusal}
+use Rattle.refusals.specs.declared.refusal.Refusal.TheVariants as R
+use Rattle.pipeline.specs.Verdict.{Accepts, IsAccepted, IsRefused}
 use Rattle.pipeline.proofs.Formed.{formed_is}
 use Rattle.pipeline.proofs.Ordered.{same_atoms, same_places}
 
@@ -73,7 +74,7 @@ module _ (bytes : Bytes) (l : Listing) (a : Accepts bytes l) where
   the_listing Q (m, (good, q)) = subst Q (good_same m l (sym good.read ∙ a.good.read)) q
 
   formed : IsFormed l
-  formed = formed_is l (is_read bytes l a.good.read) a.good.ops
+  formed = formed_is l (is_well_formed bytes l a.good.read) a.good.ops
 
   not_refused : (fault : Refusal) → IsRefused bytes fault → ⊥
   not_refused (R.Text fault) h = good_not_bad l fault (sym a.good.read ∙ h)
@@ -92,7 +93,7 @@ module _ (bytes : Bytes) (l : Listing) (a : Accepts bytes l) where
       omega (arith, same, many.1.1.0, many.1.1.1, a.blocks.1.1)
   not_refused (R.Flow F.Memory) h = h
   not_refused (R.Atoms (A.TooManyAtoms n)) h =
-      let many = (the_listing _ h).1.1 in
+      let many = (the_listing _ h).1.1.1 in
       let same = atoms_same l formed a.atoms.0 n a.atoms.1.0 many.0 in
       omega (arith, same, many.1, a.atoms.1.1)
   not_refused (R.Atoms A.Memory) h = h

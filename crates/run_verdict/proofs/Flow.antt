@@ -4,10 +4,10 @@ use Rattle.pcode_model.specs.declared.listing.Listing.{Listing}
 use Rattle.flow.specs.Answer.{IsFlowFault}
 use Rattle.flow.specs.declared.answer.FlowFault.{FlowFault}
 use Rattle.flow.specs.declared.answer.FlowFault.TheVariants as F
-use Rattle.pipeline.specs.Refused.{of_flow}
-use Rattle.pipeline.specs.Verdict.{IsGood}
-use Rattle.pipeline.specs.declared.refusal.Refusal.{Refusal}
-use Rattle.pipeline.specs.declared.refusal.Refusal.TheVariants as R
+use Rattle.refusals.specs.Refused.{of_flow}
+use Rattle.refusals.specs.Good.{IsGood}
+use Rattle.refusals.specs.declared.refusal.Refusal.{Refusal}
+use Rattle.refusals.specs.declared.refusal.Refusal.TheVariants as R
 use Rattle.run_verdict.specs.Runnable.{IsRunnable}
 use Rattle.run_verdict.specs.Runs.{IsCause, StopsFlow}
 

@@ -6,6 +6,3 @@ mod tables;
 
 pub use accepting::accept;
 pub use tables::is_runnable;
-
-#[cfg(test)]
-mod tests;

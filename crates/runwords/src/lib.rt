@@ -8,6 +8,3 @@ mod plan;
 pub use files::{Inputs, fetch};
 pub use gathering::{Gathered, gather};
 pub use plan::{Plan, read_words};
-
-#[cfg(test)]
-mod tests;

@@ -1,5 +1,5 @@
 use Rattle.supported.specs.Supported.{IsSupported}
-use Rattle.pipeline.specs.Verdict.{IsGood}
+use Rattle.refusals.specs.Good.{IsGood}
 use Rattle.pipeline.proofs.Forms.{accepts, named_in_space}
 use Rattle.pipeline.proofs.verdict.accept.Goals as goal
 
@@ -7,7 +7,7 @@ pub is_supported-requires : goal.is_supported-requires
 is_supported-requires c = named_in_space c.in_ok-listing.listing c.in_ok-listing.ensures.formed c.in_ok-check_ops.ensures.ok
 
 pub check_ops-requires : goal.check_ops-requires
-check_ops-requires c = c.in_ok-listing.ensures.formed.formed.few
+check_ops-requires c = c.in_ok-listing.ensures.formed.few
 
 pub returns-clause-accepted : goal.returns-clause-accepted
 returns-clause-accepted c =

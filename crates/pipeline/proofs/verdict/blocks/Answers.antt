@@ -3,7 +3,7 @@ use Rattle.pcode_model.specs.declared.tables.TableAt.{TableAt}
 use Rattle.pcode_model.specs.Flow.{NoFault}
 use Rattle.flow.specs.Answer.{IsFlowFault}
 use Rattle.pipeline.specs.Verdict.{Stops}
-use Rattle.pipeline.specs.declared.refusal.Refusal.{Refusal}
+use Rattle.refusals.specs.declared.refusal.Refusal.{Refusal}
 use Rattle.pipeline.proofs.Forms.{flow_stops}
 use Rattle.pipeline.proofs.verdict.blocks.Goals as goal
 

@@ -2,8 +2,8 @@ use Rattle.std.proofs.Common.{List, sym, subst}
 use Rattle.pcode_model.specs.declared.tables.TableAt.{TableAt}
 use Rattle.pcode_model.specs.Flow.{IsFlow, NoFault}
 use Rattle.flow.specs.Answer.{IsFlowFault}
-use Rattle.pipeline.specs.declared.refusal.Refusal.{Refusal}
-use Rattle.pipeline.proofs.Forms.{few_starts}
+use Rattle.refusals.specs.declared.refusal.Refusal.{Refusal}
+use Rattle.refusals.proofs.Blocks.{few_starts}
 use Rattle.run_verdict.specs.Runs.{StopsFlow}
 use Rattle.run_verdict.proofs.Flow.{flow_stops}
 use Rattle.run_verdict.proofs.accepting.check_flow.Goals as goal
