@@ -6,6 +6,3 @@ mod events;
 mod fronts;
 
 pub use fronts::{Comparison, compare, put_comparison};
-
-#[cfg(test)]
-mod tests;

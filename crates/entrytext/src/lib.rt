@@ -14,6 +14,3 @@ pub use fault::{EntryFault, LineFault, Why};
 pub use form::{BytesLine, Form, Part};
 pub use reader::read_entry;
 pub use said::Said;
-
-#[cfg(test)]
-mod tests;

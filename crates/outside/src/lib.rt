@@ -24,6 +24,3 @@ pub use sequence::{Bytes, Fails, Memory, Sequence, Words};
 pub use std_streams::{StdSink, StdSource};
 pub use traits::{Failed, Shelf, Sink, Source};
 pub use writing::write_all;
-
-#[cfg(test)]
-mod tests;

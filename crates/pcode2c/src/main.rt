@@ -42,6 +42,3 @@ fn words_of(rt: &HostRuntime) -> io::Result<Words> {
     }
     Ok(words)
 }
-
-#[cfg(test)]
-mod tests;

@@ -10,6 +10,3 @@ pub use context::PcodeContext;
 pub use effects::{store, take_answer};
 pub use frame::{Frame, FrameRange, OwnAccess};
 pub use whole::Whole;
-
-#[cfg(test)]
-mod tests;

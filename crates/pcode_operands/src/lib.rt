@@ -4,6 +4,4 @@
 pub mod calls;
 pub mod operands;
 pub mod state;
-#[cfg(test)]
-mod tests;
 pub mod writes;

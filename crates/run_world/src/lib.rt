@@ -10,8 +10,6 @@ pub mod offset_map;
 pub mod plain;
 pub mod setting;
 pub mod shape;
-#[cfg(test)]
-mod tests;
 pub mod trace;
 pub mod words;
 

@@ -4,6 +4,3 @@
 mod text;
 
 pub use text::put_trace;
-
-#[cfg(test)]
-mod tests;

@@ -1,0 +1,5 @@
+void f_spin(void)
+{
+  while (1) {
+  }
+}

@@ -1,0 +1,5 @@
+void f_spin(void)
+{
+  L1:
+  goto L1;
+}

@@ -1,0 +1,4 @@
+u128 f_wrap(void)
+{
+  return (u128)0x1;
+}

@@ -1,0 +1,3 @@
+void f_f(void)
+{
+  return;

@@ -1,5 +1,0 @@
-//! Tests of C functions: which trees are valid, and their texts.
-#![tactic(auto)]
-
-#[cfg(test)]
-mod tests;

@@ -1,4 +1,0 @@
-mod accessed;
-mod blocks;
-mod canonical;
-mod texts;

@@ -1,0 +1,5 @@
+u32 f_f(u32 p_register_38)
+{
+  *(u32 *)((u64)0x3f) = p_register_38;
+  return p_register_38;
+}

@@ -1,0 +1,4 @@
+void f_nop(void)
+{
+  return;
+}
