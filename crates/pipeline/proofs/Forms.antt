@@ -7,7 +7,7 @@ use Rattle.pcode_model.specs.declared.listing.Listing.{Listing}
 use Rattle.pcode_model.specs.declared.listing.Varnode.{Varnode}
 use Rattle.pcode_model.specs.Atoms.{AreAtoms}
 use Rattle.pcode_model.specs.Flow.{IsFlow, IsIn, NoFault}
-use Rattle.pcode_model.specs.Frame.{frame_of, no_variables}
+use Rattle.pcode_model.specs.Frame.{IsFrameOf, NoStackPointer, frame_of, no_variables}
 use Rattle.pcode_model.specs.Limits.{max_blocks}
 use Rattle.pcode_model.specs.Rules.{first_bad}
 use Rattle.pcode_model.specs.WellFormed.{IsWellFormed}
@@ -27,6 +27,7 @@ use Rattle.refusals.specs.declared.refusal.Refusal.{Refusal}
 use Rattle.refusals.specs.declared.refusal.Refusal.TheVariants as R
 use Rattle.refusals.proofs.Blocks.{few_starts}
 use Rattle.cmeaning.specs.declared.tree.CFunction.{CFunction}
+use Rattle.ctext.specs.Text.{text_of}
 use Rattle.blockcode.specs.Laid.{laid_out}
 use Rattle.blockcode.specs.declared.code.Code.{Code}
 use Rattle.plaincode.specs.Form as code
@@ -40,7 +41,7 @@ use Rattle.plain_form.proofs.Form.{plain_form}
 use Rattle.plain_form.proofs.Formed.{Inside}
 use Rattle.pipeline.specs.Passed.{Lowers}
 use Rattle.pipeline.specs.PlainForm.{IsPlainForm}
-use Rattle.pipeline.specs.Verdict.{Accepts, IsCause, Stops}
+use Rattle.pipeline.specs.Verdict.{Accepts, IsCause, MayPrint, Stops}
 use Rattle.pipeline.proofs.Formed.{formed_is, gives_is, uncut}
 use Rattle.pipeline.proofs.Keeps as keeps
 use Rattle.pipeline.proofs.Names.{name_is}
@@ -81,7 +82,8 @@ module _
         (omega (arith, are.few)) (name_is l.func.name read.named.func);
     fits = plain_fits l [] blocks atoms form;
     agrees = keeps.agrees l (frame_of l no_variables) [] blocks atoms form;
-    form = record { name = refl; gives = gives_is l read good; params = (atoms, (are_atoms, plain_inputs l [] blocks atoms form)) };
+    form = record { name = refl; gives = gives_is l read good;
+        params = (atoms, (are_atoms, plain_inputs l [] blocks atoms form)) };
   }
 
 -- The same of a function that is this one.
@@ -89,19 +91,54 @@ pub lowers_to : (l : Listing) (f g : CFunction) → f ≡ g → Lowers l g → L
 lowers_to l f g is h = subst (λ (x : CFunction). Lowers l x) (sym is) h
 
 -- the laid out function, by its parts
-pub laid_is : (l : Listing) (blocks : List Block) (atoms : List Atom) (name : List ℕ) (gives : Option Width) (k : Code) (f : CFunction) → f ≡ laid_out name gives k → name ≡ l.func.name → gives ≡ result_width l → k ≡ lowered l blocks atoms → f ≡ plain_function l blocks atoms
+pub laid_is : (l : Listing) (blocks : List Block) (atoms : List Atom) (name : List ℕ) (gives : Option Width)
+    (k : Code) (f : CFunction)
+    → f ≡ laid_out name gives k
+    → name ≡ l.func.name
+    → gives ≡ result_width l
+    → k ≡ lowered l blocks atoms
+    → f ≡ plain_function l blocks atoms
 laid_is l blocks atoms name gives k f is named given made =
     is
     ∙ ap (λ (x : List ℕ). laid_out x gives k) named
     ∙ ap (λ (x : Option Width). laid_out l.func.name x k) given
     ∙ ap (λ (x : Code). laid_out l.func.name (result_width l) x) made
 
+-- ---- what may be printed
+
+-- The text of a function that a listing which is accepted was lowered to.
+pub may_print : (bytes text : List ℕ) (l : Listing) (f : CFunction)
+    → Accepts bytes l → Lowers l f → text ≡ text_of f → MayPrint bytes text
+may_print bytes text l f accepted lowers is = record {
+  listing = l;
+  read = accepted.good.read;
+  frame = no_variables;
+  is_frame = NoStackPointer accepted.built.stack refl;
+  function = f;
+  valid = lowers.valid;
+  fits = lowers.fits;
+  agrees = lowers.agrees;
+  form = lowers.form;
+  is = is;
+}
+
 -- ---- the verdict
 
-pub few_atoms : (l : Listing) (atoms : List Atom) → AreAccessed l atoms → (n : ℕ) × (listed.AccessesSoMany l n × (n ≤ 1024))
+pub few_atoms : (l : Listing) (atoms : List Atom)
+    → AreAccessed l atoms
+    → (n : ℕ) × (listed.AccessesSoMany l n × (n ≤ 1024))
 few_atoms l atoms are = (length atoms, ((atoms, (are.listed, refl)), are.few))
 
-pub accepts : (bytes : List ℕ) (l : Listing) → IsGood bytes l → IsSupported l → (blocks : List Block) → IsFlow l [] blocks → NoFault l [] → length blocks ≤ max_blocks → (atoms : List Atom) → AreAccessed l atoms → Accepts bytes l
+pub accepts : (bytes : List ℕ) (l : Listing)
+    → IsGood bytes l
+    → IsSupported l
+    → (blocks : List Block)
+    → IsFlow l [] blocks
+    → NoFault l []
+    → length blocks ≤ max_blocks
+    → (atoms : List Atom)
+    → AreAccessed l atoms
+    → Accepts bytes l
 accepts bytes l good built blocks flow fine few atoms are = record {
   good = good;
   built = built;
@@ -121,11 +158,20 @@ flow_stops l (F.TableEntered p) h = h
 flow_stops l (F.TooManyBlocks n) h = h
 flow_stops l F.Memory h = tt
 
-pub atoms_stops : (l : Listing) (fault : AtomFault) → NoFault l [] → HasFewBlocks l → listed.IsCause l fault → Stops l (of_atoms fault)
+pub atoms_stops : (l : Listing) (fault : AtomFault)
+    → NoFault l []
+    → HasFewBlocks l
+    → listed.IsCause l fault
+    → Stops l (of_atoms fault)
 atoms_stops l (A.TooManyAtoms n) fine few h = (fine, (few, h))
 atoms_stops l A.Memory fine few h = tt
 
-pub stops_refused : (bytes : List ℕ) (l : Listing) → IsGood bytes l → IsSupported l → (fault : Refusal) → Stops l fault → IsCause bytes fault
+pub stops_refused : (bytes : List ℕ) (l : Listing)
+    → IsGood bytes l
+    → IsSupported l
+    → (fault : Refusal)
+    → Stops l fault
+    → IsCause bytes fault
 stops_refused bytes l good built (R.Text fault) h = absurd h
 stops_refused bytes l good built (R.Op fault) h = absurd h
 stops_refused bytes l good built R.NotBuilt h = absurd h

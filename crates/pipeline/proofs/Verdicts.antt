@@ -30,16 +30,24 @@ use Rattle.pipeline.proofs.Ordered.{same_atoms, same_places}
 -- ---- as many blocks, and as many atoms
 
 starts_same : (l : Listing) (ps qs : List Place) → AreStarts l [] ps → AreStarts l [] qs → ps ≡ qs
-starts_same l ps qs a b = same_places ps qs a.rising b.rising (λ p is. (b.each p).1 ((a.each p).0 is)) (λ p is. (a.each p).1 ((b.each p).0 is))
+starts_same l ps qs a b = same_places ps qs a.rising b.rising (λ p is. (b.each p).1 ((a.each p).0 is))
+    (λ p is. (a.each p).1 ((b.each p).0 is))
 
 -- one range at two storages is one storage
-storage_same : (l : Listing) → IsFormed l → (s t : ParamStorage) (j k : ℕ) (v : Varnode) → listed.range_at l s j ≡ Some v → listed.range_at l t k ≡ Some v → (s ≡ t) × (j ≡ k)
+storage_same : (l : Listing)
+    → IsFormed l
+    → (s t : ParamStorage) (j k : ℕ) (v : Varnode)
+    → listed.range_at l s j ≡ Some v
+    → listed.range_at l t k ≡ Some v
+    → (s ≡ t) × (j ≡ k)
 storage_same l formed (P.Register o) (P.Register p) j k v e f =
     let same = same_Some _ _ (e ∙ sym f) in (ap P.Register (ap (λ x. x.offset) same), ap (λ x. x.size) same)
 storage_same l formed (P.Unique o) (P.Unique p) j k v e f =
     let same = same_Some _ _ (e ∙ sym f) in (ap P.Unique (ap (λ x. x.offset) same), ap (λ x. x.size) same)
-storage_same l formed (P.Register o) (P.Unique p) j k v e f = absurd (spaces_differ l formed (ap (λ x. x.space) (same_Some _ _ (e ∙ sym f))))
-storage_same l formed (P.Unique o) (P.Register p) j k v e f = absurd (spaces_differ l formed (sym (ap (λ x. x.space) (same_Some _ _ (e ∙ sym f)))))
+storage_same l formed (P.Register o) (P.Unique p) j k v e f =
+    absurd (spaces_differ l formed (ap (λ x. x.space) (same_Some _ _ (e ∙ sym f))))
+storage_same l formed (P.Unique o) (P.Register p) j k v e f =
+    absurd (spaces_differ l formed (sym (ap (λ x. x.space) (same_Some _ _ (e ∙ sym f)))))
 storage_same l formed (P.Stack o) t j k v e f = absurd (none-some v e)
 storage_same l formed (P.Register o) (P.Stack p) j k v e f = absurd (none-some v f)
 storage_same l formed (P.Unique o) (P.Stack p) j k v e f = absurd (none-some v f)
@@ -50,7 +58,14 @@ atom_same a b e f =
     let right : ℕ → Atom = λ n. record { storage = b.storage; size = n } in
     ap left e ∙ ap right f
 
-also_in : (l : Listing) → IsFormed l → (xs ys : List Atom) → ListsAccessed l xs → ListsAccessed l ys → (a : Atom) → IsIn a xs → IsIn a ys
+also_in : (l : Listing)
+    → IsFormed l
+    → (xs ys : List Atom)
+    → ListsAccessed l xs
+    → ListsAccessed l ys
+    → (a : Atom)
+    → IsIn a xs
+    → IsIn a ys
 also_in l formed xs ys x y a is =
     let from = x.accessed a is in
     let found = y.all from.0 from.1.1 in
@@ -59,7 +74,8 @@ also_in l formed xs ys x y a is =
 
 atoms_same : (l : Listing) → IsFormed l → (m n : ℕ) → AccessesSoMany l m → AccessesSoMany l n → m ≡ n
 atoms_same l formed m n (xs, x) (ys, y) =
-    sym x.1 ∙ ap length (same_atoms xs ys x.0.in_order y.0.in_order (also_in l formed xs ys x.0 y.0) (also_in l formed ys xs y.0 x.0)) ∙ y.1
+    sym x.1 ∙ ap length (same_atoms xs ys x.0.in_order y.0.in_order (also_in l formed xs ys x.0 y.0)
+        (also_in l formed ys xs y.0 x.0)) ∙ y.1
 
 -- ---- verdicts
 

@@ -17,7 +17,8 @@ Shows asked bytes text = IsAccepted bytes × MayPrint bytes text
 
 -- the input isn't accepted, and this line names its first fault
 abbrev pub Faults : Asked → Bytes → Bytes → Type 0
-Faults asked bytes line = (fault : Refusal) × (IsRefused bytes fault × ((IsAccepted bytes → ⊥) × (line ≡ line_of fault)))
+Faults asked bytes line = (fault : Refusal)
+    × (IsRefused bytes fault × ((IsAccepted bytes → ⊥) × (line ≡ line_of fault)))
 
 -- why a call comes to an answer, where reading the input gives this
 abbrev pub Because : Option Asked → (Asked → Result Bytes ReadEnd → Type 0) → Answer → Type 0
@@ -29,6 +30,7 @@ IsConverted asked bytes o = cause.Judges Shows Faults asked bytes o
 
 -- the line of a refusal, unless memory ran out
 abbrev pub IsRefusal : Refusal → Answer → Type 0
+IsRefusal refusal.Memory o = o ≡ answer.Memory
 IsRefusal fault (answer.Refused line) = line ≡ line_of fault
 IsRefusal fault answer.Memory = ⊤
 IsRefusal fault _ = ⊥

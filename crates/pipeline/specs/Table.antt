@@ -17,5 +17,7 @@ program = codes "pcode2c"
 -- is due: 2 where the words are refused; else 6 for more bytes than the limit, 0 for an input that is accepted, and 1 for
 -- one that isn't.
 abbrev pub Table : Option Asked → Told → Told → Held → Held → Held → Held → ℕ → Type 0
-Table asked input input_new out out_new err err_new status = any.Table program (Because asked (λ a came. Gave max_input input input_new came))
-    (λ (bytes : Bytes). Quiet input.faults input_new.faults × (input.left ≡ Some bytes)) (λ bytes. Because asked (λ a came. came ≡ whole max_input bytes)) out out_new err err_new status
+Table asked input input_new out out_new err err_new status =
+    any.Table program (Because asked (λ a came. Gave max_input input input_new came))
+    (λ (bytes : Bytes). Quiet input.faults input_new.faults × (input.left ≡ Some bytes))
+        (λ bytes. Because asked (λ a came. came ≡ whole max_input bytes)) out out_new err err_new status

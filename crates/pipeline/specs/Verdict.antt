@@ -42,7 +42,8 @@ IsRefused bytes refusal.NotBuilt = RefusedBy bytes (λ l. IsSupported l → ⊥)
 IsRefused bytes (refusal.Flow flow.Memory) = ⊥
 IsRefused bytes (refusal.Flow fault) = RefusedBy bytes (λ l. IsSupported l × IsFlowFault l [] fault)
 IsRefused bytes (refusal.Atoms atoms.Memory) = ⊥
-IsRefused bytes (refusal.Atoms fault) = RefusedBy bytes (λ l. IsSupported l × (NoFault l [] × (HasFewBlocks l × accessed.IsCause l fault)))
+IsRefused bytes (refusal.Atoms fault) =
+    RefusedBy bytes (λ l. IsSupported l × (NoFault l [] × (HasFewBlocks l × accessed.IsCause l fault)))
 IsRefused bytes refusal.Memory = ⊥
 
 -- a refusal of the input, unless memory ran out

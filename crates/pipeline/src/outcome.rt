@@ -39,7 +39,6 @@ fn converted(alloc: Global, bytes: &[u8]) -> Outcome
 {
     match decompile(alloc, bytes) {
         Ok(text) => Outcome::Shown(text),
-        Err(Refusal::Memory) => Outcome::Memory,
         Err(refusal) => refused(alloc, &refusal),
     }
 }
@@ -47,6 +46,9 @@ fn converted(alloc: Global, bytes: &[u8]) -> Outcome
 fn refused(alloc: Global, refusal: &Refusal) -> Outcome
     ensures { IsRefusal refusal.now (answer_of result) }
 {
+    if matches!(refusal, Refusal::Memory) {
+        return Outcome::Memory;
+    }
     match refusal_line(alloc, refusal) {
         Ok(line) => Outcome::Refused(line),
         Err(_) => Outcome::Memory,

@@ -20,7 +20,12 @@ flow_stops l (F.TableEntered p) h = h
 flow_stops l (F.TooManyBlocks n) h = h
 flow_stops l F.Memory h = tt
 
-pub stops_refused : (bytes : List ℕ) (l : Listing) → IsGood bytes l → IsRunnable l → (fault : Refusal) → StopsFlow l fault → IsCause bytes fault
+pub stops_refused : (bytes : List ℕ) (l : Listing)
+    → IsGood bytes l
+    → IsRunnable l
+    → (fault : Refusal)
+    → StopsFlow l fault
+    → IsCause bytes fault
 stops_refused bytes l good runnable (R.Text fault) h = absurd h
 stops_refused bytes l good runnable (R.Op fault) h = absurd h
 stops_refused bytes l good runnable R.NotBuilt h = absurd h
