@@ -1,24 +1,24 @@
 /* What the C that pcode2c prints asks for: the types and the pseudo-calls, so that a text compiles as C23.
 
-   Include it before the text. It wants a compiler that knows _BitInt with its suffix uwb, and statement expressions (clang
-   15 or later, GCC 14 or later). It is no part of what is proved: the proof is about the meaning of the text that
+   Include it before the text. It wants a compiler that knows _BitInt with its suffix uwb, and statement expressions
+   (clang 15 or later, GCC 14 or later). It is no part of what is proved: the proof is about the meaning of the text that
    docs/C_SUBSET.md and docs/RUNS.md give, which this header follows; tests/header.sh compares it with the proved runs.
 
    What a function meets outside itself are hooks. The user defines those that a text names:
 
      NAME                 each callee that the text declares is a function of the user's
-     pcode2c_callind      CALLINDw: the bytes of the result (0 for none), how many words follow, and the words: the target,
-                          then the arguments; gives the result
+     pcode2c_callind      CALLINDw: the bytes of the result (0 for none), how many words follow, and the words: the
+                          target, then the arguments; gives the result
      pcode2c_other        OTHERw: likewise, the index of the operation in the place of the target
      pcode2c_extraout     EXTRAOUTw: the bytes, and the offset in the register space
      PCODE2C_DIVZERO()    a macro, where a divisor is 0; it must not return (default: abort)
      PCODE2C_PLACE(s, a)  a macro: where the byte at address a of the ram space s stands (default: in an array that
                           PCODE2C_SPACE(s, SIZE) makes; whether a lies in it isn't tested)
 
-   A load or store in the first ram space is printed as C's own, *(u32 *)(a): it is one of the process that runs the text,
-   at the address a (-Wno-int-to-pointer-cast where addresses are narrower than pointers). It and the default memory have
-   words by the order of the machine that the text is compiled for. C's own also asks for C's alignment, and moves w bytes
-   only where w is 1, 2, 4, 8 or 16. */
+   A load or store in the first ram space is printed as C's own, *(u32 *)(a): it is one of the process that runs the
+   text, at the address a (-Wno-int-to-pointer-cast where addresses are narrower than pointers). It and the default
+   memory have words by the order of the machine that the text is compiled for. C's own also asks for C's alignment, and
+   moves w bytes only where w is 1, 2, 4, 8 or 16. */
 #ifndef PCODE2C_H
 #define PCODE2C_H
 

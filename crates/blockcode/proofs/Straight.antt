@@ -17,13 +17,17 @@ dropped [] n x e = absurd (cc)
 dropped (y ∷ ys) zero x e = cc
 dropped (y ∷ ys) (suc n) x e = dropped ys n x e
 
-pub get_of_drop : {A : Type 0} (xs : List A) (n : ℕ) (x : A) (rest : List A) → drop n xs ≡ x ∷ rest → slice_get xs n ≡ Some x
+pub get_of_drop : {A : Type 0} (xs : List A) (n : ℕ) (x : A) (rest : List A)
+    → drop n xs ≡ x ∷ rest
+    → slice_get xs n ≡ Some x
 get_of_drop [] zero x rest e = absurd (cc)
 get_of_drop [] (suc n) x rest e = absurd (cc)
 get_of_drop (y ∷ ys) zero x rest e = cc
 get_of_drop (y ∷ ys) (suc n) x rest e = get_of_drop ys n x rest e
 
-pub rest_of_drop : {A : Type 0} (xs : List A) (n : ℕ) (x : A) (rest : List A) → drop n xs ≡ x ∷ rest → drop (suc n) xs ≡ rest
+pub rest_of_drop : {A : Type 0} (xs : List A) (n : ℕ) (x : A) (rest : List A)
+    → drop n xs ≡ x ∷ rest
+    → drop (suc n) xs ≡ rest
 rest_of_drop [] zero x rest e = absurd (cc)
 rest_of_drop [] (suc n) x rest e = absurd (cc)
 rest_of_drop (y ∷ ys) zero x rest e = cc
@@ -86,7 +90,8 @@ module _ (l : Listing) (k : Code) where
         let left : drop t.position b.body ≡ a ∷ (ss ++ rest) = h.left e in
         let moved : code_step l k t ≡ t1 = step_in t b (a ∷ (ss ++ rest)) e h.block left in
         let same : ran ss t1.local ≡ ran (a ∷ ss) t.local = sym (ap (λ o. ran ss (unless_over o t.local one)) e) in
-        let there = arrived_at ss t1 t1.local.world.over refl (record { block = h.block; left = λ g. rest_of_drop b.body t.position a (ss ++ rest) left }) in
+        let there = arrived_at ss t1 t1.local.world.over refl
+        (record { block = h.block; left = λ g. rest_of_drop b.body t.position a (ss ++ rest) left }) in
         let P : CodeState → Type 0 = λ u. Arrived k b rest (ran ss t1.local) (after (code_step l k) (length ss) u) in
         let Q : Local → Type 0 = λ x. Arrived k b rest x (after (code_step l k) (length (a ∷ ss)) t) in
         subst Q same (subst P (sym moved) there)

@@ -81,7 +81,8 @@ exit_lines labels next X.Stop = []
 -- the blocks from a number on
 abbrev pub laid_from : List (Option ℕ) → ℕ → List Block → List Stmt
 laid_from labels n [] = []
-laid_from labels n (x ∷ xs) = label_line (label_at labels n) ++ (x.body ++ (exit_lines labels (suc n) x.exit ++ laid_from labels (suc n) xs))
+laid_from labels n (x ∷ xs) = label_line (label_at labels n)
+    ++ (x.body ++ (exit_lines labels (suc n) x.exit ++ laid_from labels (suc n) xs))
 
 abbrev pub laid_body : Code → List Stmt
 laid_body k = goto (labels_of k) 0 k.entry ++ laid_from (labels_of k) 0 k.blocks

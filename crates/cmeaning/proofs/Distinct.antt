@@ -26,24 +26,29 @@ is_in_cases : (x : ℕ) (arms : List Arm) → is_in x (cases_of arms) ≡ is_cas
 is_in_cases x [] = refl
 is_in_cases x (a ∷ rest) = is_in_append x a.cases (cases_of rest) ∙ ap (or (is_in x a.cases)) (is_in_cases x rest)
 
-distinct_append : (xs : List ℕ) (arms : List Arm) → are_distinct (xs ++ cases_of arms) ≡ differ_from xs arms && are_distinct (cases_of arms)
+distinct_append : (xs : List ℕ) (arms : List Arm)
+    → are_distinct (xs ++ cases_of arms) ≡ differ_from xs arms && are_distinct (cases_of arms)
 distinct_append [] arms = refl
 distinct_append (x ∷ xs) arms =
-    ap (λ b. not b && are_distinct (xs ++ cases_of arms)) (is_in_append x xs (cases_of arms) ∙ ap (or (is_in x xs)) (is_in_cases x arms))
+    ap (λ b. not b && are_distinct (xs ++ cases_of arms))
+    (is_in_append x xs (cases_of arms) ∙ ap (or (is_in x xs)) (is_in_cases x arms))
     ∙ ap (λ b. not (or (is_in x xs) (is_case x arms)) && b) (distinct_append xs arms)
     ∙ and_and (not (or (is_in x xs) (is_case x arms))) (differ_from xs arms) (are_distinct (cases_of arms))
 
 pub distinct_by_arms : (arms : List Arm) → are_distinct (cases_of arms) ≡ arms_differ arms
 distinct_by_arms [] = refl
-distinct_by_arms (a ∷ rest) = distinct_append a.cases rest ∙ ap (λ b. differ_from a.cases rest && b) (distinct_by_arms rest)
+distinct_by_arms (a ∷ rest) = distinct_append a.cases rest
+    ∙ ap (λ b. differ_from a.cases rest && b) (distinct_by_arms rest)
 
 words_append : (w : ℕ) (xs ys : List ℕ) → are_words w (xs ++ ys) ≡ are_words w xs && are_words w ys
 words_append w [] ys = refl
-words_append w (x ∷ xs) ys = ap (λ b. nat_lt x (limit w) && b) (words_append w xs ys) ∙ and_and (nat_lt x (limit w)) (are_words w xs) (are_words w ys)
+words_append w (x ∷ xs) ys = ap (λ b. nat_lt x (limit w) && b) (words_append w xs ys)
+    ∙ and_and (nat_lt x (limit w)) (are_words w xs) (are_words w ys)
 
 pub words_by_arms : (w : ℕ) (arms : List Arm) → are_words w (cases_of arms) ≡ arms_fit w arms
 words_by_arms w [] = refl
-words_by_arms w (a ∷ rest) = words_append w a.cases (cases_of rest) ∙ ap (λ b. are_words w a.cases && b) (words_by_arms w rest)
+words_by_arms w (a ∷ rest) = words_append w a.cases (cases_of rest)
+    ∙ ap (λ b. are_words w a.cases && b) (words_by_arms w rest)
 
 pub wide_fits : (w x : ℕ) → 16 ≤ w → x < 2 ^ 128 → true ≡ nat_lt x (limit w)
 wide_fits w x wide below =

@@ -31,7 +31,11 @@ flags_tie false false = refl
 numbers_tie : (a b : ℕ) → is_eq (cond (nat_lt a b) Less (cond (nat_lt b a) Greater Equal)) ≡ (a == b)
 numbers_tie a b = by_tests (nat_lt a b) refl (nat_lt b a) refl
   where
-    by_tests : (s : Bool) → nat_lt a b ≡ s → (t : Bool) → nat_lt b a ≡ t → is_eq (cond s Less (cond t Greater Equal)) ≡ (a == b)
+    by_tests : (s : Bool)
+        → nat_lt a b ≡ s
+        → (t : Bool)
+        → nat_lt b a ≡ t
+        → is_eq (cond s Less (cond t Greater Equal)) ≡ (a == b)
     by_tests true p t q = grind (arith, nat_tests, p)
     by_tests false p true q = grind (arith, nat_tests, q)
     by_tests false p false q = grind (arith, nat_tests, p, q)
@@ -47,9 +51,11 @@ storages_tie (Stack a) (Register b) = refl
 storages_tie (Stack a) (Unique b) = refl
 storages_tie (Stack a) (Stack b) = refl
 
-entry_is : (model : Bool) (storage : ParamStorage) (p : Param) → has_entry (entry_key model storage) p ≡ is_param model storage p
+entry_is : (model : Bool) (storage : ParamStorage) (p : Param)
+    → has_entry (entry_key model storage) p ≡ is_param model storage p
 entry_is model storage p =
-    both_tie (bool_cmp p.model model) (key_cmp (key_of p.storage) (key_of storage)) ∙ ap₂ (λ (s t : Bool). s && t) (flags_tie p.model model) (storages_tie p.storage storage)
+    both_tie (bool_cmp p.model model) (key_cmp (key_of p.storage) (key_of storage))
+    ∙ ap₂ (λ (s t : Bool). s && t) (flags_tie p.model model) (storages_tie p.storage storage)
 
 equal_is : (o : Ordering) → is_eq o ≡ true → o ≡ Equal
 equal_is Less h = absurd cc
@@ -63,25 +69,39 @@ exact_flags false true e = absurd cc
 exact_flags false false e = refl
 
 same_key : (j k : Bool × (ℕ × ℤ)) → is_eq (entry_cmp j k) ≡ true → j ≡ k
-same_key j k h = exact_pairs bool_cmp key_cmp exact_flags (exact_pairs nat_cmp int_cmp exact_unsigned exact_signed) j k (equal_is (entry_cmp j k) h)
+same_key j k h = exact_pairs bool_cmp key_cmp exact_flags (exact_pairs nat_cmp int_cmp exact_unsigned exact_signed) j
+    k (equal_is (entry_cmp j k) h)
 
 -- ---- the table
 
-pub entry_put : (ps : List Param) (p : Param) (m n : BTreeMap (Bool × (ℕ × ℤ)) ℕ) (key : Bool × (ℕ × ℤ)) (end : ℕ) → entry_key p.model p.storage ≡ key → end ≡ length ps → HasPlaces ps m → get entry_cmp m key ≡ None
+pub entry_put : (ps : List Param) (p : Param) (m n : BTreeMap (Bool × (ℕ × ℤ)) ℕ) (key : Bool × (ℕ × ℤ)) (end : ℕ)
+    → entry_key p.model p.storage ≡ key
+    → end ≡ length ps
+    → HasPlaces ps m
+    → get entry_cmp m key ≡ None
     → Updates entry_cmp m n key (Some end) → HasPlaces (ps ++ p ∷ []) n
 entry_put ps p m n key end same last table absent updates =
     put has_entry ps p (get entry_cmp m) table (get entry_cmp n)
-    (λ k. updates.0 k ∙ ap₂ (λ (j : Bool × (ℕ × ℤ)) (e : ℕ). cond (is_eq (entry_cmp j k)) (Some e) (get entry_cmp m k)) (sym same) last)
+    (λ k. updates.0 k ∙ ap₂ (λ (j : Bool × (ℕ × ℤ)) (e : ℕ). cond (is_eq (entry_cmp j k)) (Some e)
+    (get entry_cmp m k)) (sym same) last)
     (λ k hit. ap (get entry_cmp m) (sym (same_key (entry_key p.model p.storage) k hit) ∙ same) ∙ absent)
 
-pub entry_kept : (ps : List Param) (p : Param) (m : BTreeMap (Bool × (ℕ × ℤ)) ℕ) (key : Bool × (ℕ × ℤ)) → entry_key p.model p.storage ≡ key → HasPlaces ps m → (get entry_cmp m key ≡ None → ⊥) → HasPlaces (ps ++ p ∷ []) m
+pub entry_kept : (ps : List Param) (p : Param) (m : BTreeMap (Bool × (ℕ × ℤ)) ℕ) (key : Bool × (ℕ × ℤ))
+    → entry_key p.model p.storage ≡ key
+    → HasPlaces ps m
+    → (get entry_cmp m key ≡ None → ⊥)
+    → HasPlaces (ps ++ p ∷ []) m
 entry_kept ps p m key same table present =
-    kept has_entry ps p (get entry_cmp m) table (λ k hit none. present (ap (get entry_cmp m) (sym same ∙ same_key (entry_key p.model p.storage) k hit) ∙ none))
+    kept has_entry ps p (get entry_cmp m) table
+    (λ k hit none. present (ap (get entry_cmp m) (sym same ∙ same_key (entry_key p.model p.storage) k hit) ∙ none))
 
 -- tests that agree have one place
 same_place : {A : Type 0} (s t : A → Bool) (xs : List A) → ((x : A) → s x ≡ t x) → place s xs ≡ place t xs
 same_place s t [] same = refl
-same_place s t (x ∷ xs) same = ap₂ (λ (b : Bool) (o : Option ℕ). if b then Some 0 else option_map suc o) (same x) (same_place s t xs same)
+same_place s t (x ∷ xs) same = ap₂ (λ (b : Bool) (o : Option ℕ). if b then Some 0 else option_map suc o) (same x)
+    (same_place s t xs same)
 
-pub entry_place : (model : Bool) (storage : ParamStorage) (ps : List Param) → place (has_entry (entry_key model storage)) ps ≡ place (is_param model storage) ps
-entry_place model storage ps = same_place (has_entry (entry_key model storage)) (is_param model storage) ps (entry_is model storage)
+pub entry_place : (model : Bool) (storage : ParamStorage) (ps : List Param)
+    → place (has_entry (entry_key model storage)) ps ≡ place (is_param model storage) ps
+entry_place model storage ps = same_place (has_entry (entry_key model storage)) (is_param model storage) ps
+    (entry_is model storage)

@@ -26,12 +26,16 @@ next_place n (Some m) = grind (arith, nat_tests)
 zero_not : (n : ℕ) → (0 == suc n) ≡ false
 zero_not n = grind (arith, nat_tests)
 
-first_is : {A : Type 0} (test : A → Bool) (front : List A) (x : A) (rest : List A) → test x ≡ true → is_place (length front) (place test (front ++ x ∷ rest)) ≡ none_of test front
-first_is test [] x rest passes = ap (λ (t : Bool). is_place 0 (if t then Some 0 else option_map suc (place test rest))) passes
+first_is : {A : Type 0} (test : A → Bool) (front : List A) (x : A) (rest : List A)
+    → test x ≡ true
+    → is_place (length front) (place test (front ++ x ∷ rest)) ≡ none_of test front
+first_is test [] x rest passes =
+    ap (λ (t : Bool). is_place 0 (if t then Some 0 else option_map suc (place test rest))) passes
 first_is test (y ∷ front) x rest passes = by_test (test y) (first_is test front x rest passes)
   where
     by_test : (t : Bool) → is_place (length front) (place test (front ++ x ∷ rest)) ≡ none_of test front
-        → is_place (suc (length front)) (if t then Some 0 else option_map suc (place test (front ++ x ∷ rest))) ≡ not t && none_of test front
+        → is_place (suc (length front)) (if t then Some 0 else option_map suc (place test (front ++ x ∷ rest)))
+        ≡ not t && none_of test front
     by_test true next = zero_not (length front)
     by_test false next = next_place (length front) (place test (front ++ x ∷ rest)) ∙ next
 
@@ -66,17 +70,24 @@ never_bare (Declared text) = refl
 never_bare Bare = refl
 
 -- of a callee with a name, and of one without
-named_before : (front : List CalleeDecl) (c : CalleeDecl) (name : List ℕ) → c.name ≡ Declared name → none_of (has_address c.address) front && none_of (has_name name) front ≡ are_before front c
+named_before : (front : List CalleeDecl) (c : CalleeDecl) (name : List ℕ)
+    → c.name ≡ Declared name
+    → none_of (has_address c.address) front && none_of (has_name name) front ≡ are_before front c
 named_before [] c name named = refl
 named_before (d ∷ front) c name named =
-    both (d.address == c.address) (none_of (has_address c.address) front) (is_text name d.name) (none_of (has_name name) front)
-    ∙ ap₂ (λ (t u : Bool). (not (d.address == c.address) && not t) && u) (same_as name d.name ∙ ap (same_callee_name d.name) (sym named)) (named_before front c name named)
+    both (d.address == c.address) (none_of (has_address c.address) front) (is_text name d.name)
+    (none_of (has_name name) front)
+    ∙ ap₂ (λ (t u : Bool). (not (d.address == c.address) && not t) && u)
+    (same_as name d.name ∙ ap (same_callee_name d.name) (sym named)) (named_before front c name named)
 
-bare_before : (front : List CalleeDecl) (c : CalleeDecl) → c.name ≡ Bare → none_of (has_address c.address) front ≡ are_before front c
+bare_before : (front : List CalleeDecl) (c : CalleeDecl)
+    → c.name ≡ Bare
+    → none_of (has_address c.address) front ≡ are_before front c
 bare_before [] c bare = refl
 bare_before (d ∷ front) c bare =
     alone (d.address == c.address) (none_of (has_address c.address) front)
-    ∙ ap₂ (λ (t u : Bool). (not (d.address == c.address) && not t) && u) (never_bare d.name ∙ ap (same_callee_name d.name) (sym bare)) (bare_before front c bare)
+    ∙ ap₂ (λ (t u : Bool). (not (d.address == c.address) && not t) && u)
+    (never_bare d.name ∙ ap (same_callee_name d.name) (sym bare)) (bare_before front c bare)
 
 and_true : (b : Bool) → b && true ≡ b
 and_true true = refl
@@ -85,17 +96,24 @@ and_true false = refl
 own_address : (a : ℕ) → (a == a) ≡ true
 own_address a = grind (arith, nat_tests)
 
-before_is : (front : List CalleeDecl) (c : CalleeDecl) (rest : List CalleeDecl) → is_first (length front) (front ++ c ∷ rest) c ≡ are_before front c
+before_is : (front : List CalleeDecl) (c : CalleeDecl) (rest : List CalleeDecl)
+    → is_first (length front) (front ++ c ∷ rest) c ≡ are_before front c
 before_is front c rest = by_name c.name refl
   where
-    address : is_place (length front) (place (has_address c.address) (front ++ c ∷ rest)) ≡ none_of (has_address c.address) front
+    address : is_place (length front) (place (has_address c.address) (front ++ c ∷ rest))
+        ≡ none_of (has_address c.address) front
     address = first_is (has_address c.address) front c rest (own_address c.address)
 
-    by_name : (n : CName) → c.name ≡ n → is_place (length front) (place (has_address c.address) (front ++ c ∷ rest)) && is_first_name (length front) (front ++ c ∷ rest) n ≡ are_before front c
+    by_name : (n : CName)
+        → c.name ≡ n
+        → is_place (length front) (place (has_address c.address) (front ++ c ∷ rest))
+        && is_first_name (length front) (front ++ c ∷ rest) n ≡ are_before front c
     by_name (Declared name) is =
-        ap₂ (λ (t u : Bool). t && u) address (first_is (has_name name) front c rest (ap (is_text name) is ∙ (bytes_decides name name).1 refl))
+        ap₂ (λ (t u : Bool). t && u) address
+        (first_is (has_name name) front c rest (ap (is_text name) is ∙ (bytes_decides name name).1 refl))
         ∙ named_before front c name is
-    by_name Bare is = and_true (is_place (length front) (place (has_address c.address) (front ++ c ∷ rest))) ∙ address ∙ bare_before front c is
+    by_name Bare is = and_true (is_place (length front) (place (has_address c.address) (front ++ c ∷ rest))) ∙ address
+        ∙ bare_before front c is
 
 -- ---- one after another
 
@@ -103,17 +121,21 @@ abbrev all_before : List CalleeDecl → List CalleeDecl → Bool
 all_before front [] = true
 all_before front (c ∷ cs) = are_before front c && all_before front cs
 
-before_more : (front : List CalleeDecl) (c e : CalleeDecl) → are_before (front ++ c ∷ []) e ≡ are_before front e && are_apart c e
+before_more : (front : List CalleeDecl) (c e : CalleeDecl)
+    → are_before (front ++ c ∷ []) e ≡ are_before front e && are_apart c e
 before_more [] c e = and_true (are_apart c e)
-before_more (d ∷ front) c e = ap (λ (t : Bool). are_apart d e && t) (before_more front c e) ∙ grouped (are_apart d e) (are_before front e) (are_apart c e)
+before_more (d ∷ front) c e = ap (λ (t : Bool). are_apart d e && t) (before_more front c e)
+    ∙ grouped (are_apart d e) (are_before front e) (are_apart c e)
   where
     grouped : (a b t : Bool) → a && (b && t) ≡ (a && b) && t
     grouped true b t = refl
     grouped false b t = refl
 
-all_more : (front : List CalleeDecl) (c : CalleeDecl) (cs : List CalleeDecl) → all_before (front ++ c ∷ []) cs ≡ all_before front cs && is_apart_from c cs
+all_more : (front : List CalleeDecl) (c : CalleeDecl) (cs : List CalleeDecl)
+    → all_before (front ++ c ∷ []) cs ≡ all_before front cs && is_apart_from c cs
 all_more front c [] = refl
-all_more front c (e ∷ cs) = ap₂ (λ (t u : Bool). t && u) (before_more front c e) (all_more front c cs) ∙ crossed (are_before front e) (are_apart c e) (all_before front cs) (is_apart_from c cs)
+all_more front c (e ∷ cs) = ap₂ (λ (t u : Bool). t && u) (before_more front c e) (all_more front c cs)
+    ∙ crossed (are_before front e) (are_apart c e) (all_before front cs) (is_apart_from c cs)
   where
     crossed : (a b t u : Bool) → (a && b) && (t && u) ≡ (a && t) && (b && u)
     crossed true true t u = refl
@@ -132,12 +154,16 @@ moved false true true e f = refl
 moved false true false e f = refl
 moved false false d e f = refl
 
-firsts_are : (front cs all : List CalleeDecl) (n : ℕ) → all ≡ front ++ cs → n ≡ length front → are_firsts all n cs ≡ all_before front cs && are_callees cs
+firsts_are : (front cs all : List CalleeDecl) (n : ℕ)
+    → all ≡ front ++ cs
+    → n ≡ length front
+    → are_firsts all n cs ≡ all_before front cs && are_callees cs
 firsts_are front [] all n is count = refl
 firsts_are front (c ∷ cs) all n is count =
     ap₂ (λ (t u : Bool). is_callee c && (t && u))
     (ap₂ (λ (k : ℕ) (xs : List CalleeDecl). is_first k xs c) count is ∙ before_is front c cs)
-    (firsts_are (front ++ c ∷ []) cs all (n + 1) (is ∙ sym (append_assoc front (c ∷ []) cs)) (ap (λ (k : ℕ). k + 1) count ∙ sym (one_longer front))
+    (firsts_are (front ++ c ∷ []) cs all (n + 1) (is ∙ sym (append_assoc front (c ∷ []) cs))
+    (ap (λ (k : ℕ). k + 1) count ∙ sym (one_longer front))
     ∙ ap (λ (t : Bool). t && are_callees cs) (all_more front c cs))
     ∙ moved (is_callee c) (are_before front c) (all_before front cs) (is_apart_from c cs) (are_callees cs)
   where

@@ -34,28 +34,37 @@ word_grows : (a : Option ℕ) (x : Local) (next : ℕ → Local) → ((n : ℕ) 
 word_grows None x next h = prefix_refl x.world.events
 word_grows (Some n) x next h = h n
 
-words_grow : (xs : List (Option ℕ)) (x : Local) (next : List ℕ → Local) → ((ns : List ℕ) → Grew x (next ns)) → Grew x (with_words xs x next)
+words_grow : (xs : List (Option ℕ)) (x : Local) (next : List ℕ → Local)
+    → ((ns : List ℕ) → Grew x (next ns))
+    → Grew x (with_words xs x next)
 words_grow [] x next h = h []
-words_grow (a ∷ rest) x next h = word_grows a x (λ n. with_words rest x (λ ns. next (n ∷ ns))) (λ n. words_grow rest x (λ ns. next (n ∷ ns)) (λ ns. h (n ∷ ns)))
+words_grow (a ∷ rest) x next h =
+    word_grows a x (λ n. with_words rest x (λ ns. next (n ∷ ns)))
+    (λ n. words_grow rest x (λ ns. next (n ∷ ns)) (λ ns. h (n ∷ ns)))
 
 store_grows : (e : Event) (r : Result Bytes End) (w : World Bytes) → IsPrefix w.events (stored_as e r w).events
 store_grows e (Err end) w = prefix_refl w.events
 store_grows e (Ok m) w = one_more w.events e
 
-took_grows : (l : Listing) (ws : ℕ → ℕ) (v : Option ℕ) (a : Answer) (rest : List Answer) (r : Result Bytes End) (x : Local) → Grew x (answered ws v (took (plain l) a rest r x.world) x)
+took_grows : (l : Listing) (ws : ℕ → ℕ) (v : Option ℕ) (a : Answer) (rest : List Answer) (r : Result Bytes End)
+    (x : Local)
+    → Grew x (answered ws v (took (plain l) a rest r x.world) x)
 took_grows l ws v a rest (Err e) x = prefix_refl x.world.events
 took_grows l ws v a rest (Ok m) x = prefix_refl x.world.events
 
-take_grows : (l : Listing) (ws : ℕ → ℕ) (v : Option ℕ) (answers : List Answer) (x : Local) → Grew x (answered ws v (take_from (plain l) answers x.world) x)
+take_grows : (l : Listing) (ws : ℕ → ℕ) (v : Option ℕ) (answers : List Answer) (x : Local)
+    → Grew x (answered ws v (take_from (plain l) answers x.world) x)
 take_grows l ws v [] x = prefix_refl x.world.events
 take_grows l ws v (a ∷ rest) x = took_grows l ws v a rest (write_all (plain l) a.memory x.world.memory) x
 
-asks_grow : (l : Listing) (ws : ℕ → ℕ) (v : Option ℕ) (e : Event) (x : Local) → Grew x (asks l ws v (in_world (recorded e x.world) x))
+asks_grow : (l : Listing) (ws : ℕ → ℕ) (v : Option ℕ) (e : Event) (x : Local)
+    → Grew x (asks l ws v (in_world (recorded e x.world) x))
 asks_grow l ws v e x =
     let y = in_world (recorded e x.world) x in
     then_more x.world.events (asks l ws v y).world.events e (take_grows l ws v x.world.answers y)
 
-called_grows : (l : Listing) (ws : ℕ → ℕ) (v : Option ℕ) (returns : Bool) (e : Event) (x : Local) → Grew x (called l ws v returns (in_world (recorded e x.world) x))
+called_grows : (l : Listing) (ws : ℕ → ℕ) (v : Option ℕ) (returns : Bool) (e : Event) (x : Local)
+    → Grew x (called l ws v returns (in_world (recorded e x.world) x))
 called_grows l ws v true e x = asks_grow l ws v e x
 called_grows l ws v false e x = one_more x.world.events e
 
@@ -69,23 +78,38 @@ stored_grows l s k a n x =
     let bs = bytes_in l s k n in
     store_grows (Store s at bs) ((plain l).write s at bs x.world.memory) x.world
 
-layer_grows : (l : Listing) (ws : ℕ → ℕ) (returns : ℕ → Bool) (s : Stmt-F Stmt Arm) (x : Local) → Grew x (do_layer l ws returns s x)
-layer_grows l ws returns (Stmt-F.Assign v e) x = word_grows (value_of ws x.env e) x (λ n. assigned v n x) (λ n. prefix_refl x.world.events)
-layer_grows l ws returns (Stmt-F.Load v space address) x = word_grows (value_of ws x.env address) x (λ a. assigned v (loaded l (accessed l space) (ws v) a x.world.memory) x) (λ n. prefix_refl x.world.events)
+layer_grows : (l : Listing) (ws : ℕ → ℕ) (returns : ℕ → Bool) (s : Stmt-F Stmt Arm) (x : Local)
+    → Grew x (do_layer l ws returns s x)
+layer_grows l ws returns (Stmt-F.Assign v e) x =
+    word_grows (value_of ws x.env e) x (λ n. assigned v n x) (λ n. prefix_refl x.world.events)
+layer_grows l ws returns (Stmt-F.Load v space address) x =
+    word_grows (value_of ws x.env address) x (λ a. assigned v (loaded l (accessed l space) (ws v) a x.world.memory) x)
+    (λ n. prefix_refl x.world.events)
 layer_grows l ws returns (Stmt-F.Store space address e) x =
-    word_grows (value_of ws x.env address) x (λ a. with_word (value_of ws x.env e) x (λ n. stored l (accessed l space) (width_of ws e) a n x)) (λ a.
-    word_grows (value_of ws x.env e) x (λ n. stored l (accessed l space) (width_of ws e) a n x) (λ n. stored_grows l (accessed l space) (width_of ws e) a n x))
+    word_grows (value_of ws x.env address) x
+    (λ a. with_word (value_of ws x.env e) x (λ n. stored l (accessed l space) (width_of ws e) a n x)) (λ a.
+    word_grows (value_of ws x.env e) x (λ n. stored l (accessed l space) (width_of ws e) a n x)
+    (λ n. stored_grows l (accessed l space) (width_of ws e) a n x))
 layer_grows l ws returns (Stmt-F.Call v callee args) x =
-    words_grow (values_of ws x.env args) x (λ ns. called l ws v (returns callee) (in_world (recorded (Call callee ns) x.world) x)) (λ ns. called_grows l ws v (returns callee) (Call callee ns) x)
+    words_grow (values_of ws x.env args) x
+    (λ ns. called l ws v (returns callee) (in_world (recorded (Call callee ns) x.world) x))
+    (λ ns. called_grows l ws v (returns callee) (Call callee ns) x)
 layer_grows l ws returns (Stmt-F.CallInd v callee args) x =
-    word_grows (value_of ws x.env callee) x (λ a. with_words (values_of ws x.env args) x (λ ns. asks l ws v (in_world (recorded (Call a ns) x.world) x))) (λ a.
-    words_grow (values_of ws x.env args) x (λ ns. asks l ws v (in_world (recorded (Call a ns) x.world) x)) (λ ns. asks_grow l ws v (Call a ns) x))
+    word_grows (value_of ws x.env callee) x
+    (λ a. with_words (values_of ws x.env args) x (λ ns. asks l ws v (in_world (recorded (Call a ns) x.world) x)))
+    (λ a.
+    words_grow (values_of ws x.env args) x (λ ns. asks l ws v (in_world (recorded (Call a ns) x.world) x))
+    (λ ns. asks_grow l ws v (Call a ns) x))
 layer_grows l ws returns (Stmt-F.Other v index args) x =
-    words_grow (values_of ws x.env args) x (λ ns. asks l ws v (in_world (recorded (Other index ns) x.world) x)) (λ ns. asks_grow l ws v (Other index ns) x)
+    words_grow (values_of ws x.env args) x (λ ns. asks l ws v (in_world (recorded (Other index ns) x.world) x))
+    (λ ns. asks_grow l ws v (Other index ns) x)
 layer_grows l ws returns (Stmt-F.Extra v offset) x = prefix_refl x.world.events
 layer_grows l ws returns (Stmt-F.Divide v op a b) x =
-    word_grows (value_of ws x.env a) x (λ m. with_word (value_of ws x.env b) x (λ n. divided v (divide_value (divide_of op) (width_of ws a) m n) x)) (λ m.
-    word_grows (value_of ws x.env b) x (λ n. divided v (divide_value (divide_of op) (width_of ws a) m n) x) (λ n. divided_grows v (divide_value (divide_of op) (width_of ws a) m n) x))
+    word_grows (value_of ws x.env a) x
+    (λ m. with_word (value_of ws x.env b) x (λ n. divided v (divide_value (divide_of op) (width_of ws a) m n) x))
+    (λ m.
+    word_grows (value_of ws x.env b) x (λ n. divided v (divide_value (divide_of op) (width_of ws a) m n) x)
+    (λ n. divided_grows v (divide_value (divide_of op) (width_of ws a) m n) x))
 layer_grows l ws returns (Stmt-F.If c body) x = prefix_refl x.world.events
 layer_grows l ws returns (Stmt-F.IfElse c body other) x = prefix_refl x.world.events
 layer_grows l ws returns (Stmt-F.While c body) x = prefix_refl x.world.events
@@ -98,7 +122,8 @@ layer_grows l ws returns (Stmt-F.Label n) x = prefix_refl x.world.events
 layer_grows l ws returns (Stmt-F.Return e) x = prefix_refl x.world.events
 
 -- a simple statement only adds events
-pub simple_grows : (l : Listing) (ws : ℕ → ℕ) (returns : ℕ → Bool) (s : Stmt) (x : Local) → Grew x (do_simple l ws returns s x)
+pub simple_grows : (l : Listing) (ws : ℕ → ℕ) (returns : ℕ → Bool) (s : Stmt) (x : Local)
+    → Grew x (do_simple l ws returns s x)
 simple_grows l ws returns s x = layer_grows l ws returns (out-Stmt s) x
 
 goes_grows : (n : Option ℕ) (s : CState) (to : ℕ → ℕ) → Grew s.local (goes_by n s to).local
@@ -113,20 +138,27 @@ given_grows : (ws : ℕ → ℕ) (e : Option Expr) (s : CState) → Grew s.local
 given_grows ws None s = prefix_refl s.local.world.events
 given_grows ws (Some e) s = gives_grows (value_of ws s.local.env e) s
 
-pub carried_grows : (l : Listing) (ws : ℕ → ℕ) (returns : ℕ → Bool) (x : Option Flat) (s : CState) → Grew s.local (carry_out l ws returns x s).local
+pub carried_grows : (l : Listing) (ws : ℕ → ℕ) (returns : ℕ → Bool) (x : Option Flat) (s : CState)
+    → Grew s.local (carry_out l ws returns x s).local
 carried_grows l ws returns None s = prefix_refl s.local.world.events
 carried_grows l ws returns (Some (Do x)) s = simple_grows l ws returns x s.local
 carried_grows l ws returns (Some (Test e p q)) s = goes_grows (value_of ws s.local.env e) s (tested p q)
 carried_grows l ws returns (Some (Jump to)) s = prefix_refl s.local.world.events
-carried_grows l ws returns (Some (Choose e cases other)) s = goes_grows (value_of ws s.local.env e) s (found_in cases other)
+carried_grows l ws returns (Some (Choose e cases other)) s =
+    goes_grows (value_of ws s.local.env e) s (found_in cases other)
 carried_grows l ws returns (Some (Give e)) s = given_grows ws e s
 
-front_of : (o : Option End) (s t : CState) → s.local.world.over ≡ o → Grew s.local t.local → IsFront (shown s.local.world) (shown (unless_over o s t).local.world)
+front_of : (o : Option End) (s t : CState)
+    → s.local.world.over ≡ o
+    → Grew s.local t.local
+    → IsFront (shown s.local.world) (shown (unless_over o s t).local.world)
 front_of (Some e) s t over h = front_refl (shown s.local.world)
-front_of None s t over h = let P : Option End → Type 0 = λ o. GoesOn o (shown s.local.world) (shown t.local.world) in subst P (sym over) h
+front_of None s t over h = let P : Option End → Type 0 = λ o. GoesOn o (shown s.local.world) (shown t.local.world) in
+    subst P (sym over) h
 
 -- a step of a C run only adds to what it has shown, and changes nothing after an end
 pub c_grows : (l : Listing) (f : CFunction) → IsMonotone (c_machine l f)
 c_grows l f s =
     let t = carry_out l (widths_in f) (returns_by f.callees) (slice_get (flat_of f) s.position) s in
-    front_of s.local.world.over s t refl (carried_grows l (widths_in f) (returns_by f.callees) (slice_get (flat_of f) s.position) s)
+    front_of s.local.world.over s t refl
+    (carried_grows l (widths_in f) (returns_by f.callees) (slice_get (flat_of f) s.position) s)

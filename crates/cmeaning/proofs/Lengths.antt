@@ -10,8 +10,11 @@ and_no true = refl
 and_no false = refl
 
 -- as many expressions have no other number of widths
-pub args_of_lengths : (ws : ℕ → ℕ) (args : List Expr) (widths : List Width) → length args ≢ length widths → false ≡ have_widths ws args widths
+pub args_of_lengths : (ws : ℕ → ℕ) (args : List Expr) (widths : List Width)
+    → length args ≢ length widths
+    → false ≡ have_widths ws args widths
 args_of_lengths ws [] [] differ = absurd (differ refl)
 args_of_lengths ws [] (w ∷ rest) differ = refl
 args_of_lengths ws (e ∷ es) [] differ = refl
-args_of_lengths ws (e ∷ es) (w ∷ rest) differ = and_no (has_width w.bytes (shape_of ws e)) ∙ ap (λ b. has_width w.bytes (shape_of ws e) && b) (args_of_lengths ws es rest (λ same. differ (ap suc same)))
+args_of_lengths ws (e ∷ es) (w ∷ rest) differ = and_no (has_width w.bytes (shape_of ws e))
+    ∙ ap (λ b. has_width w.bytes (shape_of ws e) && b) (args_of_lengths ws es rest (λ same. differ (ap suc same)))

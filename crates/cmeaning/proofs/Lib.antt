@@ -12,3 +12,4 @@ mod Firsts
 pub mod Order
 mod Entries
 pub mod Grows
+pub mod Names

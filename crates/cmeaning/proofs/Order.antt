@@ -89,29 +89,40 @@ new_keys known (q ∷ qs) = (if q.model then not (has_key (key_of q.storage) kno
 behind_is : (p : Param) (qs : List Param) → p.model ≡ false → precedes_all p qs ≡ behind p.storage qs
 behind_is p [] other = refl
 behind_is p (q ∷ qs) other =
-    ap₂ (λ (t u : Bool). (if t then (if q.model then is_either_before p.storage q.storage else true) else (not q.model && is_before p.storage q.storage)) && u) other (behind_is p qs other)
+    ap₂ (λ (t u : Bool). (if t then (if q.model then is_either_before p.storage q.storage else true)
+    else (not q.model && is_before p.storage q.storage)) && u) other (behind_is p qs other)
 
-has_more : (key : ℕ × ℤ) (known : List Param) (p : Param) → has_key key (known ++ p ∷ []) ≡ or (has_key key known) (is_eq (key_cmp (key_of p.storage) key))
+has_more : (key : ℕ × ℤ) (known : List Param) (p : Param)
+    → has_key key (known ++ p ∷ []) ≡ or (has_key key known) (is_eq (key_cmp (key_of p.storage) key))
 has_more key [] p = or_false (is_eq (key_cmp (key_of p.storage) key))
   where
     or_false : (b : Bool) → or b false ≡ b
     or_false true = refl
     or_false false = refl
-has_more key (q ∷ known) p = ap (or (is_eq (key_cmp (key_of q.storage) key))) (has_more key known p) ∙ grouped (is_eq (key_cmp (key_of q.storage) key)) (has_key key known) (is_eq (key_cmp (key_of p.storage) key))
+has_more key (q ∷ known) p = ap (or (is_eq (key_cmp (key_of q.storage) key))) (has_more key known p)
+    ∙ grouped (is_eq (key_cmp (key_of q.storage) key)) (has_key key known) (is_eq (key_cmp (key_of p.storage) key))
   where
     grouped : (a b c : Bool) → or a (or b c) ≡ or (or a b) c
     grouped true b c = refl
     grouped false b c = refl
 
-keys_more : (known : List Param) (p : Param) (qs : List Param) → p.model ≡ true → new_keys (known ++ p ∷ []) qs ≡ new_keys known qs && precedes_all p qs
+keys_more : (known : List Param) (p : Param) (qs : List Param)
+    → p.model ≡ true
+    → new_keys (known ++ p ∷ []) qs ≡ new_keys known qs && precedes_all p qs
 keys_more known p [] model = refl
 keys_more known p (q ∷ qs) model =
-    ap₂ (λ (t u : Bool). (if q.model then not t else true) && u) (has_more (key_of q.storage) known p) (keys_more known p qs model)
-    ∙ by_model q.model (has_key (key_of q.storage) known) (is_eq (key_cmp (key_of p.storage) (key_of q.storage))) (new_keys known qs) (precedes_all p qs)
-    ∙ ap₂ (λ (t u : Bool). ((if q.model then not (has_key (key_of q.storage) known) else true) && new_keys known qs) && ((if t then (if q.model then u else true) else (not q.model && is_before p.storage q.storage)) && precedes_all p qs))
+    ap₂ (λ (t u : Bool). (if q.model then not t else true) && u) (has_more (key_of q.storage) known p)
+    (keys_more known p qs model)
+    ∙ by_model q.model (has_key (key_of q.storage) known) (is_eq (key_cmp (key_of p.storage) (key_of q.storage)))
+    (new_keys known qs) (precedes_all p qs)
+    ∙ ap₂ (λ (t u : Bool). ((if q.model then not (has_key (key_of q.storage) known) else true) && new_keys known qs)
+    && ((if t then (if q.model then u else true) else (not q.model && is_before p.storage q.storage))
+    && precedes_all p qs))
     (sym model) (sym (either_is p.storage q.storage))
   where
-    by_model : (m a b c d : Bool) → (if m then not (or a b) else true) && (c && d) ≡ ((if m then not a else true) && c) && ((if m then not b else true) && d)
+    by_model : (m a b c d : Bool)
+        → (if m then not (or a b) else true) && (c && d) ≡ ((if m then not a else true) && c)
+        && ((if m then not b else true) && d)
     by_model false a b c d = refl
     by_model true true b c d = refl
     by_model true false true true d = refl
@@ -133,7 +144,9 @@ chained s p [] first all = refl
 chained s p (q ∷ qs) first all =
     let parts = split (not q.model && is_before p q.storage) (behind p qs) all in
     let here = split (not q.model) (is_before p q.storage) parts.0 in
-    join (not q.model && is_before s q.storage) (behind s qs) (join (not q.model) (is_before s q.storage) here.0 (before_chain s p q.storage first here.1)) (chained s p qs first parts.1)
+    join (not q.model && is_before s q.storage) (behind s qs)
+    (join (not q.model) (is_before s q.storage) here.0 (before_chain s p q.storage first here.1))
+    (chained s p qs first parts.1)
   where
     split : (a b : Bool) → a && b ≡ true → (a ≡ true) × (b ≡ true)
     split true b h = (refl, h)
@@ -142,7 +155,8 @@ chained s p (q ∷ qs) first all =
     join : (a b : Bool) → a ≡ true → b ≡ true → a && b ≡ true
     join a b h k = rw (h, k) refl
 
-over : (s p : ParamStorage) (qs : List Param) → is_before s p && behind p qs ≡ (is_before s p && behind s qs) && behind p qs
+over : (s p : ParamStorage) (qs : List Param)
+    → is_before s p && behind p qs ≡ (is_before s p && behind s qs) && behind p qs
 over s p qs = by_tests (is_before s p) refl (behind p qs) refl
   where
     by_tests : (t : Bool) → is_before s p ≡ t → (u : Bool) → behind p qs ≡ u → t && u ≡ (t && behind s qs) && u
@@ -150,7 +164,8 @@ over s p qs = by_tests (is_before s p) refl (behind p qs) refl
     by_tests true a false b = sym (and_no (behind s qs))
     by_tests true a true b = ap (λ (t : Bool). t && true) (sym (chained s p qs a b))
 
-model_moved : (st n has keys pre rest : Bool) → (st && (n && not has)) && ((keys && pre) && rest) ≡ n && ((not has && keys) && (st && (pre && rest)))
+model_moved : (st n has keys pre rest : Bool)
+    → (st && (n && not has)) && ((keys && pre) && rest) ≡ n && ((not has && keys) && (st && (pre && rest)))
 model_moved true true true keys pre rest = refl
 model_moved true true false true pre rest = refl
 model_moved true true false false pre rest = refl
@@ -167,7 +182,9 @@ none_moved true false false r = refl
 none_moved false b true r = refl
 none_moved false b false r = refl
 
-some_moved : (st f b s k r : Bool) → f && b ≡ (f && s) && b → (st && f) && (b && (k && r)) ≡ (f && s) && (k && (st && (b && r)))
+some_moved : (st f b s k r : Bool)
+    → f && b ≡ (f && s) && b
+    → (st && f) && (b && (k && r)) ≡ (f && s) && (k && (st && (b && r)))
 some_moved true false b s k r h = refl
 some_moved false false b s k r h = refl
 some_moved true true false true true r h = refl
@@ -183,31 +200,46 @@ some_moved true true true false k r h = absurd (never h)
 abbrev Same : Option ParamStorage → List Param → List Param → Type 0
 Same last known ps = may_all_come last known ps ≡ behind_last last ps && (new_keys known ps && are_params ps)
 
-none_is : (known : List Param) (p : Param) (ps : List Param) → ((last : Option ParamStorage) (seen : List Param) → Same last seen ps) → Same None known (p ∷ ps)
+none_is : (known : List Param) (p : Param) (ps : List Param)
+    → ((last : Option ParamStorage) (seen : List Param) → Same last seen ps)
+    → Same None known (p ∷ ps)
 none_is known p ps ih = by_model p.model refl
   where
     by_model : (m : Bool) → p.model ≡ m
-        → (is_storage p.storage && (if m then not (has_key (key_of p.storage) known) else true)) && may_all_come (if m then None else Some p.storage) (if m then known ++ p ∷ [] else known) ps
-        ≡ ((if m then not (has_key (key_of p.storage) known) else true) && new_keys known ps) && (is_storage p.storage && (precedes_all p ps && are_params ps))
+        → (is_storage p.storage && (if m then not (has_key (key_of p.storage) known) else true))
+        && may_all_come (if m then None else Some p.storage) (if m then known ++ p ∷ [] else known) ps
+        ≡ ((if m then not (has_key (key_of p.storage) known) else true) && new_keys known ps)
+        && (is_storage p.storage && (precedes_all p ps && are_params ps))
     by_model true is =
-        ap (λ (t : Bool). (is_storage p.storage && not (has_key (key_of p.storage) known)) && t) (ih None (known ++ p ∷ []) ∙ ap (λ (t : Bool). t && are_params ps) (keys_more known p ps is))
-        ∙ model_moved (is_storage p.storage) true (has_key (key_of p.storage) known) (new_keys known ps) (precedes_all p ps) (are_params ps)
+        ap (λ (t : Bool). (is_storage p.storage && not (has_key (key_of p.storage) known)) && t)
+        (ih None (known ++ p ∷ []) ∙ ap (λ (t : Bool). t && are_params ps) (keys_more known p ps is))
+        ∙ model_moved (is_storage p.storage) true (has_key (key_of p.storage) known) (new_keys known ps)
+        (precedes_all p ps) (are_params ps)
     by_model false is =
         ap (λ (t : Bool). (is_storage p.storage && true) && t) (ih (Some p.storage) known)
         ∙ none_moved (is_storage p.storage) (behind p.storage ps) (new_keys known ps) (are_params ps)
-        ∙ ap (λ (t : Bool). new_keys known ps && (is_storage p.storage && (t && are_params ps))) (sym (behind_is p ps is))
+        ∙ ap (λ (t : Bool). new_keys known ps && (is_storage p.storage && (t && are_params ps)))
+        (sym (behind_is p ps is))
 
-some_is : (s : ParamStorage) (known : List Param) (p : Param) (ps : List Param) → ((last : Option ParamStorage) (seen : List Param) → Same last seen ps) → Same (Some s) known (p ∷ ps)
+some_is : (s : ParamStorage) (known : List Param) (p : Param) (ps : List Param)
+    → ((last : Option ParamStorage) (seen : List Param) → Same last seen ps)
+    → Same (Some s) known (p ∷ ps)
 some_is s known p ps ih = by_model p.model refl
   where
     by_model : (m : Bool) → p.model ≡ m
-        → (is_storage p.storage && (if m then false else is_before s p.storage)) && may_all_come (if m then Some s else Some p.storage) (if m then known ++ p ∷ [] else known) ps
-        ≡ ((not m && is_before s p.storage) && behind s ps) && (((if m then not (has_key (key_of p.storage) known) else true) && new_keys known ps) && (is_storage p.storage && (precedes_all p ps && are_params ps)))
-    by_model true is = ap (λ (t : Bool). t && may_all_come (Some s) (known ++ p ∷ []) ps) (and_no (is_storage p.storage))
+        → (is_storage p.storage && (if m then false else is_before s p.storage))
+        && may_all_come (if m then Some s else Some p.storage) (if m then known ++ p ∷ [] else known) ps
+        ≡ ((not m && is_before s p.storage) && behind s ps)
+        && (((if m then not (has_key (key_of p.storage) known) else true) && new_keys known ps)
+        && (is_storage p.storage && (precedes_all p ps && are_params ps)))
+    by_model true is = ap (λ (t : Bool). t && may_all_come (Some s) (known ++ p ∷ []) ps)
+        (and_no (is_storage p.storage))
     by_model false is =
         ap (λ (t : Bool). (is_storage p.storage && is_before s p.storage) && t) (ih (Some p.storage) known)
-        ∙ some_moved (is_storage p.storage) (is_before s p.storage) (behind p.storage ps) (behind s ps) (new_keys known ps) (are_params ps) (over s p.storage ps)
-        ∙ ap (λ (t : Bool). (is_before s p.storage && behind s ps) && (new_keys known ps && (is_storage p.storage && (t && are_params ps)))) (sym (behind_is p ps is))
+        ∙ some_moved (is_storage p.storage) (is_before s p.storage) (behind p.storage ps) (behind s ps)
+        (new_keys known ps) (are_params ps) (over s p.storage ps)
+        ∙ ap (λ (t : Bool). (is_before s p.storage && behind s ps)
+        && (new_keys known ps && (is_storage p.storage && (t && are_params ps)))) (sym (behind_is p ps is))
 
 same : (last : Option ParamStorage) (known ps : List Param) → Same last known ps
 same None known [] = refl
@@ -234,7 +266,10 @@ one_more true false = refl
 one_more false true = refl
 one_more false false = refl
 
-pub keys_put : (set new : BTreeSet (ℕ × ℤ)) (known : List Param) (p : Param) → HoldsKeys set known → Updates key_cmp set new (key_of p.storage) true → HoldsKeys new (known ++ p ∷ [])
+pub keys_put : (set new : BTreeSet (ℕ × ℤ)) (known : List Param) (p : Param)
+    → HoldsKeys set known
+    → Updates key_cmp set new (key_of p.storage) true
+    → HoldsKeys new (known ++ p ∷ [])
 keys_put set new known p holds updates key =
     updates.0 key
     ∙ ap (cond (is_eq (key_cmp (key_of p.storage) key)) true) (holds key)
@@ -246,12 +281,20 @@ no_last None t is none = refl
 no_last (Some s) t is none = absurd (never (sym is ∙ none))
 
 -- what adding a model parameter to the set says of it
-pub model_came : (set new : BTreeSet (ℕ × ℤ)) (last : Option ParamStorage) (known : List Param) (p : Param) (key : ℕ × ℤ) (added : Bool) → is_storage p.storage ≡ true → p.model ≡ true → is_nothing last ≡ true → key ≡ key_of p.storage
-    → added ≡ not (contains key_cmp set key) → Updates key_cmp set new key true → HoldsKeys set known → (added ≡ may_come last known p) × (IsTrue added → HoldsKeys new (next_known known p))
+pub model_came : (set new : BTreeSet (ℕ × ℤ)) (last : Option ParamStorage) (known : List Param) (p : Param)
+    (key : ℕ × ℤ) (added : Bool)
+    → is_storage p.storage ≡ true
+    → p.model ≡ true
+    → is_nothing last ≡ true
+    → key ≡ key_of p.storage
+    → added ≡ not (contains key_cmp set key) → Updates key_cmp set new key true → HoldsKeys set known →
+    (added ≡ may_come last known p) × (IsTrue added → HoldsKeys new (next_known known p))
 model_came set new last known p key added right model first is_key is updates holds =
-    let here : added ≡ not (has_key (key_of p.storage) known) = is ∙ ap (λ (k : ℕ × ℤ). not (contains key_cmp set k)) is_key ∙ ap not (holds (key_of p.storage)) in
+    let here : added ≡ not (has_key (key_of p.storage) known) = is
+    ∙ ap (λ (k : ℕ × ℤ). not (contains key_cmp set k)) is_key ∙ ap not (holds (key_of p.storage)) in
     let says : may_come last known p ≡ not (has_key (key_of p.storage) known) =
-    ap₂ (λ (t m : Bool). t && (if m then (is_nothing last && not (has_key (key_of p.storage) known)) else comes_before last p.storage)) right model
+    ap₂ (λ (t m : Bool). t && (if m then (is_nothing last && not (has_key (key_of p.storage) known)) else comes_before
+    last p.storage)) right model
     ∙ ap (λ (t : Bool). t && not (has_key (key_of p.storage) known)) first in (
       here ∙ sym says,
       λ t. subst (HoldsKeys new) (ap (λ (m : Bool). if m then known ++ p ∷ [] else known) (sym model))
@@ -262,28 +305,57 @@ model_came set new last known p key added right model first is_key is updates ho
 
 -- what is left to come
 abbrev pub Left : BTreeSet (ℕ × ℤ) → Option ParamStorage → ℕ → List Param → Type 0
-Left set last i ps = (known : List Param) × (HoldsKeys set known × (may_all_come last known (drop i ps) ≡ may_all_come None [] ps))
+Left set last i ps = (known : List Param)
+    × (HoldsKeys set known × (may_all_come last known (drop i ps) ≡ may_all_come None [] ps))
 
 -- what a turn says of a parameter
 abbrev pub Comes : BTreeSet (ℕ × ℤ) → BTreeSet (ℕ × ℤ) → Option ParamStorage → Param → Bool → Type 0
-Comes set new last p b = (known : List Param) → HoldsKeys set known → (b ≡ may_come last known p) × (IsTrue b → HoldsKeys new (next_known known p))
+Comes set new last p b = (known : List Param) → HoldsKeys set known → (b ≡ may_come last known p)
+    × (IsTrue b → HoldsKeys new (next_known known p))
 
-first_left : (last : Option ParamStorage) (known ps : List Param) (i : ℕ) (p : Param) → i < length ps → p ≡ get_or ps i p
-    → may_all_come last known (drop i ps) ≡ may_come last known p && may_all_come (next_last last p) (next_known known p) (drop (i + 1) ps)
+first_left : (last : Option ParamStorage) (known ps : List Param) (i : ℕ) (p : Param)
+    → i < length ps
+    → p ≡ get_or ps i p
+    → may_all_come last known (drop i ps) ≡ may_come last known p
+    && may_all_come (next_last last p) (next_known known p) (drop (i + 1) ps)
 first_left last known ps i p within is =
-    at_drop_more (may_all_come last known) ps i p within ∙ ap (λ (q : Param). may_all_come last known (q ∷ drop (i + 1) ps)) (sym is)
+    at_drop_more (may_all_come last known) ps i p within
+    ∙ ap (λ (q : Param). may_all_come last known (q ∷ drop (i + 1) ps)) (sym is)
 
-pub param_came : (set new : BTreeSet (ℕ × ℤ)) (last : Option ParamStorage) (ps : List Param) (i : ℕ) (p : Param) (b : Bool) → i < length ps → p ≡ get_or ps i p → Left set last i ps → Comes set new last p b → b ≡ true
+pub param_came : (set new : BTreeSet (ℕ × ℤ)) (last : Option ParamStorage) (ps : List Param) (i : ℕ) (p : Param)
+    (b : Bool)
+    → i < length ps
+    → p ≡ get_or ps i p
+    → Left set last i ps
+    → Comes set new last p b
+    → b ≡ true
     → Left new (next_last last p) (i + 1) ps
 param_came set new last ps i p b within is left comes came =
-    let by = comes left.0 left.1.0 in
-    (next_known left.0 p, (by.1 came, ap (λ (t : Bool). t && may_all_come (next_last last p) (next_known left.0 p) (drop (i + 1) ps)) (sym came ∙ by.0) ∙ sym (first_left last left.0 ps i p within is) ∙ left.1.1))
+    let by = comes left.0 left.1.0 in (
+      next_known left.0 p,
+      (
+        by.1 came,
+        ap
+            (λ (t : Bool). t && may_all_come (next_last last p) (next_known left.0 p) (drop (i + 1) ps)) (sym came ∙ by.0)
+            ∙ sym (first_left last left.0 ps i p within is) ∙ left.1.1,
+      ),
+    )
 
-pub param_failed : (set new : BTreeSet (ℕ × ℤ)) (last : Option ParamStorage) (ps : List Param) (i : ℕ) (p : Param) (b : Bool) → i < length ps → p ≡ get_or ps i p → Left set last i ps → Comes set new last p b → b ≡ false
+pub param_failed : (set new : BTreeSet (ℕ × ℤ)) (last : Option ParamStorage) (ps : List Param) (i : ℕ) (p : Param)
+    (b : Bool)
+    → i < length ps
+    → p ≡ get_or ps i p
+    → Left set last i ps
+    → Comes set new last p b
+    → b ≡ false
     → false ≡ are_params ps
 param_failed set new last ps i p b within is left comes failed =
     let by = comes left.0 left.1.0 in
-    ap (λ (t : Bool). t && may_all_come (next_last last p) (next_known left.0 p) (drop (i + 1) ps)) (sym failed ∙ by.0) ∙ sym (first_left last left.0 ps i p within is) ∙ left.1.1 ∙ params_come ps
+    ap (λ (t : Bool). t && may_all_come (next_last last p) (next_known left.0 p) (drop (i + 1) ps))
+    (sym failed ∙ by.0) ∙ sym (first_left last left.0 ps i p within is) ∙ left.1.1 ∙ params_come ps
 
-pub params_end : (set : BTreeSet (ℕ × ℤ)) (last : Option ParamStorage) (ps : List Param) (i : ℕ) → length ps ≤ i → Left set last i ps → true ≡ are_params ps
+pub params_end : (set : BTreeSet (ℕ × ℤ)) (last : Option ParamStorage) (ps : List Param) (i : ℕ)
+    → length ps ≤ i
+    → Left set last i ps
+    → true ≡ are_params ps
 params_end set last ps i past left = sym (at_drop_all (may_all_come last left.0) ps i past) ∙ left.1.1 ∙ params_come ps

@@ -29,7 +29,8 @@ arms_fit w (a ∷ rest) = are_words w a.cases && arms_fit w rest
 -- each arm has a case value, and its statements obey their rules
 abbrev pub arms_right : CFunction → ℕ → List Arm → ℕ → Bool
 arms_right f labels [] room = true
-arms_right f labels (a ∷ rest) room = has_case a.cases && (all_hold false (map (rule_of f labels) a.body) false room && arms_right f labels rest room)
+arms_right f labels (a ∷ rest) room = has_case a.cases
+    && (all_hold false (map (rule_of f labels) a.body) false room && arms_right f labels rest room)
 
 -- ---- by a set
 

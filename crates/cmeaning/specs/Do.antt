@@ -126,7 +126,8 @@ divide_of SRem = D.SignedRemainder
 
 -- the last answer's register bytes from an offset on, as a word
 abbrev pub left_word : Listing → ℕ → ℕ → (ℕ → ℕ) → ℕ
-left_word l offset k left = word_of (is_big l (register_space l)) (bytes_at (size_of l (register_space l)) left offset k)
+left_word l offset k left = word_of (is_big l (register_space l))
+    (bytes_at (size_of l (register_space l)) left offset k)
 
 -- ---- simple statements
 
@@ -142,13 +143,23 @@ callee_of s = callee_in (out-Stmt s)
 -- meaning here.
 abbrev pub do_layer : Listing → (ℕ → ℕ) → (ℕ → Bool) → Stmt-F Stmt Arm → Local → Local
 do_layer l ws returns (Stmt-F.Assign v e) x = with_word (value_of ws x.env e) x (λ n. assigned v n x)
-do_layer l ws returns (Stmt-F.Load v space address) x = with_word (value_of ws x.env address) x (λ a. assigned v (loaded l (accessed l space) (ws v) a x.world.memory) x)
-do_layer l ws returns (Stmt-F.Store space address e) x = with_word (value_of ws x.env address) x (λ a. with_word (value_of ws x.env e) x (λ n. stored l (accessed l space) (width_of ws e) a n x))
-do_layer l ws returns (Stmt-F.Call v callee args) x = with_words (values_of ws x.env args) x (λ ns. called l ws v (returns callee) (in_world (recorded (Call callee ns) x.world) x))
-do_layer l ws returns (Stmt-F.CallInd v callee args) x = with_word (value_of ws x.env callee) x (λ a. with_words (values_of ws x.env args) x (λ ns. asks l ws v (in_world (recorded (Call a ns) x.world) x)))
-do_layer l ws returns (Stmt-F.Other v index args) x = with_words (values_of ws x.env args) x (λ ns. asks l ws v (in_world (recorded (Other index ns) x.world) x))
+do_layer l ws returns (Stmt-F.Load v space address) x =
+    with_word (value_of ws x.env address) x (λ a. assigned v (loaded l (accessed l space) (ws v) a x.world.memory) x)
+do_layer l ws returns (Stmt-F.Store space address e) x =
+    with_word (value_of ws x.env address) x
+    (λ a. with_word (value_of ws x.env e) x (λ n. stored l (accessed l space) (width_of ws e) a n x))
+do_layer l ws returns (Stmt-F.Call v callee args) x =
+    with_words (values_of ws x.env args) x
+    (λ ns. called l ws v (returns callee) (in_world (recorded (Call callee ns) x.world) x))
+do_layer l ws returns (Stmt-F.CallInd v callee args) x =
+    with_word (value_of ws x.env callee) x
+    (λ a. with_words (values_of ws x.env args) x (λ ns. asks l ws v (in_world (recorded (Call a ns) x.world) x)))
+do_layer l ws returns (Stmt-F.Other v index args) x =
+    with_words (values_of ws x.env args) x (λ ns. asks l ws v (in_world (recorded (Other index ns) x.world) x))
 do_layer l ws returns (Stmt-F.Extra v offset) x = assigned v (left_word l offset (ws v) x.left) x
-do_layer l ws returns (Stmt-F.Divide v op a b) x = with_word (value_of ws x.env a) x (λ m. with_word (value_of ws x.env b) x (λ n. divided v (divide_value (divide_of op) (width_of ws a) m n) x))
+do_layer l ws returns (Stmt-F.Divide v op a b) x =
+    with_word (value_of ws x.env a) x
+    (λ m. with_word (value_of ws x.env b) x (λ n. divided v (divide_value (divide_of op) (width_of ws a) m n) x))
 do_layer l ws returns s x = ends Undefined x
 
 abbrev pub do_simple : Listing → (ℕ → ℕ) → (ℕ → Bool) → Stmt → Local → Local

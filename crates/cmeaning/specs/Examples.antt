@@ -148,7 +148,13 @@ abbrev pub local : Expr
 local = E.Var 1
 
 abbrev pub callee : ℕ → Option Width → Bool → CalleeDecl
-callee address gives returns = record { name = Bare; address = address; gives = gives; args = four ∷ []; returns = returns }
+callee address gives returns = record {
+  name = Bare;
+  address = address;
+  gives = gives;
+  args = four ∷ [];
+  returns = returns;
+}
 
 abbrev pub c_function : List CalleeDecl → List Stmt → CFunction
 c_function callees body = record {

@@ -17,7 +17,8 @@ use Rattle.cmeaning.specs.Do.{space_named, widths_in}
 -- a name is that of a ram space other than the first, which has none here
 abbrev pub names_ram : Listing → Option (List ℕ) → Bool
 names_ram l None = true
-names_ram l (Some name) = is_kind Ram l.spaces (space_named name l.spaces) && not (space_named name l.spaces == first_ram l)
+names_ram l (Some name) = is_kind Ram l.spaces (space_named name l.spaces)
+    && not (space_named name l.spaces == first_ram l)
 
 -- so many bytes from an offset on lie in a space
 abbrev pub lies_in : Listing → ℕ → ℕ → ℕ → Bool

@@ -10,8 +10,9 @@ use Rattle.cmeaning.specs.declared.tree.Expr.{Expr}
 use Rattle.cmeaning.specs.declared.tree.Stmt.{Stmt, fold-Stmt}
 use Rattle.cmeaning.specs.declared.tree.Stmt.TheOpen.{Stmt-F, Arm-F}
 use Rattle.cmeaning.specs.declared.tree.Stmt.TheVariants as S
-use Rattle.cmeaning.specs.declared.tree.CalleeDecl.{CalleeDecl}
 use Rattle.cmeaning.specs.declared.tree.CFunction.{CFunction}
+pub use Rattle.cmeaning.specs.Callees.{returns_by}
+use Rattle.cmeaning.specs.Leaves.{ends_in_break, last_of, leaves_step}
 
 -- A step. Positions count from 0 and name steps of the same flat code; the one past the last step ends the run
 -- Undefined.
@@ -29,8 +30,7 @@ pub data Flat : Type 0 where
 
 -- What a statement makes.
 -- span: how many steps.
--- leaves: whether it is a return, a goto or a call of a callee that doesn't return, so that an arm that ends in it has
--- no `break;` in its text.
+-- leaves: whether it leaves, so that an arm that ends in it has no `break;` in its text.
 -- labels: the labels in it with their positions, by the position where it begins.
 -- steps: the steps, by the position of each label, the position behind the innermost loop, and the one where it begins.
 pub record Piece : Type 0 where
@@ -54,8 +54,7 @@ all_steps [] place out p = []
 all_steps (x ∷ xs) place out p = x.steps place out p ++ all_steps xs place out (p + x.span)
 
 abbrev pub last_leaves : Bool → List Piece → Bool
-last_leaves b [] = b
-last_leaves b (x ∷ xs) = last_leaves x.leaves xs
+last_leaves b xs = last_of (λ (x : Piece). x.leaves) b xs
 
 -- ---- arms of a switch
 
@@ -65,7 +64,7 @@ pub record Branch : Type 0 where
 
 -- whether the arm's text ends with `break;`
 abbrev pub breaks : Branch → Bool
-breaks a = not (last_leaves false a.body)
+breaks a = ends_in_break (λ (x : Piece). x.leaves) a.body
 
 abbrev pub arm_span : Branch → ℕ
 arm_span a = if breaks a then suc (spans a.body) else spans a.body
@@ -90,63 +89,93 @@ arm_cases (a ∷ rest) p = cases_at p a.cases ++ arm_cases rest (p + arm_span a)
 -- `past` is the position past the switch
 abbrev pub arm_steps : List Branch → (ℕ → ℕ) → ℕ → ℕ → ℕ → List Flat
 arm_steps [] place out past p = []
-arm_steps (a ∷ rest) place out past p = all_steps a.body place out p ++ ((if breaks a then Jump past ∷ [] else []) ++ arm_steps rest place out past (p + arm_span a))
+arm_steps (a ∷ rest) place out past p = all_steps a.body place out p
+    ++ ((if breaks a then Jump past ∷ [] else []) ++ arm_steps rest place out past (p + arm_span a))
 
 -- ---- statements
 
 abbrev pub single : Bool → Flat → Piece
 single leaves s = record { span = 1; leaves = leaves; labels = λ p. []; steps = λ place out p. s ∷ [] }
 
+abbrev pub does_leave : (ℕ → Bool) → Stmt-F Piece Branch → Bool
+does_leave returns s = leaves_step returns s
+
 -- by whether the callee at an address returns
 abbrev pub piece_step : (ℕ → Bool) → Stmt-F Piece Branch → Piece
-piece_step returns (Stmt-F.Assign v e) = single false (Do (S.Assign v e))
-piece_step returns (Stmt-F.Load v space address) = single false (Do (S.Load v space address))
-piece_step returns (Stmt-F.Store space address e) = single false (Do (S.Store space address e))
-piece_step returns (Stmt-F.Call v callee args) = single (not (returns callee)) (Do (S.Call v callee args))
-piece_step returns (Stmt-F.CallInd v callee args) = single false (Do (S.CallInd v callee args))
-piece_step returns (Stmt-F.Other v index args) = single false (Do (S.Other v index args))
-piece_step returns (Stmt-F.Extra v offset) = single false (Do (S.Extra v offset))
-piece_step returns (Stmt-F.Divide v op a b) = single false (Do (S.Divide v op a b))
+piece_step returns (Stmt-F.Assign v e) = single (does_leave returns (Stmt-F.Assign v e)) (Do (S.Assign v e))
+piece_step returns (Stmt-F.Load v space address) =
+    single (does_leave returns (Stmt-F.Load v space address)) (Do (S.Load v space address))
+piece_step returns (Stmt-F.Store space address e) =
+    single (does_leave returns (Stmt-F.Store space address e)) (Do (S.Store space address e))
+piece_step returns (Stmt-F.Call v callee args) =
+    single (does_leave returns (Stmt-F.Call v callee args)) (Do (S.Call v callee args))
+piece_step returns (Stmt-F.CallInd v callee args) =
+    single (does_leave returns (Stmt-F.CallInd v callee args)) (Do (S.CallInd v callee args))
+piece_step returns (Stmt-F.Other v index args) =
+    single (does_leave returns (Stmt-F.Other v index args)) (Do (S.Other v index args))
+piece_step returns (Stmt-F.Extra v offset) =
+    single (does_leave returns (Stmt-F.Extra v offset)) (Do (S.Extra v offset))
+piece_step returns (Stmt-F.Divide v op a b) =
+    single (does_leave returns (Stmt-F.Divide v op a b)) (Do (S.Divide v op a b))
 piece_step returns (Stmt-F.If c body) = record {
   span = suc (spans body);
-  leaves = false;
+  leaves = does_leave returns (Stmt-F.If c body);
   labels = λ p. all_labels body (suc p);
   steps = λ place out p. Test c (suc p) (suc p + spans body) ∷ all_steps body place out (suc p);
 }
 piece_step returns (Stmt-F.IfElse c body other) = record {
   span = suc (spans body + suc (spans other));
-  leaves = false;
+  leaves = does_leave returns (Stmt-F.IfElse c body other);
   labels = λ p. all_labels body (suc p) ++ all_labels other (suc (suc p + spans body));
-  steps = λ place out p. Test c (suc p) (suc (suc p + spans body)) ∷ (all_steps body place out (suc p) ++ Jump (suc (suc p + spans body) + spans other) ∷ all_steps other place out (suc (suc p + spans body)));
+  steps = λ place out p. Test c (suc p)
+      (suc (suc p + spans body)) ∷ (all_steps body place out (suc p)
+      ++ Jump (suc (suc p + spans body) + spans other) ∷ all_steps other place out (suc (suc p + spans body)));
 }
 piece_step returns (Stmt-F.While c body) = record {
   span = suc (spans body + 1);
-  leaves = false;
+  leaves = does_leave returns (Stmt-F.While c body);
   labels = λ p. all_labels body (suc p);
-  steps = λ place out p. Test c (suc p) (suc (suc p + spans body)) ∷ (all_steps body place (suc (suc p + spans body)) (suc p) ++ Jump p ∷ []);
+  steps = λ place out p. Test c (suc p)
+      (suc (suc p + spans body)) ∷ (all_steps body place (suc (suc p + spans body)) (suc p) ++ Jump p ∷ []);
 }
 piece_step returns (Stmt-F.DoWhile body c) = record {
   span = spans body + 1;
-  leaves = false;
+  leaves = does_leave returns (Stmt-F.DoWhile body c);
   labels = λ p. all_labels body p;
   steps = λ place out p. all_steps body place (suc (p + spans body)) p ++ Test c p (suc (p + spans body)) ∷ [];
 }
 piece_step returns (Stmt-F.Loop body) = record {
   span = spans body + 1;
-  leaves = false;
+  leaves = does_leave returns (Stmt-F.Loop body);
   labels = λ p. all_labels body p;
   steps = λ place out p. all_steps body place (suc (p + spans body)) p ++ Jump p ∷ [];
 }
-piece_step returns Stmt-F.Break = record { span = 1; leaves = false; labels = λ p. []; steps = λ place out p. Jump out ∷ [] }
+piece_step returns Stmt-F.Break = record {
+  span = 1;
+  leaves = does_leave returns Stmt-F.Break;
+  labels = λ p. [];
+  steps = λ place out p. Jump out ∷ [];
+}
 piece_step returns (Stmt-F.Switch e arms) = record {
   span = suc (arm_spans arms);
-  leaves = false;
+  leaves = does_leave returns (Stmt-F.Switch e arms);
   labels = λ p. arm_labels arms (suc p);
-  steps = λ place out p. Choose e (arm_cases arms (suc p)) (suc p + arm_spans arms) ∷ arm_steps arms place out (suc p + arm_spans arms) (suc p);
+  steps = λ place out p. Choose e (arm_cases arms (suc p)) (suc p + arm_spans arms) ∷ arm_steps arms place out
+      (suc p + arm_spans arms) (suc p);
 }
-piece_step returns (Stmt-F.Goto n) = record { span = 1; leaves = true; labels = λ p. []; steps = λ place out p. Jump (place n) ∷ [] }
-piece_step returns (Stmt-F.Label n) = record { span = 0; leaves = false; labels = λ p. (n, p) ∷ []; steps = λ place out p. [] }
-piece_step returns (Stmt-F.Return e) = single true (Give e)
+piece_step returns (Stmt-F.Goto n) = record {
+  span = 1;
+  leaves = does_leave returns (Stmt-F.Goto n);
+  labels = λ p. [];
+  steps = λ place out p. Jump (place n) ∷ [];
+}
+piece_step returns (Stmt-F.Label n) = record {
+  span = 0;
+  leaves = does_leave returns (Stmt-F.Label n);
+  labels = λ p. (n, p) ∷ [];
+  steps = λ place out p. [];
+}
+piece_step returns (Stmt-F.Return e) = single (does_leave returns (Stmt-F.Return e)) (Give e)
 
 abbrev pub branch_step : Arm-F Piece Branch → Branch
 branch_step a = record { cases = a.cases; body = a.body }
@@ -158,11 +187,6 @@ abbrev pub pieces_of : (ℕ → Bool) → List Stmt → List Piece
 pieces_of returns body = map (piece_of returns) body
 
 -- ---- functions
-
--- whether the callee at an address is declared to return; one without a declaration does
-abbrev pub returns_by : List CalleeDecl → ℕ → Bool
-returns_by [] a = true
-returns_by (c ∷ rest) a = if c.address == a then c.returns else returns_by rest a
 
 -- the second of the first pair that begins with a number, or else a default
 abbrev pub found_in : List (ℕ × ℕ) → ℕ → ℕ → ℕ

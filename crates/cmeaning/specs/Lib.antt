@@ -1,3 +1,5 @@
+pub mod Callees
+pub mod Leaves
 pub mod Value
 pub mod Do
 pub mod Flat

@@ -29,7 +29,8 @@ is_nothing (Some p) = false
 
 -- Whether a parameter may come behind the model parameters `known` and, unless it is None, a last other one of this storage.
 abbrev pub may_come : Option ParamStorage → List Param → Param → Bool
-may_come last known p = is_storage p.storage && (if p.model then (is_nothing last && not (has_key (key_of p.storage) known)) else comes_before last p.storage)
+may_come last known p = is_storage p.storage
+    && (if p.model then (is_nothing last && not (has_key (key_of p.storage) known)) else comes_before last p.storage)
 
 abbrev pub next_last : Option ParamStorage → Param → Option ParamStorage
 next_last last p = if p.model then last else Some p.storage

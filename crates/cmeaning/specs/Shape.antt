@@ -13,7 +13,9 @@ leaf w constant = Some (record { width = w; depth = 1; constant = constant; comp
 
 -- A node over operands of a depth, if it is right. The depth of a node is 1 more than the greatest of its operands.
 abbrev pub above : Bool → ℕ → ℕ → Bool → Option Shape
-above right w depth comparison = if right && nat_lt depth 64 then Some (record { width = w; depth = depth + 1; constant = None; comparison = comparison }) else None
+above right w depth comparison = if right
+    && nat_lt depth 64 then Some (record { width = w; depth = depth + 1; constant = None; comparison = comparison })
+    else None
 
 -- of one operand: whether it is right by the operand's width, and its own width
 abbrev pub one_shape : (ℕ → Bool) → (ℕ → ℕ) → Option Shape → Option Shape

@@ -60,7 +60,8 @@ carry_out l ws returns (Some (Give e)) s = given ws e s
 
 -- After an end nothing changes.
 abbrev pub c_step : Listing → CFunction → CState → CState
-c_step l f s = unless_over s.local.world.over s (carry_out l (widths_in f) (returns_by f.callees) (slice_get (flat_of f) s.position) s)
+c_step l f s = unless_over s.local.world.over s
+    (carry_out l (widths_in f) (returns_by f.callees) (slice_get (flat_of f) s.position) s)
 
 abbrev pub c_machine : Listing → CFunction → Machine CState
 c_machine l f = record { step = c_step l f; sight = λ s. shown s.local.world }
@@ -72,7 +73,8 @@ c_machine l f = record { step = c_step l f; sight = λ s. shown s.local.world }
 abbrev pub word_at : Listing → Entry → ℕ → ParamStorage → ℕ
 word_at l e k (Register offset) = word_in_bytes l (register_space l) offset k e.bytes
 word_at l e k (Unique offset) = word_in_bytes l (unique_space l) offset k e.bytes
-word_at l e k (Stack offset) = word_of (is_big l (first_ram l)) (bytes_at (size_of l (first_ram l)) (first_apart l e).own (wrapped (size_of l (first_ram l)) offset) k)
+word_at l e k (Stack offset) = word_of (is_big l (first_ram l))
+    (bytes_at (size_of l (first_ram l)) (first_apart l e).own (wrapped (size_of l (first_ram l)) offset) k)
 
 abbrev pub first_word : Listing → Entry → Option Param → Option ℕ
 first_word l e None = None
@@ -80,7 +82,11 @@ first_word l e (Some p) = Some (word_at l e p.width.bytes p.storage)
 
 -- each parameter holds the entry's word at its storage, and no other variable is assigned
 abbrev pub start_c : Listing → CFunction → Entry → CState
-start_c l f e = at 0 (record { env = λ n. first_word l e (slice_get f.params n); left = λ o. 0; world = first_world e.bytes e })
+start_c l f e = at 0 (record {
+  env = λ n. first_word l e (slice_get f.params n);
+  left = λ o. 0;
+  world = first_world e.bytes e;
+})
 
 -- what the C run has shown after n steps
 abbrev pub seen_c : Listing → CFunction → Entry → ℕ → Trace

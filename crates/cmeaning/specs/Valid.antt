@@ -18,29 +18,13 @@ use Rattle.cmeaning.specs.declared.tree.Arm.{Arm}
 use Rattle.cmeaning.specs.declared.tree.Stmt.{Stmt, fold-Stmt}
 use Rattle.cmeaning.specs.declared.tree.Stmt.TheFolds.{fold-Arm}
 use Rattle.cmeaning.specs.declared.tree.Stmt.TheOpen.{Stmt-F, Arm-F}
+pub use Rattle.listing_lines.specs.Tokens.{is_name}
+pub use Rattle.cmeaning.specs.Callees.{declared_in}
 use Rattle.cmeaning.specs.Do.{same_name, widths_in}
 use Rattle.cmeaning.specs.Shape.{shape_of, is_right, has_width, is_condition}
 use Rattle.cmeaning.specs.Mentions.{in_body, numbered}
 
--- ---- names
-
-abbrev pub is_letter : ℕ → Bool
-is_letter c = or (nat_le 65 c && nat_le c 90) (or (nat_le 97 c && nat_le c 122) (c == 95))
-
-abbrev pub is_letter_or_digit : ℕ → Bool
-is_letter_or_digit c = or (is_letter c) (nat_le 48 c && nat_le c 57)
-
-abbrev pub all_letters_or_digits : List ℕ → Bool
-all_letters_or_digits [] = true
-all_letters_or_digits (c ∷ cs) = is_letter_or_digit c && all_letters_or_digits cs
-
-abbrev pub begins_well : List ℕ → Bool
-begins_well [] = false
-begins_well (c ∷ cs) = is_letter c
-
--- a letter or `_`, then at most 63 letters, digits or `_`
-abbrev pub is_name : List ℕ → Bool
-is_name name = begins_well name && (all_letters_or_digits name && nat_le (length name) 64)
+-- ---- numbers
 
 -- a number of 64 bits
 abbrev pub is_long : ℕ → Bool
@@ -71,7 +55,8 @@ is_either_before a b = or (is_before a b) (is_before b a)
 -- Of two parameters in this order. Model parameters come first, and two of them have different storages, which make their
 -- names. The others come by their storages.
 abbrev pub may_precede : Param → Param → Bool
-may_precede p q = if p.model then (if q.model then is_either_before p.storage q.storage else true) else (not q.model && is_before p.storage q.storage)
+may_precede p q = if p.model then (if q.model then is_either_before p.storage q.storage else true)
+    else (not q.model && is_before p.storage q.storage)
 
 abbrev pub precedes_all : Param → List Param → Bool
 precedes_all p [] = true
@@ -113,11 +98,6 @@ is_callee c = is_long c.address && (is_callee_name c.name && result_fits c.retur
 abbrev pub are_callees : List CalleeDecl → Bool
 are_callees [] = true
 are_callees (c ∷ cs) = is_callee c && (is_apart_from c cs && are_callees cs)
-
--- the declaration of an address
-abbrev pub declared_in : List CalleeDecl → ℕ → Option CalleeDecl
-declared_in [] address = None
-declared_in (c ∷ rest) address = if c.address == address then Some c else declared_in rest address
 
 -- ---- the parts of statements
 
@@ -205,7 +185,8 @@ pub record Cased : Type 0 where
 -- statements one after another, with so many levels left for them
 abbrev pub all_hold : Bool → List Rule → Bool → ℕ → Bool
 all_hold after_call [] in_loop room = true
-all_hold after_call (x ∷ xs) in_loop room = nat_lt 0 room && (x.holds after_call in_loop (room - 1) && all_hold x.calls xs in_loop room)
+all_hold after_call (x ∷ xs) in_loop room = nat_lt 0 room
+    && (x.holds after_call in_loop (room - 1) && all_hold x.calls xs in_loop room)
 
 abbrev pub has_case : List ℕ → Bool
 has_case [] = false
@@ -230,20 +211,57 @@ calling right = record { calls = true; holds = λ after_call in_loop room. right
 -- in a function whose next label would have the number `labels`
 abbrev pub rule_step : CFunction → ℕ → Stmt-F Rule Cased → Rule
 rule_step f labels (Stmt-F.Assign v e) = plainly (is_assigned (widths_in f) v (shape_of (widths_in f) e))
-rule_step f labels (Stmt-F.Load v space address) = plainly (is_variable (widths_in f) v && (is_space space && is_right (shape_of (widths_in f) address)))
-rule_step f labels (Stmt-F.Store space address e) = plainly (is_space space && (is_right (shape_of (widths_in f) address) && is_right (shape_of (widths_in f) e)))
+rule_step f labels (Stmt-F.Load v space address) =
+    plainly (is_variable (widths_in f) v && (is_space space && is_right (shape_of (widths_in f) address)))
+rule_step f labels (Stmt-F.Store space address e) =
+    plainly (is_space space && (is_right (shape_of (widths_in f) address) && is_right (shape_of (widths_in f) e)))
 rule_step f labels (Stmt-F.Call v callee args) = calling (is_call (widths_in f) v args (declared_in f.callees callee))
-rule_step f labels (Stmt-F.CallInd v callee args) = calling (is_target (widths_in f) v && (is_right (shape_of (widths_in f) callee) && are_right (widths_in f) args))
-rule_step f labels (Stmt-F.Other v index args) = plainly (is_target (widths_in f) v && (is_long index && are_right (widths_in f) args))
-rule_step f labels (Stmt-F.Extra v offset) = record { calls = true; holds = λ after_call in_loop room. after_call && (is_variable (widths_in f) v && is_long offset) }
-rule_step f labels (Stmt-F.Divide v op a b) = plainly (is_assigned (widths_in f) v (shape_of (widths_in f) a) && has_width (widths_in f v) (shape_of (widths_in f) b))
-rule_step f labels (Stmt-F.If c body) = record { calls = false; holds = λ after_call in_loop room. is_condition (shape_of (widths_in f) c) && all_hold false body in_loop room }
-rule_step f labels (Stmt-F.IfElse c body other) = record { calls = false; holds = λ after_call in_loop room. is_condition (shape_of (widths_in f) c) && (all_hold false body in_loop room && all_hold false other in_loop room) }
-rule_step f labels (Stmt-F.While c body) = record { calls = false; holds = λ after_call in_loop room. is_condition (shape_of (widths_in f) c) && all_hold false body true room }
-rule_step f labels (Stmt-F.DoWhile body c) = record { calls = false; holds = λ after_call in_loop room. is_condition (shape_of (widths_in f) c) && all_hold false body true room }
-rule_step f labels (Stmt-F.Loop body) = record { calls = false; holds = λ after_call in_loop room. all_hold false body true room }
+rule_step f labels (Stmt-F.CallInd v callee args) =
+    calling (is_target (widths_in f) v && (is_right (shape_of (widths_in f) callee) && are_right (widths_in f) args))
+rule_step f labels (Stmt-F.Other v index args) =
+    plainly (is_target (widths_in f) v && (is_long index && are_right (widths_in f) args))
+rule_step f labels (Stmt-F.Extra v offset) =
+    record {
+      calls = true;
+      holds = λ after_call in_loop room. after_call
+          && (is_variable (widths_in f) v && is_long offset);
+    }
+rule_step f labels (Stmt-F.Divide v op a b) =
+    plainly (is_assigned (widths_in f) v (shape_of (widths_in f) a)
+    && has_width (widths_in f v) (shape_of (widths_in f) b))
+rule_step f labels (Stmt-F.If c body) =
+    record {
+      calls = false;
+      holds = λ after_call in_loop room. is_condition (shape_of (widths_in f) c)
+          && all_hold false body in_loop room;
+    }
+rule_step f labels (Stmt-F.IfElse c body other) =
+    record {
+      calls = false;
+      holds = λ after_call in_loop room. is_condition (shape_of (widths_in f) c)
+          && (all_hold false body in_loop room && all_hold false other in_loop room);
+    }
+rule_step f labels (Stmt-F.While c body) =
+    record {
+      calls = false;
+      holds = λ after_call in_loop room. is_condition (shape_of (widths_in f) c)
+          && all_hold false body true room;
+    }
+rule_step f labels (Stmt-F.DoWhile body c) =
+    record {
+      calls = false;
+      holds = λ after_call in_loop room. is_condition (shape_of (widths_in f) c)
+          && all_hold false body true room;
+    }
+rule_step f labels (Stmt-F.Loop body) =
+    record { calls = false; holds = λ after_call in_loop room. all_hold false body true room }
 rule_step f labels Stmt-F.Break = record { calls = false; holds = λ after_call in_loop room. in_loop }
-rule_step f labels (Stmt-F.Switch e arms) = record { calls = false; holds = λ after_call in_loop room. are_cases_of (all_cases arms) (shape_of (widths_in f) e) && arms_hold arms room }
+rule_step f labels (Stmt-F.Switch e arms) =
+    record {
+      calls = false;
+      holds =
+          λ after_call in_loop room. are_cases_of (all_cases arms) (shape_of (widths_in f) e) && arms_hold arms room;
+    }
 rule_step f labels (Stmt-F.Goto n) = plainly (nat_lt 0 n && nat_lt n labels)
 rule_step f labels (Stmt-F.Label n) = plainly (nat_lt n (2 ^ 32))
 rule_step f labels (Stmt-F.Return e) = plainly (is_returned (widths_in f) f.gives e)
@@ -266,7 +284,8 @@ is_body f labels body = all_hold false (map (rule_of f labels) body) false 256
 -- each local appears, each callee has a call, and the statements obey their rules, by the next numbers after the body
 abbrev pub is_complete : CFunction → Option Next → Bool
 is_complete f None = false
-is_complete f (Some n) = n.variable == length f.params + length f.locals && (n.callee == length f.callees && is_body f n.label f.body)
+is_complete f (Some n) = n.variable == length f.params + length f.locals
+    && (n.callee == length f.callees && is_body f n.label f.body)
 
 abbrev pub first_next : CFunction → Next
 first_next f = record { variable = length f.params; callee = 0; label = 1 }

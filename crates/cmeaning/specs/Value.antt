@@ -111,7 +111,10 @@ of_one op w a = record { width = w; value = λ env. with_value (a.value env) (λ
 
 -- of a node with two operands
 abbrev pub of_two : Binary → ℕ → Meaning → Meaning → Meaning
-of_two op w a b = record { width = w; value = λ env. with_values (a.value env) (b.value env) (λ x y. Some (binary_value op a.width x b.width y w)) }
+of_two op w a b = record {
+  width = w;
+  value = λ env. with_values (a.value env) (b.value env) (λ x y. Some (binary_value op a.width x b.width y w));
+}
 
 -- by the widths of the variables
 abbrev pub meaning_step : (ℕ → ℕ) → Expr-F Meaning → Meaning
@@ -119,13 +122,28 @@ meaning_step ws (Expr-F.Const c) = record { width = c.width.bytes; value = λ en
 meaning_step ws (Expr-F.Var v) = record { width = ws v; value = λ env. env v }
 meaning_step ws (Expr-F.Unary op a) = of_one (unary_of op) a.width a
 meaning_step ws (Expr-F.Arithmetic op a b) = of_two (arithmetic_of op) a.width a b
-meaning_step ws (Expr-F.Division op a b) = record { width = a.width; value = λ env. with_values (a.value env) (b.value env) (divide_value (division_of op) a.width) }
-meaning_step ws (Expr-F.SignedDivision op a b) = record { width = a.width; value = λ env. with_values (a.value env) (b.value env) (signed_quotient (signed_division_of op) a.width) }
+meaning_step ws (Expr-F.Division op a b) =
+    record {
+      width = a.width;
+      value =
+          λ env. with_values (a.value env) (b.value env) (divide_value (division_of op) a.width);
+    }
+meaning_step ws (Expr-F.SignedDivision op a b) =
+    record {
+      width = a.width;
+      value =
+          λ env. with_values (a.value env) (b.value env) (signed_quotient (signed_division_of op) a.width);
+    }
 meaning_step ws (Expr-F.Shift op a b) = of_two (shift_of op) a.width a b
 meaning_step ws (Expr-F.Compare op a b) = of_two (compare_of op) 1 a b
 meaning_step ws (Expr-F.SignedCompare op a b) = of_two (signed_compare_of op) 1 a b
 meaning_step ws (Expr-F.Extend op w a) = of_one (extend_of op) w.bytes a
-meaning_step ws (Expr-F.Part dropped w a) = record { width = w.bytes; value = λ env. with_value (a.value env) (λ x. Some (binary_value B.Subpiece a.width x 1 dropped w.bytes)) }
+meaning_step ws (Expr-F.Part dropped w a) =
+    record {
+      width = w.bytes;
+      value =
+          λ env. with_value (a.value env) (λ x. Some (binary_value B.Subpiece a.width x 1 dropped w.bytes));
+    }
 meaning_step ws (Expr-F.Concat a b) = of_two B.Piece (a.width + b.width) a b
 meaning_step ws (Expr-F.Overflow op a b) = of_two (overflow_of op) 1 a b
 meaning_step ws (Expr-F.Count op a) = of_one (count_of op) 1 a

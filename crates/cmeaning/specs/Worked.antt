@@ -37,7 +37,8 @@ pub record OneAddition : Type 0 where
 -- ---- a division, 100 by the argument, whose result is stored at 64
 
 abbrev pub divides : Listing
-divides = runs (sets (O.Divide D.Quotient) result (constant 100 4 ∷ argument ∷ []) ∷ does O.Store (constant 1 4 ∷ constant 64 8 ∷ result ∷ []) ∷ [])
+divides = runs (sets (O.Divide D.Quotient) result (constant 100 4 ∷ argument ∷ []) ∷ does O.Store
+    (constant 1 4 ∷ constant 64 8 ∷ result ∷ []) ∷ [])
 
 abbrev pub divides_c : CFunction
 divides_c = c_function [] (S.Divide 1 Div hundred param ∷ S.Store None place local ∷ S.Return (Some local) ∷ [])
@@ -46,8 +47,10 @@ divides_c = c_function [] (S.Divide 1 Div hundred param ∷ S.Store None place l
 pub record DivisionByZero : Type 0 where
   pub pcode : seen_p divides no_frame (entry 0 []) 3 ≡ ended [] DivZero
   pub c : seen_c divides divides_c (entry 0 []) 3 ≡ ended [] DivZero
-  pub pcode_divides : seen_p divides no_frame (entry 4 []) 3 ≡ ended (Store 1 64 (25 ∷ 0 ∷ 0 ∷ 0 ∷ []) ∷ []) (Returned (Some 25))
-  pub c_divides : seen_c divides divides_c (entry 4 []) 3 ≡ ended (Store 1 64 (25 ∷ 0 ∷ 0 ∷ 0 ∷ []) ∷ []) (Returned (Some 25))
+  pub pcode_divides : seen_p divides no_frame (entry 4 []) 3
+      ≡ ended (Store 1 64 (25 ∷ 0 ∷ 0 ∷ 0 ∷ []) ∷ []) (Returned (Some 25))
+  pub c_divides : seen_c divides divides_c (entry 4 []) 3
+      ≡ ended (Store 1 64 (25 ∷ 0 ∷ 0 ∷ 0 ∷ []) ∷ []) (Returned (Some 25))
 
 -- ---- what is undefined
 
@@ -75,11 +78,17 @@ abbrev pub calls : Listing
 calls = runs (does O.Call (varnode 1 0x2000 8 ∷ []) ∷ sets O.Load result (constant 1 4 ∷ constant 64 8 ∷ []) ∷ [])
 
 abbrev pub calls_c : CFunction
-calls_c = c_function (callee 0x2000 None true ∷ []) (S.Call None 0x2000 (param ∷ []) ∷ S.Load 1 None place ∷ S.Return (Some local) ∷ [])
+calls_c = c_function (callee 0x2000 None true ∷ [])
+    (S.Call None 0x2000 (param ∷ []) ∷ S.Load 1 None place ∷ S.Return (Some local) ∷ [])
 
 -- it writes 9 at 64
 abbrev pub writes : Answer
-writes = record { word = 7; registers = λ o. 0; memory = record { space = 1; offset = 64; value = 9 } ∷ []; hidden = [] }
+writes = record {
+  word = 7;
+  registers = λ o. 0;
+  memory = record { space = 1; offset = 64; value = 9 } ∷ [];
+  hidden = [];
+}
 
 -- it hides 9 at a place
 abbrev pub hides : ℕ → Answer
@@ -91,10 +100,13 @@ hides place = record { word = 7; registers = λ o. 0; memory = []; hidden = reco
 pub record Calls : Type 0 where
   pub pcode : seen_p calls no_frame (entry 5 (writes ∷ [])) 3 ≡ ended (Call 0x2000 (5 ∷ []) ∷ []) (Returned (Some 9))
   pub c : seen_c calls calls_c (entry 5 (writes ∷ [])) 3 ≡ ended (Call 0x2000 (5 ∷ []) ∷ []) (Returned (Some 9))
-  pub pcode_hides : seen_p calls no_frame (entry 5 (hides 65536 ∷ [])) 3 ≡ ended (Call 0x2000 (5 ∷ []) ∷ []) (Returned (Some 0))
-  pub c_hides : seen_c calls calls_c (entry 5 (hides 65536 ∷ [])) 3 ≡ ended (Call 0x2000 (5 ∷ []) ∷ []) (Returned (Some 0))
+  pub pcode_hides : seen_p calls no_frame (entry 5 (hides 65536 ∷ [])) 3
+      ≡ ended (Call 0x2000 (5 ∷ []) ∷ []) (Returned (Some 0))
+  pub c_hides : seen_c calls calls_c (entry 5 (hides 65536 ∷ [])) 3
+      ≡ ended (Call 0x2000 (5 ∷ []) ∷ []) (Returned (Some 0))
   pub pcode_reads_hidden : seen_p calls no_frame (entry 5 (hides 65 ∷ [])) 3 ≡ ended (Call 0x2000 (5 ∷ []) ∷ []) Outside
-  pub c_reads_hidden : seen_c calls calls_c (entry 5 (hides 65 ∷ [])) 3 ≡ ended (Call 0x2000 (5 ∷ []) ∷ []) (Returned (Some 0))
+  pub c_reads_hidden : seen_c calls calls_c (entry 5 (hides 65 ∷ [])) 3
+      ≡ ended (Call 0x2000 (5 ∷ []) ∷ []) (Returned (Some 0))
   pub pcode_no_answer : seen_p calls no_frame (entry 5 []) 3 ≡ ended (Call 0x2000 (5 ∷ []) ∷ []) NoAnswer
   pub c_no_answer : seen_c calls calls_c (entry 5 []) 3 ≡ ended (Call 0x2000 (5 ∷ []) ∷ []) NoAnswer
 
@@ -114,7 +126,8 @@ pub record NeverReturns : Type 0 where
 -- ---- a store of four bytes at 64, of which the third is read-only
 
 abbrev pub fixes : Listing
-fixes = listing [] (record { space = 1; offset = 66; bytes = 1 ∷ [] } ∷ []) (instruction 0x1000 (does O.Store (constant 1 4 ∷ constant 64 8 ∷ argument ∷ []) ∷ returns ∷ []) ∷ [])
+fixes = listing [] (record { space = 1; offset = 66; bytes = 1 ∷ [] } ∷ [])
+    (instruction 0x1000 (does O.Store (constant 1 4 ∷ constant 64 8 ∷ argument ∷ []) ∷ returns ∷ []) ∷ [])
 
 abbrev pub fixes_c : CFunction
 fixes_c = c_function [] (S.Store None place param ∷ S.Return (Some zero) ∷ [])
@@ -130,7 +143,8 @@ abbrev pub leaves : Listing
 leaves = runs (does O.Call (varnode 1 0x2000 8 ∷ []) ∷ sets (O.Unary U.Copy) result (argument ∷ []) ∷ [])
 
 abbrev pub leaves_c : CFunction
-leaves_c = c_function (callee 0x2000 None true ∷ []) (S.Call None 0x2000 (param ∷ []) ∷ S.Extra 1 0x38 ∷ S.Return (Some local) ∷ [])
+leaves_c = c_function (callee 0x2000 None true ∷ [])
+    (S.Call None 0x2000 (param ∷ []) ∷ S.Extra 1 0x38 ∷ S.Return (Some local) ∷ [])
 
 abbrev pub left : Answer
 left = record { word = 7; registers = λ o. if o == 0x39 then 2 else 0; memory = []; hidden = [] }
@@ -143,15 +157,22 @@ pub record LeftByCall : Type 0 where
 -- ---- a loop that counts down
 
 abbrev pub counts : Listing
-counts = listing [] [] (instruction 0x1000 (sets (O.Binary B.Subtract) argument (argument ∷ constant 1 4 ∷ []) ∷ does O.Store (constant 1 4 ∷ constant 64 8 ∷ argument ∷ []) ∷ sets (O.Binary B.NotEqual) (varnode 3 0 1) (argument ∷ constant 0 4 ∷ []) ∷ does O.CBranch (varnode 1 0x1000 8 ∷ varnode 3 0 1 ∷ []) ∷ sets (O.Unary U.Copy) result (argument ∷ []) ∷ returns ∷ []) ∷ [])
+counts = listing [] [] (instruction 0x1000
+    (sets (O.Binary B.Subtract) argument (argument ∷ constant 1 4 ∷ []) ∷ does O.Store
+    (constant 1 4 ∷ constant 64 8 ∷ argument ∷ []) ∷ sets (O.Binary B.NotEqual) (varnode 3 0 1)
+    (argument ∷ constant 0 4 ∷ []) ∷ does O.CBranch (varnode 1 0x1000 8 ∷ varnode 3 0 1 ∷ []) ∷ sets
+    (O.Unary U.Copy) result (argument ∷ []) ∷ returns ∷ []) ∷ [])
 
 abbrev pub counts_c : CFunction
-counts_c = c_function [] (S.DoWhile (S.Assign 0 (E.Arithmetic Sub param one) ∷ S.Store None place param ∷ []) (E.Compare Ne param zero) ∷ S.Return (Some param) ∷ [])
+counts_c = c_function [] (S.DoWhile (S.Assign 0 (E.Arithmetic Sub param one) ∷ S.Store None place param ∷ [])
+    (E.Compare Ne param zero) ∷ S.Return (Some param) ∷ [])
 
 -- from 2 it runs twice
 pub record RunsTwice : Type 0 where
-  pub pcode : seen_p counts no_frame (entry 2 []) 10 ≡ ended (Store 1 64 (1 ∷ 0 ∷ 0 ∷ 0 ∷ []) ∷ Store 1 64 (0 ∷ 0 ∷ 0 ∷ 0 ∷ []) ∷ []) (Returned (Some 0))
-  pub c : seen_c counts counts_c (entry 2 []) 7 ≡ ended (Store 1 64 (1 ∷ 0 ∷ 0 ∷ 0 ∷ []) ∷ Store 1 64 (0 ∷ 0 ∷ 0 ∷ 0 ∷ []) ∷ []) (Returned (Some 0))
+  pub pcode : seen_p counts no_frame (entry 2 []) 10
+      ≡ ended (Store 1 64 (1 ∷ 0 ∷ 0 ∷ 0 ∷ []) ∷ Store 1 64 (0 ∷ 0 ∷ 0 ∷ 0 ∷ []) ∷ []) (Returned (Some 0))
+  pub c : seen_c counts counts_c (entry 2 []) 7
+      ≡ ended (Store 1 64 (1 ∷ 0 ∷ 0 ∷ 0 ∷ []) ∷ Store 1 64 (0 ∷ 0 ∷ 0 ∷ 0 ∷ []) ∷ []) (Returned (Some 0))
 
 -- ---- flat code
 
@@ -160,17 +181,26 @@ pub record RunsTwice : Type 0 where
 -- while (1) { goto L2; }
 -- L2: return local;
 abbrev pub wanders_c : CFunction
-wanders_c = c_function [] (S.Label 1 ∷ S.IfElse param (S.Assign 1 one ∷ []) (S.Goto 1 ∷ []) ∷ S.While param (S.If local (S.Break ∷ []) ∷ []) ∷ S.Loop (S.Goto 2 ∷ []) ∷ S.Label 2 ∷ S.Return (Some local) ∷ [])
+wanders_c = c_function [] (S.Label 1 ∷ S.IfElse param (S.Assign 1 one ∷ []) (S.Goto 1 ∷ []) ∷ S.While param
+    (S.If local (S.Break ∷ []) ∷ []) ∷ S.Loop (S.Goto 2 ∷ []) ∷ S.Label 2 ∷ S.Return (Some local) ∷ [])
 
 -- switch (param) { case 1: case 2: return 1; case 3: local = 0; break; } return param;
 abbrev pub chooses_c : CFunction
-chooses_c = c_function [] (S.Switch param (record { cases = 1 ∷ 2 ∷ []; body = S.Return (Some one) ∷ [] } ∷ record { cases = 3 ∷ []; body = S.Assign 1 zero ∷ [] } ∷ []) ∷ S.Return (Some param) ∷ [])
+chooses_c = c_function [] (S.Switch param
+    (record { cases = 1 ∷ 2 ∷ []; body = S.Return (Some one) ∷ [] } ∷ record {
+      cases = 3 ∷ [];
+      body = S.Assign 1 zero ∷ [];
+    } ∷ []) ∷ S.Return (Some param) ∷ [])
 
 -- Where the steps of these bodies lead. An arm that ends in a return has no jump past the switch, and a value that no
 -- arm names goes on after it.
 pub record FlatCode : Type 0 where
-  pub wanders : flat_of wanders_c ≡ Test param 1 3 ∷ Do (S.Assign 1 one) ∷ Jump 4 ∷ Jump 0 ∷ Test param 5 8 ∷ Test local 6 7 ∷ Jump 8 ∷ Jump 4 ∷ Jump 10 ∷ Jump 8 ∷ Give (Some local) ∷ []
-  pub chooses : flat_of chooses_c ≡ Choose param ((1, 1) ∷ (2, 1) ∷ (3, 2) ∷ []) 4 ∷ Give (Some one) ∷ Do (S.Assign 1 zero) ∷ Jump 4 ∷ Give (Some param) ∷ []
+  pub wanders : flat_of wanders_c
+      ≡ Test param 1 3 ∷ Do (S.Assign 1 one) ∷ Jump 4 ∷ Jump 0 ∷ Test param 5 8 ∷ Test local 6 7 ∷ Jump 8 ∷ Jump
+      4 ∷ Jump 10 ∷ Jump 8 ∷ Give (Some local) ∷ []
+  pub chooses : flat_of chooses_c
+      ≡ Choose param ((1, 1) ∷ (2, 1) ∷ (3, 2) ∷ []) 4 ∷ Give (Some one) ∷ Do (S.Assign 1 zero) ∷ Jump 4 ∷ Give
+      (Some param) ∷ []
   pub first_arm : seen_c adds chooses_c (entry 2 []) 2 ≡ gave 1
   pub second_arm : seen_c adds chooses_c (entry 3 []) 4 ≡ gave 3
   pub no_arm : seen_c adds chooses_c (entry 7 []) 2 ≡ gave 7
@@ -179,7 +209,8 @@ pub record FlatCode : Type 0 where
 
 -- a branch by a count, over a copy of 1 and one of 2
 abbrev pub branches : ℕ → Listing
-branches count = runs (sets (O.Unary U.Copy) result (constant 3 4 ∷ []) ∷ does O.Branch (constant count 4 ∷ []) ∷ sets (O.Unary U.Copy) result (constant 1 4 ∷ []) ∷ sets (O.Unary U.Copy) result (constant 2 4 ∷ []) ∷ [])
+branches count = runs (sets (O.Unary U.Copy) result (constant 3 4 ∷ []) ∷ does O.Branch (constant count 4 ∷ []) ∷ sets
+    (O.Unary U.Copy) result (constant 1 4 ∷ []) ∷ sets (O.Unary U.Copy) result (constant 2 4 ∷ []) ∷ [])
 
 -- By 2 it passes over one op. By 3 it comes to the op count, which means the next instruction. By -1, which is signed at
 -- its own size, it goes back. By 4 or -2 it has no place to go to.
@@ -200,7 +231,8 @@ shifts_c = c_function [] (S.Return (Some (E.Shift Shl param bits)) ∷ [])
 
 -- a shift of 0 - 1
 abbrev pub shifts_signed : Listing
-shifts_signed = runs (sets (O.Binary B.Subtract) (varnode 3 0 4) (constant 0 4 ∷ constant 1 4 ∷ []) ∷ sets (O.Binary B.SignedRight) result (varnode 3 0 4 ∷ constant 32 1 ∷ []) ∷ [])
+shifts_signed = runs (sets (O.Binary B.Subtract) (varnode 3 0 4) (constant 0 4 ∷ constant 1 4 ∷ []) ∷ sets
+    (O.Binary B.SignedRight) result (varnode 3 0 4 ∷ constant 32 1 ∷ []) ∷ [])
 
 abbrev pub shifts_signed_c : CFunction
 shifts_signed_c = c_function [] (S.Return (Some (E.Shift Sar (E.Arithmetic Sub zero one) bits)) ∷ [])
@@ -226,8 +258,11 @@ pub record Wraps : Type 0 where
 -- ---- the end of a space
 
 abbrev pub ends : Listing
-ends = runs (does O.Store (constant 1 4 ∷ constant (2 ^ 64 - 2) 8 ∷ argument ∷ []) ∷ sets O.Load (varnode 2 0x0 1) (constant 1 4 ∷ constant 0 8 ∷ []) ∷ [])
+ends = runs (does O.Store (constant 1 4 ∷ constant (2 ^ 64 - 2) 8 ∷ argument ∷ []) ∷ sets O.Load (varnode 2 0x0 1)
+    (constant 1 4 ∷ constant 0 8 ∷ []) ∷ [])
 
 -- a store of four bytes two before the end of ram goes on at offset 0
 abbrev pub GoesOnAtZero : Type 0
-GoesOnAtZero = seen_p ends no_frame (record { bytes = λ s o. if s == 2 then (if o == 0x3a then 8 else 0) else 0; hidden = λ o. None; answers = [] }) 3 ≡ ended (Store 1 (2 ^ 64 - 2) (0 ∷ 0 ∷ 8 ∷ 0 ∷ []) ∷ []) (Returned (Some 8))
+GoesOnAtZero = seen_p ends no_frame
+    (record { bytes = λ s o. if s == 2 then (if o == 0x3a then 8 else 0) else 0; hidden = λ o. None; answers = [] }) 3
+    ≡ ended (Store 1 (2 ^ 64 - 2) (0 ∷ 0 ∷ 8 ∷ 0 ∷ []) ∷ []) (Returned (Some 8))

@@ -15,7 +15,7 @@ pub mod worked;
 pub use callees::CalleeDecls;
 pub use numbering::Next;
 pub use param_decls::ParamDecls;
-pub use rules::{checked, has_name_form, valid};
+pub use rules::{checked, valid};
 pub use shape::Shape;
 pub use tree::{
     ArithmeticOp, Arm, Arms, Body, CFunction, CName, CalleeDecl, CompareOp, CountOp, DivisionOp,

@@ -4,7 +4,7 @@ ghost use Rattle.std.specs.Prelude.{◌≡◌, ◌==◌, ◌&&◌, ◌<◌, ◌�
 ghost use Rattle.cmeaning.specs.Do.{widths_in};
 ghost use Rattle.cmeaning.specs.Shape.{shape_of, is_right, has_width as is_wide};
 ghost use Rattle.cmeaning.specs.Firsts.{are_firsts};
-ghost use Rattle.cmeaning.specs.Valid.{is_letter, is_letter_or_digit, all_letters_or_digits, begins_well, is_name, are_params, is_callee_name, is_callee, are_callees, declared_in, is_variable, is_target, is_space, are_right, have_widths, takes, is_call, is_assigned, is_returned, is_long, is_complete, IsValid};
+ghost use Rattle.cmeaning.specs.Valid.{is_name, are_params, is_callee_name, is_callee, are_callees, declared_in, is_variable, is_target, is_space, are_right, have_widths, takes, is_call, is_assigned, is_returned, is_long, is_complete, IsValid};
 
 use crate::body::body_holds;
 use crate::callees::CalleeDecls;
@@ -13,49 +13,9 @@ use crate::params::params_fit;
 use crate::shape::{has_width, obeys, variable_width};
 use crate::tree::{CFunction, CName, CalleeDecl, Expr};
 use bits_core::{Memory, Width};
+use listing_lines::is_name;
 use pcode_model::Name;
 use std::alloc::Global;
-
-// ---- names
-
-fn letter(c: u8) -> bool
-    ensures { result ≡ is_letter c }
-{
-    (c >= 65 && c <= 90) || (c >= 97 && c <= 122) || c == 95
-}
-
-fn letter_or_digit(c: u8) -> bool
-    ensures { result ≡ is_letter_or_digit c }
-{
-    letter(c) || (c >= 48 && c <= 57)
-}
-
-fn letters_or_digits(name: &[u8]) -> bool
-    ensures { result ≡ all_letters_or_digits name.now }
-{
-    for c in name {
-        if !letter_or_digit(*c) {
-            return false;
-        }
-    }
-    true
-}
-
-fn starts_well(name: &[u8]) -> bool
-    ensures { result ≡ begins_well name.now }
-{
-    match name.first() {
-        None => false,
-        Some(c) => letter(*c),
-    }
-}
-
-/// Whether the bytes are a letter or `_`, then at most 63 letters, digits or `_`.
-pub fn has_name_form(name: &[u8]) -> bool
-    ensures { result ≡ is_name name.now }
-{
-    starts_well(name) && letters_or_digits(name) && name.len() <= 64
-}
 
 // ---- declarations of callees
 
@@ -63,7 +23,7 @@ fn callee_name_fits(name: &CName) -> bool
     ensures { result ≡ is_callee_name name.now }
 {
     match name {
-        CName::Declared(name) => has_name_form(name.as_slice()),
+        CName::Declared(name) => is_name(name.as_slice()),
         CName::Bare => true,
     }
 }
@@ -117,7 +77,7 @@ fn space_fits(space: &Option<Name>) -> bool
 {
     match space {
         None => true,
-        Some(name) => has_name_form(name.as_slice()),
+        Some(name) => is_name(name.as_slice()),
     }
 }
 
@@ -228,7 +188,7 @@ fn header_fits(memory: Option<Global>, f: &CFunction) -> Result<bool, Memory>
     ensures right { IfOk result (λ b. b ≡ (is_name f.now.name && (are_params f.now.params && are_callees f.now.callees))) }
     ensures without { memory ≡ None → IsOk result }
 {
-    if !has_name_form(f.name.as_slice()) {
+    if !is_name(f.name.as_slice()) {
         return Ok(false);
     }
     let ordered = params_fit(memory, f.params.as_slice())?;

@@ -1,5 +1,5 @@
 -- The faults of a line, after lines that have said so. This project's own.
-use Rattle.std.specs.Prelude.{◌||◌, not, ℕ, Bool, true, false, List, [], ◌∷◌, length, Option, Some, None, if◌then◌else◌}
+use Rattle.std.specs.Prelude.{◌||◌, not, ℕ, Bool, true, false, List, [], ◌∷◌, length, Option, Some, None}
 use Rattle.std.specs.Option.{is_none, is_some}
 use Rattle.pcode_model.specs.declared.listing.Listing.{Listing}
 use Rattle.pcode_model.specs.Ranges.{leaves}
@@ -8,10 +8,10 @@ use Rattle.entrytext.specs.declared.fault.Why.{Why}
 use Rattle.entrytext.specs.declared.fault.Why.TheVariants as why
 use Rattle.entrytext.specs.declared.form.Form.{Form}
 use Rattle.entrytext.specs.declared.form.Form.TheVariants as form
-use Rattle.entrytext.specs.declared.said.Said.{Said}
+use Rattle.entrytext.specs.declared.partial_entry.PartialEntry.{PartialEntry}
 
 -- no line but `entry 1` may stand before the first one, and none after `end`
-abbrev pub is_out : Said → Bool
+abbrev pub is_out : PartialEntry → Bool
 is_out s = not s.begun || s.ended
 
 -- bytes that leave their space
@@ -26,7 +26,7 @@ is_read_only l (Some n) offset size = any_at (size_of l n) (is_fixed l n) offset
 
 -- ---- the faults, each with its test, in the order in which they count
 
-abbrev pub faults : Listing → Said → Form → List (Bool × Why)
+abbrev pub faults : Listing → PartialEntry → Form → List (Bool × Why)
 faults l s form.Nothing = (true, why.Syntax) ∷ []
 faults l s form.Entry = (s.begun, why.Order) ∷ []
 faults l s (form.State b) = (is_out s || is_some s.last, why.Order)
@@ -41,8 +41,3 @@ faults l s (form.Answered p b) = (is_out s || is_none s.last, why.Order)
     ∷ (is_none b.space, why.Range)
     ∷ (leaves_known l b.space b.offset (length b.bytes), why.Range) ∷ []
 faults l s form.End = (is_out s, why.Order) ∷ []
-
--- the first whose test holds
-abbrev pub first_fault : List (Bool × Why) → Option Why
-first_fault [] = None
-first_fault (fault ∷ rest) = if fault.0 then Some fault.1 else first_fault rest

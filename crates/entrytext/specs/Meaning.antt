@@ -1,7 +1,12 @@
 -- What a line without a fault says, and what the whole text does. This project's own.
-use Rattle.std.specs.Prelude.{◌+◌, suc, ℕ, true, false, List, [], ◌∷◌, ◌++◌, Option, Some, None, if◌then◌else◌}
+use Rattle.std.specs.Prelude.{suc, ℕ, true, false, List, [], ◌∷◌, ◌++◌, Option, Some, None, if◌then◌else◌}
 use Rattle.std.specs.Option.{option_map, option_to_list}
-use Rattle.listing_lines.specs.Text.{Line, lines_of}
+use Rattle.listing_lines.specs.Text.{Line}
+use Rattle.line_reader.specs.Faults.{first_fault}
+use Rattle.line_reader.specs.Reading.{Step, concluded, progress}
+use Rattle.line_reader.specs.Reading.Step.{Fails, Goes}
+pub use Rattle.line_reader.specs.Reading.{Read}
+pub use Rattle.line_reader.specs.Reading.Read.{Bad, Good}
 use Rattle.pcode_model.specs.declared.listing.Listing.{Listing}
 use Rattle.run_world.specs.declared.entry.Answer.{Answer}
 use Rattle.run_world.specs.declared.entry.Byte.{Byte}
@@ -15,8 +20,8 @@ use Rattle.entrytext.specs.declared.form.Form.{Form}
 use Rattle.entrytext.specs.declared.form.Form.TheVariants as form
 use Rattle.entrytext.specs.declared.form.Part.{Part}
 use Rattle.entrytext.specs.declared.form.Part.TheVariants as part
-use Rattle.entrytext.specs.declared.said.Said.{Said}
-use Rattle.entrytext.specs.Faults.{faults, first_fault}
+use Rattle.entrytext.specs.declared.partial_entry.PartialEntry.{PartialEntry}
+use Rattle.entrytext.specs.Faults.{faults}
 use Rattle.entrytext.specs.Forms.{form_of}
 
 -- ---- what a line says
@@ -29,7 +34,8 @@ number (Some n) = n
 -- bytes of a space from an offset on
 abbrev pub bytes_from : ℕ → ℕ → List ℕ → List Byte
 bytes_from space offset [] = []
-bytes_from space offset (b ∷ bytes) = record { space = space; offset = offset; value = b } ∷ bytes_from space (suc offset) bytes
+bytes_from space offset (b ∷ bytes) =
+    record { space = space; offset = offset; value = b } ∷ bytes_from space (suc offset) bytes
 
 abbrev pub bytes_in : BytesLine → List Byte
 bytes_in b = bytes_from (number b.space) b.offset b.bytes
@@ -39,35 +45,33 @@ with_part part.Registers bytes a = record a { registers = a.registers ++ bytes }
 with_part part.Memory bytes a = record a { memory = a.memory ++ bytes }
 with_part part.Hidden bytes a = record a { hidden = a.hidden ++ bytes }
 
-abbrev pub after : Said → Form → Said
+abbrev pub after : PartialEntry → Form → PartialEntry
 after s form.Nothing = s
 after s form.Entry = record s { begun = true }
 after s (form.State b) = record s { state = s.state ++ bytes_in b }
 after s (form.Hidden b) = record s { hidden = s.hidden ++ bytes_in b }
-after s (form.Answer word) = record s { done = s.done ++ option_to_list s.last; last = Some (record { word = word; registers = []; memory = []; hidden = [] }) }
+after s (form.Answer word) = record s {
+  done = s.done ++ option_to_list s.last;
+  last = Some (record { word = word; registers = []; memory = []; hidden = [] });
+}
 after s (form.Answered p b) = record s { last = option_map (with_part p (bytes_in b)) s.last }
 after s form.End = record s { ended = true }
 
 -- before the first line
-abbrev pub start : Said
+abbrev pub start : PartialEntry
 start = record { begun = false; state = []; hidden = []; done = []; last = None; ended = false }
 
 -- ---- a text, line by line
 
--- a line has a fault, or leads on
-pub data Step : Type 0 where
-  Fails : Why → Step
-  Goes : Said → Step
-
-abbrev pub stepped : Said → Form → Option Why → Step
+abbrev pub stepped : PartialEntry → Form → Option Why → Step PartialEntry Why
 stepped s form (Some why) = Fails why
 stepped s form None = Goes (after s form)
 
-abbrev pub step_by : Listing → Said → Form → Step
+abbrev pub step_by : Listing → PartialEntry → Form → Step PartialEntry Why
 step_by l s form = stepped s form (first_fault (faults l s form))
 
 -- no line is skipped
-abbrev pub step : Listing → Said → Line → Step
+abbrev pub step : Listing → PartialEntry → Line → Step PartialEntry Why
 step l s line = step_by l s (form_of l line)
 
 -- the fault of the line with the number n
@@ -76,35 +80,13 @@ fault_at n why.Syntax = entry_fault.Syntax n
 fault_at n why.Order = entry_fault.Order n
 fault_at n why.Range = entry_fault.Range n
 
--- what a text says, or the first fault of its least faulty line
-pub data Read : Type 0 where
-  Good : Entry → Read
-  Bad : EntryFault → Read
-
--- the number of the next line and what was said, or the first fault
-pub data Progress : Type 0 where
-  Going : ℕ → Said → Progress
-  Stopped : EntryFault → Progress
-
-abbrev pub moved : ℕ → Step → Progress
-moved n (Fails why) = Stopped (fault_at n why)
-moved n (Goes s) = Going (n + 1) s
-
-abbrev pub advance : Listing → Progress → Line → Progress
-advance l (Going n s) line = moved n (step l s line)
-advance l (Stopped fault) line = Stopped fault
-
-abbrev pub advanced : Listing → Progress → List Line → Progress
-advanced l p [] = p
-advanced l p (line ∷ lines) = advanced l (advance l p line) lines
+abbrev pub entry_of : PartialEntry → Entry
+entry_of s = record { state = s.state; hidden = s.hidden; answers = s.done ++ option_to_list s.last }
 
 -- where the text ends, n being one more than the number of its lines
-abbrev pub finished : ℕ → Said → Read
-finished n s = if s.ended then Good (record { state = s.state; hidden = s.hidden; answers = s.done ++ option_to_list s.last }) else Bad (entry_fault.Syntax n)
+abbrev pub finished : ℕ → PartialEntry → Read Entry EntryFault
+finished n s = if s.ended then Good (entry_of s) else Bad (entry_fault.Syntax n)
 
-abbrev pub concluded : Progress → Read
-concluded (Going n s) = finished n s
-concluded (Stopped fault) = Bad fault
-
-abbrev pub reading : Listing → List ℕ → Read
-reading l bytes = concluded (advanced l (Going 1 start) (lines_of bytes))
+-- what a text says, or the first fault of its least faulty line
+abbrev pub reading : Listing → List ℕ → Read Entry EntryFault
+reading l bytes = concluded fault_at finished (progress (step l) start bytes)

@@ -1,7 +1,5 @@
 //! What is wrong with the text of an entry.
 
-use std::alloc::AllocError;
-
 /// What is wrong with a line.
 #[derive(Clone, Copy, Debug, PartialEq, Eq)]
 pub enum Why {
@@ -12,6 +10,9 @@ pub enum Why {
     /// It names no ram space, its bytes leave their space, or it gives a read-only byte.
     Range,
 }
+
+/// What is wrong with a line, or want of memory.
+pub type LineFault = line_reader::LineFault<Why>;
 
 /// The first fault of the least faulty line, with the number of that line, from 1 on.
 #[derive(Clone, Copy, Debug, PartialEq, Eq)]
@@ -25,22 +26,4 @@ pub enum EntryFault {
     Range(u32),
     /// Memory ran out.
     Memory,
-}
-
-/// What is wrong with a line, or want of memory.
-#[derive(Clone, Copy, Debug, PartialEq, Eq)]
-pub enum LineFault {
-    Wrong(Why),
-    Memory,
-}
-
-impl From<AllocError> for LineFault {
-    ghost use Rattle.std.specs.Prelude.{◌≡◌};
-    ghost use Rattle.entrytext.specs.declared.fault.LineFault.TheVariants.{Memory};
-
-    ghost from_gives = { λ _ e. e ≡ Memory };
-
-    fn from(_refused: AllocError) -> LineFault {
-        LineFault::Memory
-    }
 }

@@ -1,25 +1,48 @@
 //! Reading a text, line by line.
 
 ghost use Rattle.std.specs.Prelude.{◌≡◌, ◌≤◌, ◌-◌, ◌^◌, length, IfErr, IfOk};
+ghost use Rattle.line_reader.specs.Answer.{IsStopOf};
+ghost use Rattle.line_reader.specs.Reading.{Progress, concluded};
+ghost use Rattle.line_reader.specs.Reading.Read.{Good};
 ghost use Rattle.pcode_model.specs.WellFormed.{IsWellFormed};
 ghost use Rattle.entrytext.specs.Lies.{LiesIn};
-ghost use Rattle.entrytext.specs.Meaning.{fault_at, finished, reading};
-ghost use Rattle.entrytext.specs.Meaning.Read.{Good};
-ghost use Rattle.entrytext.specs.Reader.{IsFaultOf, placed};
+ghost use Rattle.entrytext.specs.Meaning.{fault_at, finished, reading, start, step};
+ghost use Rattle.entrytext.specs.Reader.{CanRead, IsFaultOf};
 
 use crate::fault::{EntryFault, LineFault, Why};
-use crate::said::Said;
-use listing_lines::split_line;
+use crate::partial_entry::PartialEntry;
+use line_reader::{LineReader, Stop, read_lines};
 use pcode_model::Listing;
 use run_world::{Entry, Setting};
 use std::alloc::Global;
+
+/// What the lines of an entry are read by: the listing that it is an entry of, and what is looked up there.
+#[derive(Drop)]
+pub struct EntryReader<'a> {
+    pub alloc: Global,
+    pub listing: &'a Listing,
+    pub setting: &'a Setting,
+}
+
+impl<'a> LineReader for EntryReader<'a> {
+    type State = PartialEntry;
+
+    type Why = Why;
+
+    ghost can_read = { λ reader. CanRead reader.listing.now reader.setting.now };
+
+    ghost step_of = { λ reader. step reader.listing.now };
+
+    fn step(&self, state: &mut PartialEntry, line: &[u8]) -> Result<(), LineFault> {
+        state.step(self.alloc, self.listing, self.setting, line)
+    }
+}
 
 /// The entry of a listing that a text stands for, which lies in the listing. Otherwise the first fault of the text's
 /// least faulty line, with the number of that line: Syntax, with the number of lines plus 1, where the text ends before
 /// `end`.
 pub fn read_entry(alloc: Global, listing: &Listing, bytes: &[u8]) -> Result<Entry, EntryFault>
     requires formed { IsWellFormed listing.now }
-    requires few { length listing.now.spaces ≤ 256 }
     requires short { length bytes.now ≤ 2 ^ 32 - 2 }
     ensures good { IfOk result (λ entry. reading listing.now bytes.now ≡ Good entry) }
     ensures lies { IfOk result (LiesIn listing.now) }
@@ -29,72 +52,47 @@ pub fn read_entry(alloc: Global, listing: &Listing, bytes: &[u8]) -> Result<Entr
         Ok(setting) => setting,
         Err(_) => return Err(EntryFault::Memory),
     };
-    let mut said = Said::new(alloc);
-    let mut number = 1u32;
-    let mut rest = bytes;
-    while !rest.is_empty() {
-        let (line, after) = split_line(rest);
-        match said.step(alloc, listing, &setting, line) {
-            Ok(()) => {}
-            Err(fault) => return Err(fault.at(number)),
-        }
-        rest = after;
-        number += 1;
+    let reader = EntryReader {
+        alloc,
+        listing,
+        setting: &setting,
+    };
+    let mut entry = PartialEntry::new(alloc);
+    match read_lines(&reader, &mut entry, bytes) {
+        Ok(number) => finish(entry, number),
+        Err(stop) => Err(stop_fault(stop)),
     }
-    finish(said, number)
 }
 
 // The entry, where the text has its `end`; `number` is one more than the number of lines.
-fn finish(said: Said, number: u32) -> Result<Entry, EntryFault>
-    ensures good { IfOk result (λ entry. finished number said ≡ Good entry) }
-    ensures bad { IfErr result (IsFaultOf (finished number said)) }
+fn finish(entry: PartialEntry, number: u32) -> Result<Entry, EntryFault>
+    ensures good { IfOk result (λ whole. finished number entry ≡ Good whole) }
+    ensures bad { IfErr result (IsFaultOf (finished number entry)) }
 {
-    let Said {
-        begun: _,
-        state,
-        hidden,
-        done,
-        last,
-        ended,
-    } = said;
-    if !ended {
+    if !entry.ended {
         return Err(EntryFault::Syntax(number));
     }
-    let mut answers = done;
-    if let Some(last) = last {
-        match answers.push(last) {
-            Ok(()) => {}
-            Err(_) => return Err(EntryFault::Memory),
+    let mut entry = entry;
+    if let Some(last) = entry.last.take() {
+        if entry.done.push(last).is_err() {
+            return Err(EntryFault::Memory);
         }
     }
     Ok(Entry {
-        state,
-        hidden,
-        answers,
+        state: entry.state,
+        hidden: entry.hidden,
+        answers: entry.done,
     })
 }
 
-impl Why {
-    // The fault of the line with this number.
-    fn at(self, number: u32) -> EntryFault
-        ensures { result ≡ fault_at number self }
-    {
-        match self {
-            Why::Syntax => EntryFault::Syntax(number),
-            Why::Order => EntryFault::Order(number),
-            Why::Range => EntryFault::Range(number),
-        }
-    }
-}
-
-impl LineFault {
-    // The fault of the line with this number.
-    fn at(self, number: u32) -> EntryFault
-        ensures { result ≡ placed self number }
-    {
-        match self {
-            LineFault::Wrong(why) => why.at(number),
-            LineFault::Memory => EntryFault::Memory,
-        }
+// The fault of the line where a text stops.
+fn stop_fault(stop: Stop<Why>) -> EntryFault
+    ensures { (p : Progress PartialEntry Why) → IsStopOf p stop → IsFaultOf (concluded fault_at finished p) result }
+{
+    match stop.fault {
+        LineFault::Fault(Why::Syntax) => EntryFault::Syntax(stop.line),
+        LineFault::Fault(Why::Order) => EntryFault::Order(stop.line),
+        LineFault::Fault(Why::Range) => EntryFault::Range(stop.line),
+        LineFault::Memory => EntryFault::Memory,
     }
 }

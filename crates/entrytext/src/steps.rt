@@ -1,30 +1,30 @@
 //! One line more: its faults, and what it says.
 
 ghost use Rattle.std.specs.Prelude.{◌≡◌, ◌≤◌, ◌+◌, ◌^◌, ◌<◌, ◌++◌, length, IfSome, OnOk};
+ghost use Rattle.line_reader.specs.Answer.{Does};
 ghost use Rattle.pcode_model.specs.Ranges.{leaves};
 ghost use Rattle.pcode_model.specs.Spaces.{any_at, is_fixed, size_of};
 ghost use Rattle.pcode_model.specs.WellFormed.{IsWellFormed};
 ghost use Rattle.run_world.specs.Setting.{IsSetting};
 ghost use Rattle.entrytext.specs.Faults.{is_out};
 ghost use Rattle.entrytext.specs.Meaning.{bytes_from, start, step, step_by, with_part};
-ghost use Rattle.entrytext.specs.Reader.{Does};
 ghost use Rattle.entrytext.specs.declared.form.Form.TheVariants as Form;
 
 use crate::fault::{LineFault, Why};
 use crate::form::{BytesLine, Form, Part};
 use crate::forms::form;
-use crate::said::Said;
+use crate::partial_entry::PartialEntry;
 use pcode_model::Listing;
 use run_world::{Answer, Byte, ByteList, Setting, Shape};
 use sqlite_items::Items;
 use std::alloc::{AllocError, Global};
 
-impl Said {
+impl PartialEntry {
     /// What is said before the first line.
-    pub fn new(alloc: Global) -> Said
+    pub fn new(alloc: Global) -> PartialEntry
         ensures { result ≡ start }
     {
-        Said {
+        PartialEntry {
             begun: false,
             state: Items::new(alloc),
             hidden: Items::new(alloc),
@@ -44,7 +44,6 @@ impl Said {
     ) -> Result<(), LineFault>
         requires formed { IsWellFormed listing.now }
         requires setting { IsSetting listing.now setting.now }
-        requires few { length listing.now.spaces ≤ 256 }
         ensures { Does (step listing.now self.old line.now) self.new result }
     {
         match form(alloc, listing, setting, line)? {
@@ -54,7 +53,7 @@ impl Said {
             Form::Answer(word) => self.answer(alloc, listing, word),
             Form::Answered(part, line) => self.answered(listing, part, line),
             Form::End => self.end(listing),
-            Form::Nothing => Err(LineFault::Wrong(Why::Syntax)),
+            Form::Nothing => Err(LineFault::Fault(Why::Syntax)),
         }
     }
 
@@ -69,7 +68,7 @@ impl Said {
         ensures { Does (step_by listing.now self.old Form.Entry) self.new result }
     {
         if self.begun {
-            return Err(LineFault::Wrong(Why::Order));
+            return Err(LineFault::Fault(Why::Order));
         }
         self.begun = true;
         Ok(())
@@ -87,16 +86,16 @@ impl Said {
         ensures { Does (step_by listing.now self.old (Form.State line)) self.new result }
     {
         if self.is_out() || self.last.is_some() {
-            return Err(LineFault::Wrong(Why::Order));
+            return Err(LineFault::Fault(Why::Order));
         }
         let Some(space) = line.space else {
-            return Err(LineFault::Wrong(Why::Range));
+            return Err(LineFault::Fault(Why::Range));
         };
         if line.leaves(listing, space) {
-            return Err(LineFault::Wrong(Why::Range));
+            return Err(LineFault::Fault(Why::Range));
         }
         if line.is_read_only(listing, setting, space) {
-            return Err(LineFault::Wrong(Why::Range));
+            return Err(LineFault::Fault(Why::Range));
         }
         add(&mut self.state, space, line.offset, line.bytes.as_slice())?;
         Ok(())
@@ -107,13 +106,13 @@ impl Said {
         ensures { Does (step_by listing.now self.old (Form.Hidden line)) self.new result }
     {
         if self.is_out() || self.last.is_some() {
-            return Err(LineFault::Wrong(Why::Order));
+            return Err(LineFault::Fault(Why::Order));
         }
         let Some(space) = line.space else {
-            return Err(LineFault::Wrong(Why::Range));
+            return Err(LineFault::Fault(Why::Range));
         };
         if line.leaves(listing, space) {
-            return Err(LineFault::Wrong(Why::Range));
+            return Err(LineFault::Fault(Why::Range));
         }
         add(&mut self.hidden, space, line.offset, line.bytes.as_slice())?;
         Ok(())
@@ -123,7 +122,7 @@ impl Said {
         ensures { Does (step_by listing.now self.old (Form.Answer word)) self.new result }
     {
         if self.is_out() {
-            return Err(LineFault::Wrong(Why::Order));
+            return Err(LineFault::Fault(Why::Order));
         }
         let answer = Answer {
             word,
@@ -143,13 +142,13 @@ impl Said {
         ensures { Does (step_by listing.now self.old (Form.Answered part line)) self.new result }
     {
         if self.is_out() || self.last.is_none() {
-            return Err(LineFault::Wrong(Why::Order));
+            return Err(LineFault::Fault(Why::Order));
         }
         let Some(space) = line.space else {
-            return Err(LineFault::Wrong(Why::Range));
+            return Err(LineFault::Fault(Why::Range));
         };
         if line.leaves(listing, space) {
-            return Err(LineFault::Wrong(Why::Range));
+            return Err(LineFault::Fault(Why::Range));
         }
         if let Some(last) = &mut self.last {
             add_part(last, part, space, line.offset, line.bytes.as_slice())?;
@@ -161,7 +160,7 @@ impl Said {
         ensures { Does (step_by listing.now self.old Form.End) self.new result }
     {
         if self.is_out() {
-            return Err(LineFault::Wrong(Why::Order));
+            return Err(LineFault::Fault(Why::Order));
         }
         self.ended = true;
         Ok(())

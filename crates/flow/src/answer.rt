@@ -11,7 +11,7 @@ use crate::places::{find, places};
 use crate::reach::reach;
 use crate::starts::{begins, starts};
 use bits_core::Memory;
-use pcode_model::{Flow, FlowWhy, Listing, Place, Tables};
+use pcode_model::{Flow, FlowWhy, Listing, MAX_BLOCKS, Place, Tables};
 use std::alloc::Global;
 
 /// Why a listing has no blocks.
@@ -42,9 +42,6 @@ impl From<Memory> for FlowFault {
         FlowFault::Memory
     }
 }
-
-/// So many blocks a listing has at most.
-pub const MAX_BLOCKS: usize = 2048;
 
 /// The blocks of the listing's reached places, or the fault that counts: of the least reached place that has one, there
 /// the first in the order of `FlowWhy`; where no place has one, too many blocks. Want of memory may come at any step, and

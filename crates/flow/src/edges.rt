@@ -4,7 +4,7 @@ ghost use Rattle.std.specs.Prelude.{◌≡◌, [], true, MatchOption, pos, ◌+�
 ghost use Rattle.bits_core.specs.Value.{signed as signed_of, limit as limit_of};
 ghost use Rattle.pcode_model.specs.declared.listing.Listing.{Listing};
 ghost use Rattle.pcode_model.specs.Places.{place, next_place, next_instruction, relative_place};
-ghost use Rattle.pcode_model.specs.Step.{callee_at, returns as returns_of, varnode_at};
+ghost use Rattle.pcode_model.specs.Step.{callee_at, returns as returns_of};
 ghost use Rattle.pcode_model.specs.Flow.{AreApart, Rising, call_turn as call_turn_of, turn_of, turn_at, way_to as way_of, relative_way, branch_way, ways as ways_of, stands};
 ghost use Rattle.flow.specs.Slots.{ArePlaces};
 ghost use Rattle.flow.specs.Edges.{Means, AllMean, IsNegative};
@@ -54,12 +54,10 @@ pub(crate) enum Leaving {
 fn returns(listing: &Listing, address: u64) -> bool
     ensures { result ≡ returns_of (callee_at listing.now address) }
 {
-    for callee in listing.callees.as_slice() {
-        if callee.address == address {
-            return callee.returns;
-        }
+    match listing.callee_at(address) {
+        Some(callee) => callee.returns,
+        None => true,
     }
-    true
 }
 
 fn call_turn(listing: &Listing, to: Varnode) -> Turn
@@ -72,16 +70,10 @@ fn call_turn(listing: &Listing, to: Varnode) -> Turn
     }
 }
 
-fn first_input(op: &Op) -> Varnode
-    ensures { result ≡ varnode_at op.now.inputs 0 }
-{
-    op.inputs.as_slice().first().copied().unwrap_or_default()
-}
-
 fn op_turn(listing: &Listing, op: &Op) -> Turn
     ensures { result ≡ turn_of listing.now op.now.code op.now.inputs }
 {
-    let first = first_input(op);
+    let first = op.input(0);
     match op.code {
         Opcode::Branch => Turn::Branches(first),
         Opcode::CBranch => Turn::Tests(first),

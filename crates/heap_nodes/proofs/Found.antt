@@ -20,7 +20,11 @@ module _ {T A : Type 0} where
     pub value : value_at p xs ≡ Some box.value
     pub put : (x : T) → set_at p x xs ≡ set xs index (record box { value = x })
 
-  found_by : (p : Ptr) (b : Owner T A) (bs : List (Owner T A)) (t : Bool) → same_ptr b.at p ≡ t → (IsSome (value_at p bs) → Found p bs) → IsSome (value_at p (b ∷ bs)) → Found p (b ∷ bs)
+  found_by : (p : Ptr) (b : Owner T A) (bs : List (Owner T A)) (t : Bool)
+      → same_ptr b.at p ≡ t
+      → (IsSome (value_at p bs) → Found p bs)
+      → IsSome (value_at p (b ∷ bs))
+      → Found p (b ∷ bs)
   found_by p b bs true e rest h = record {
     index = 0;
     box = b;

@@ -38,33 +38,54 @@ get_in [] i low = absurd (not-suc-le-zero low)
 get_in (x ∷ xs) zero low = (x, refl)
 get_in (x ∷ xs) (suc i) low = get_in xs i (le_of_suc-le-suc low)
 
-pub get_map : {X Y : Type 0} (f : X → Y) (xs : List X) (i : ℕ) (x : X) → slice_get xs i ≡ Some x → slice_get (map f xs) i ≡ Some (f x)
+pub get_map : {X Y : Type 0} (f : X → Y) (xs : List X) (i : ℕ) (x : X)
+    → slice_get xs i ≡ Some x
+    → slice_get (map f xs) i ≡ Some (f x)
 get_map f [] i x e = none_some e
 get_map f (y ∷ xs) zero x e = ap (λ v. Some (f v)) (some_same e)
 get_map f (y ∷ xs) (suc i) x e = get_map f xs i x e
 
 module _ {T A : Type 0} where
-  pub value_there : (p : Ptr) (i : ℕ) (os : List (Owner T A)) → IsApart (places os) → slice_get (places os) i ≡ Some p → value_at p os ≡ slice_get (values_of os) i
+  pub value_there : (p : Ptr) (i : ℕ) (os : List (Owner T A))
+      → IsApart (places os)
+      → slice_get (places os) i ≡ Some p
+      → value_at p os ≡ slice_get (values_of os) i
   unfolding IsDistinct
   value_there p i [] d e = none_some e
-  value_there p zero (o ∷ os) d e = ap (λ t. cond t (Some o.value) (value_at p os)) (ap (same_ptr o.at) (sym (some_same e)) ∙ same_ptr_refl o.at)
-  value_there p (suc i) (o ∷ os) d e = ap (λ t. cond t (Some o.value) (value_at p os)) (all_at (λ q. same_ptr o.at q ≡ false) (places os) i p d.0 e) ∙ value_there p i os d.1 e
+  value_there p zero (o ∷ os) d e =
+      ap (λ t. cond t (Some o.value) (value_at p os)) (ap (same_ptr o.at) (sym (some_same e)) ∙ same_ptr_refl o.at)
+  value_there p (suc i) (o ∷ os) d e =
+      ap (λ t. cond t (Some o.value) (value_at p os)) (all_at (λ q. same_ptr o.at q ≡ false) (places os) i p d.0 e)
+      ∙ value_there p i os d.1 e
 
-  pub set_there : (p : Ptr) (x : T) (i : ℕ) (os : List (Owner T A)) → IsApart (places os) → slice_get (places os) i ≡ Some p → values_of (set_at p x os) ≡ set (values_of os) i x
+  pub set_there : (p : Ptr) (x : T) (i : ℕ) (os : List (Owner T A))
+      → IsApart (places os)
+      → slice_get (places os) i ≡ Some p
+      → values_of (set_at p x os) ≡ set (values_of os) i x
   unfolding IsDistinct
   set_there p x i [] d e = none_some e
-  set_there p x zero (o ∷ os) d e = ap (λ t. values_of (cond t (record o { value = x } ∷ os) (o ∷ set_at p x os))) (ap (same_ptr o.at) (sym (some_same e)) ∙ same_ptr_refl o.at)
-  set_there p x (suc i) (o ∷ os) d e = ap (λ t. values_of (cond t (record o { value = x } ∷ os) (o ∷ set_at p x os))) (all_at (λ q. same_ptr o.at q ≡ false) (places os) i p d.0 e) ∙ ap (λ vs. o.value ∷ vs) (set_there p x i os d.1 e)
+  set_there p x zero (o ∷ os) d e =
+      ap (λ t. values_of (cond t (record o { value = x } ∷ os) (o ∷ set_at p x os)))
+      (ap (same_ptr o.at) (sym (some_same e)) ∙ same_ptr_refl o.at)
+  set_there p x (suc i) (o ∷ os) d e =
+      ap (λ t. values_of (cond t (record o { value = x } ∷ os) (o ∷ set_at p x os)))
+      (all_at (λ q. same_ptr o.at q ≡ false) (places os) i p d.0 e)
+      ∙ ap (λ vs. o.value ∷ vs) (set_there p x i os d.1 e)
 
   pub places_set : (p : Ptr) (x : T) (os : List (Owner T A)) → places (set_at p x os) ≡ places os
   places_set p x [] = refl
   places_set p x (o ∷ os) = by_test (same_ptr o.at p) (places_set p x os)
     where
-      by_test : (t : Bool) → places (set_at p x os) ≡ places os → places (cond t (record o { value = x } ∷ os) (o ∷ set_at p x os)) ≡ places (o ∷ os)
+      by_test : (t : Bool)
+          → places (set_at p x os) ≡ places os
+          → places (cond t (record o { value = x } ∷ os) (o ∷ set_at p x os)) ≡ places (o ∷ os)
       by_test true rest = refl
       by_test false rest = ap (λ qs. o.at ∷ qs) rest
 
-  pub found_there : (p : Ptr) (i : ℕ) (os : List (Owner T A)) → IsApart (places os) → slice_get (places os) i ≡ Some p → IsSome (value_at p os)
+  pub found_there : (p : Ptr) (i : ℕ) (os : List (Owner T A))
+      → IsApart (places os)
+      → slice_get (places os) i ≡ Some p
+      → IsSome (value_at p os)
   found_there p i os d e =
       let low = low_in (places os) i p e in let v = get_in (values_of os) i (subst (λ n. i < n) (lengths os) low) in
       some_of (value_there p i os d e ∙ v.1)

@@ -11,7 +11,9 @@ pub record Rows (T : Type 0) : Type 0 where
   pub values : List T
 
 abbrev pub rows_code : {T : Type 0} → Coded T → Coded (Rows T)
-rows_code {T} t = code_by (List Ptr × List T) (coded× (coded_list coded_ptr) (coded_list t)) (λ r. (r.places, r.values)) (λ p. record { places = p.0; values = p.1 }) (λ _. refl)
+rows_code {T} t =
+    code_by (List Ptr × List T) (coded× (coded_list coded_ptr) (coded_list t)) (λ r. (r.places, r.values))
+    (λ p. record { places = p.0; values = p.1 }) (λ _. refl)
 
 -- the link leads to the node of its number
 abbrev pub IsLink : {T : Type 0} → Link → Rows T → Type 0
@@ -19,7 +21,11 @@ IsLink l r = slice_get r.places l.number ≡ Some l.place.ptr
 
 -- one node more, to which the link leads
 abbrev pub IsAdded : {T : Type 0} → Link → T → Rows T → Rows T → Type 0
-IsAdded l x old new = (new.places ≡ old.places ++ l.place.ptr ∷ []) × (new.values ≡ old.values ++ x ∷ []) × (l.number ≡ length old.values) × IsLink l new
+IsAdded l x old new =
+    (new.places ≡ old.places ++ l.place.ptr ∷ [])
+    × (new.values ≡ old.values ++ x ∷ [])
+    × (l.number ≡ length old.values)
+    × IsLink l new
 
 -- what the owned nodes hold
 abbrev pub values_of : {T A : Type 0} → List (Owner T A) → List T

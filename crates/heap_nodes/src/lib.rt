@@ -1,4 +1,17 @@
 //! Nodes on the heap that reach one another by raw pointers. A row of owners owns them.
+//!
+//! An owner stands for one node: it was made from a box, keeps the box's pointer, and frees the node when it is
+//! dropped. A `Vec` of owners owns all nodes. So what a program may read or write is the ordinary ownership of a
+//! `Vec`, and a pointer itself gives no right: it is followed only beside the row of owners, by the owner that has
+//! that pointer.
+//!
+//! Why two nodes are never at one place: the memory of a box belongs to one owner alone, so two owners with one
+//! pointer would own the same bytes twice. `apart` draws that conclusion and does nothing else. From it a node is
+//! found by its place or by its number, and it is the same node.
+//!
+//! Only this crate has raw pointers and unsafe code: `new_node`, `node`, `replace`, `apart` and `Owner`. Its
+//! contracts speak of lists of values. An `Arena` is such a row with an invariant, and a `Link` is the number of a
+//! node with its place, which stays right since nodes are never moved or taken away.
 #![tactic(auto)]
 
 ghost use Rattle.std.specs.Prelude.{◌≡◌, Some, None, IsSome, IfOk};

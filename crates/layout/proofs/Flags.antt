@@ -18,7 +18,11 @@ or_turned false true r = refl
 or_turned false false r = refl
 
 -- a block's exit was marked
-pub mark_next : (old new : Bool) (blocks : List Block) (n : ℕ) (x : Block) (b : ℕ) (is : Bool) → slice_get blocks n ≡ Some x → or old (blocks_name n (drop n blocks) b) ≡ is → new ≡ or (exit_names (n + 1) x.exit b) old → or new (blocks_name (n + 1) (drop (n + 1) blocks) b) ≡ is
+pub mark_next : (old new : Bool) (blocks : List Block) (n : ℕ) (x : Block) (b : ℕ) (is : Bool)
+    → slice_get blocks n ≡ Some x
+    → or old (blocks_name n (drop n blocks) b) ≡ is
+    → new ≡ or (exit_names (n + 1) x.exit b) old
+    → or new (blocks_name (n + 1) (drop (n + 1) blocks) b) ≡ is
 mark_next old new blocks n x b is get was marked =
     let s : n + 1 ≡ suc n = omega arith in
     let r = blocks_name (suc n) (drop (suc n) blocks) b in
@@ -30,15 +34,22 @@ mark_next old new blocks n x b is get was marked =
     ∙ was
 
 -- all exits were marked
-pub mark_last : (old : Bool) (blocks : List Block) (n b : ℕ) (is : Bool) → drop n blocks ≡ [] → or old (blocks_name n (drop n blocks) b) ≡ is → old ≡ is
+pub mark_last : (old : Bool) (blocks : List Block) (n b : ℕ) (is : Bool)
+    → drop n blocks ≡ []
+    → or old (blocks_name n (drop n blocks) b) ≡ is
+    → old ≡ is
 mark_last old blocks n b is none was = sym (or_false old) ∙ sym (ap (λ xs. or old (blocks_name n xs b)) none) ∙ was
 
-pub flags_are : (f : ℕ → Bool) (blocks : List Block) (items : List Bool) (n : ℕ) → length items ≡ length blocks → ((b : ℕ) → b < length blocks → slice_index_or items b false ≡ f (n + b)) → items ≡ flags_from f n blocks
+pub flags_are : (f : ℕ → Bool) (blocks : List Block) (items : List Bool) (n : ℕ)
+    → length items ≡ length blocks
+    → ((b : ℕ) → b < length blocks → slice_index_or items b false ≡ f (n + b))
+    → items ≡ flags_from f n blocks
 flags_are f [] [] n long h = refl
 flags_are f [] (i ∷ items) n long h = absurd (omega (arith, long))
 flags_are f (x ∷ blocks) [] n long h = absurd (omega (arith, long))
 flags_are f (x ∷ blocks) (i ∷ items) n long h =
     let z : n + 0 ≡ n = omega arith in
     let first : i ≡ f n = h 0 (omega arith) ∙ ap f z in
-    let rest = flags_are f blocks items (suc n) (omega (arith, long)) (λ b lt. let e : n + suc b ≡ suc n + b = omega arith in h (suc b) (omega (arith, lt)) ∙ ap f e) in
+    let rest = flags_are f blocks items (suc n) (omega (arith, long))
+    (λ b lt. let e : n + suc b ≡ suc n + b = omega arith in h (suc b) (omega (arith, lt)) ∙ ap f e) in
     ap (λ v. v ∷ items) first ∙ ap (λ xs. f n ∷ xs) rest

@@ -1,7 +1,7 @@
 -- What follows where no test of a line holds.
 use Rattle.std.proofs.Common.{◌≡◌, Bool, true, false, List, [], ◌∷◌, refl}
 use Rattle.std.specs.Prelude.{Option, Some, None, if◌then◌else◌}
-use Rattle.line_reader.specs.Faults.{first_fault, stepped}
+use Rattle.line_reader.specs.Faults.{first_fault}
 use Rattle.line_reader.specs.Reading.{Step}
 use Rattle.line_reader.specs.Reading.Step.{Fails, Goes}
 
@@ -33,9 +33,3 @@ module _ {State Fault : Type 0} where
 
   pub fails_not : (fault : Fault) (t : State) → ◌≡◌ {A = Step State Fault} (Fails fault) (Goes t) → ⊥
   fails_not fault t e = cc
-
-  -- a line that leads on has no fault, and leads on to the state after it
-  pub leads_on : (after t : State) (fault : Option Fault) → stepped after fault ≡ Goes t
-      → (fault ≡ None) × (after ≡ t)
-  leads_on after t None e = (refl, goes_same after t e)
-  leads_on after t (Some fault) e = absurd (fails_not fault t e)

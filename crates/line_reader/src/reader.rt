@@ -12,6 +12,7 @@ use listing_lines::split_line;
 /// What reads lines one after another, by a state of what they said so far.
 pub trait LineReader {
     type State;
+
     type Why;
 
     /// Whether lines can be read.

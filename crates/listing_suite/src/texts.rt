@@ -75,7 +75,11 @@ pub fn canonical(rt: &HostRuntime, name: &str, other: &str) -> io::Result<()> {
 
 fn is_file(rt: &HostRuntime, text: &[u8], name: &str) -> io::Result<()> {
     let wanted = file(rt, name)?;
-    let answer = if text == wanted.as_slice() { "yes" } else { "no" };
+    let answer = if text == wanted.as_slice() {
+        "yes"
+    } else {
+        "no"
+    };
     println!(rt; "{answer}")
 }
 

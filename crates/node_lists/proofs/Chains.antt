@@ -99,17 +99,25 @@ apart_without x [] ys d = d.1
 apart_without x (y ∷ xs) ys d = (far, apart_without x xs ys d.1)
   where
     far : IsIn y (xs ++ ys) → ⊥
-    far m = elim (in_either y xs ys m) [ inl a ↦ d.0 (in_left y xs (x ∷ ys) a) | inr b ↦ d.0 (in_right y xs (x ∷ ys) (inr b)) ]
+    far m =
+        elim (in_either y xs ys m) [
+          | inl a ↦ d.0 (in_left y xs (x ∷ ys) a)
+          | inr b ↦ d.0 (in_right y xs (x ∷ ys) (inr b))
+        ]
 
 -- taking one out
 
 pub removed_absent : (x : ℕ) (xs : List ℕ) → (IsIn x xs → ⊥) → removed x xs ≡ xs
 removed_absent x [] n = refl
-removed_absent x (y ∷ ys) n = ap (λ t. cond t ys (y ∷ removed x ys)) (eqb_not y x (λ e. n (inl (sym e)))) ∙ ap (λ zs. y ∷ zs) (removed_absent x ys (λ m. n (inr m)))
+removed_absent x (y ∷ ys) n =
+    ap (λ t. cond t ys (y ∷ removed x ys)) (eqb_not y x (λ e. n (inl (sym e))))
+    ∙ ap (λ zs. y ∷ zs) (removed_absent x ys (λ m. n (inr m)))
 
 pub removed_within : (x : ℕ) (xs ys : List ℕ) → (IsIn x xs → ⊥) → removed x (xs ++ x ∷ ys) ≡ xs ++ ys
 removed_within x [] ys n = ap (λ t. cond t ys (x ∷ removed x ys)) (eq-eqb x x refl)
-removed_within x (y ∷ xs) ys n = ap (λ t. cond t (xs ++ x ∷ ys) (y ∷ removed x (xs ++ x ∷ ys))) (eqb_not y x (λ e. n (inl (sym e)))) ∙ ap (λ zs. y ∷ zs) (removed_within x xs ys (λ m. n (inr m)))
+removed_within x (y ∷ xs) ys n =
+    ap (λ t. cond t (xs ++ x ∷ ys) (y ∷ removed x (xs ++ x ∷ ys))) (eqb_not y x (λ e. n (inl (sym e))))
+    ∙ ap (λ zs. y ∷ zs) (removed_within x xs ys (λ m. n (inr m)))
 
 pub record Cut (x : ℕ) (ps : List ℕ) : Type 0 where
   pub xs : List ℕ
@@ -148,32 +156,58 @@ head_none (x ∷ xs) i e = inl (sym (some_is e))
 
 -- chains
 
-pub follow_is : (prev next : ℕ → Option ℕ) (b : Option ℕ) (ps : List ℕ) → Chain prev next b ps None → follow next (length ps) (head_or ps None) ≡ ps
+pub follow_is : (prev next : ℕ → Option ℕ) (b : Option ℕ) (ps : List ℕ)
+    → Chain prev next b ps None
+    → follow next (length ps) (head_or ps None) ≡ ps
 follow_is prev next b [] c = refl
-follow_is prev next b (p ∷ ps) c = ap (λ qs. p ∷ qs) (ap (follow next (length ps)) c.1 ∙ follow_is prev next (Some p) ps c.2)
+follow_is prev next b (p ∷ ps) c =
+    ap (λ qs. p ∷ qs) (ap (follow next (length ps)) c.1 ∙ follow_is prev next (Some p) ps c.2)
 
-pub split : (prev next : ℕ → Option ℕ) (b : Option ℕ) (xs ys : List ℕ) (e : Option ℕ) → Chain prev next b (xs ++ ys) e → Chain prev next b xs (head_or ys e) × Chain prev next (last_or b xs) ys e
+pub split : (prev next : ℕ → Option ℕ) (b : Option ℕ) (xs ys : List ℕ) (e : Option ℕ)
+    → Chain prev next b (xs ++ ys) e
+    → Chain prev next b xs (head_or ys e) × Chain prev next (last_or b xs) ys e
 split prev next b [] ys e c = (tt, c)
-split prev next b (x ∷ xs) ys e c = let r = split prev next (Some x) xs ys e c.2 in ((c.0, c.1 ∙ head_app xs ys e, r.0), r.1)
+split prev next b (x ∷ xs) ys e c =
+    let r = split prev next (Some x) xs ys e c.2 in ((c.0, c.1 ∙ head_app xs ys e, r.0), r.1)
 
-pub join : (prev next : ℕ → Option ℕ) (b : Option ℕ) (xs ys : List ℕ) (e : Option ℕ) → Chain prev next b xs (head_or ys e) → Chain prev next (last_or b xs) ys e → Chain prev next b (xs ++ ys) e
+pub join : (prev next : ℕ → Option ℕ) (b : Option ℕ) (xs ys : List ℕ) (e : Option ℕ)
+    → Chain prev next b xs (head_or ys e)
+    → Chain prev next (last_or b xs) ys e
+    → Chain prev next b (xs ++ ys) e
 join prev next b [] ys e c d = d
 join prev next b (x ∷ xs) ys e c d = (c.0, c.1 ∙ sym (head_app xs ys e), join prev next (Some x) xs ys e c.2 d)
 
 module _ (prev next prev' next' : ℕ → Option ℕ) where
-  pub frame : (b : Option ℕ) (ps : List ℕ) (e : Option ℕ) → ((i : ℕ) → IsIn i ps → (prev' i ≡ prev i) × (next' i ≡ next i)) → Chain prev next b ps e → Chain prev' next' b ps e
+  pub frame : (b : Option ℕ) (ps : List ℕ) (e : Option ℕ)
+      → ((i : ℕ) → IsIn i ps → (prev' i ≡ prev i) × (next' i ≡ next i))
+      → Chain prev next b ps e
+      → Chain prev' next' b ps e
   frame b [] e same c = tt
-  frame b (p ∷ ps) e same c = let h = same p (inl refl) in (h.0 ∙ c.0, h.1 ∙ c.1, frame (Some p) ps e (λ i m. same i (inr m)) c.2)
+  frame b (p ∷ ps) e same c =
+      let h = same p (inl refl) in (h.0 ∙ c.0, h.1 ∙ c.1, frame (Some p) ps e (λ i m. same i (inr m)) c.2)
 
   pub ends : (b : Option ℕ) (ps : List ℕ) (e e' : Option ℕ) → Apart ps → ((i : ℕ) → IsIn i ps → prev' i ≡ prev i)
-      → ((i : ℕ) → IsIn i ps → (last_or b ps ≡ Some i → ⊥) → next' i ≡ next i) → ((i : ℕ) → IsIn i ps → last_or b ps ≡ Some i → next' i ≡ e') → Chain prev next b ps e → Chain prev' next' b ps e'
+      → ((i : ℕ) → IsIn i ps → (last_or b ps ≡ Some i → ⊥) → next' i ≡ next i)
+      → ((i : ℕ) → IsIn i ps → last_or b ps ≡ Some i → next' i ≡ e')
+      → Chain prev next b ps e
+      → Chain prev' next' b ps e'
   ends b [] e e' d sp sn at c = tt
   ends b (p ∷ []) e e' d sp sn at c = (sp p (inl refl) ∙ c.0, at p (inl refl) refl, tt)
-  ends b (p ∷ q ∷ qs) e e' d sp sn at c =
-      (sp p (inl refl) ∙ c.0, sn p (inl refl) (λ h. d.0 (last_in q qs p h)) ∙ c.1, ends (Some p) (q ∷ qs) e e' d.1 (λ i m. sp i (inr m)) (λ i m. sn i (inr m)) (λ i m. at i (inr m)) c.2)
+  ends b (p ∷ q ∷ qs) e e' d sp sn at c = (
+    sp p (inl refl) ∙ c.0,
+    sn p (inl refl) (λ h. d.0 (last_in q qs p h)) ∙ c.1,
+    ends (Some p) (q ∷ qs) e e' d.1 (λ i m. sp i (inr m)) (λ i m. sn i (inr m)) (λ i m. at i (inr m)) c.2,
+  )
 
   pub begins : (b b' : Option ℕ) (ps : List ℕ) (e : Option ℕ) → Apart ps → ((i : ℕ) → IsIn i ps → next' i ≡ next i)
-      → ((i : ℕ) → IsIn i ps → (head_or ps None ≡ Some i → ⊥) → prev' i ≡ prev i) → ((i : ℕ) → IsIn i ps → head_or ps None ≡ Some i → prev' i ≡ b') → Chain prev next b ps e → Chain prev' next' b' ps e
+      → ((i : ℕ) → IsIn i ps → (head_or ps None ≡ Some i → ⊥) → prev' i ≡ prev i)
+      → ((i : ℕ) → IsIn i ps → head_or ps None ≡ Some i → prev' i ≡ b')
+      → Chain prev next b ps e
+      → Chain prev' next' b' ps e
   begins b b' [] e d sn sp at c = tt
-  begins b b' (p ∷ ps) e d sn sp at c =
-      (at p (inl refl) refl, sn p (inl refl) ∙ c.1, frame (Some p) ps e (λ i m. (sp i (inr m) (λ h. d.0 (subst (λ v. IsIn v ps) (sym (some_is h)) m)), sn i (inr m))) c.2)
+  begins b b' (p ∷ ps) e d sn sp at c = (
+    at p (inl refl) refl,
+    sn p (inl refl) ∙ c.1,
+    frame (Some p) ps e (λ i m. (sp i (inr m) (λ h. d.0 (subst (λ v. IsIn v ps) (sym (some_is h)) m)), sn i (inr m)))
+        c.2,
+  )

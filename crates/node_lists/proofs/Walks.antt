@@ -10,14 +10,30 @@ use Rattle.node_lists.specs.Edits.{links}
 use Rattle.node_lists.specs.Walks.{nodes_left, IsWalk}
 use Rattle.node_lists.proofs.Chains.{follow_is}
 use Rattle.node_lists.proofs.Moves.{Closed}
-use Rattle.node_lists.proofs.Fields.{some_same}
+use Rattle.heap_nodes.proofs.Places.{some_same}
 
 module _ {T : Type 0} (t : ListArena T) where
   pub left_is : (at : Option Link) (left : ℕ) (w : IsWalk t at left) → nodes_left t at left ≡ w.rest
-  left_is at left w = (λ j. follow (field next_of t.nodes.values) (w.count j) (w.first j)) ∙ follow_is (links t).prev (links t).next w.before w.rest w.chain
+  left_is at left w =
+      (λ j. follow (field next_of t.nodes.values) (w.count j) (w.first j))
+      ∙ follow_is (links t).prev (links t).next w.before w.rest w.chain
 
-  pub started : (s : Closed t) (k : Option ℕ) (at : Option Link) (left : ℕ) → number at ≡ ((links t).ends k).first → Leads at t.nodes.places → left ≡ ((links t).ends k).len → IsWalk t at left
-  started s k at left e l n = let h = s.1.threaded k in record { sound = s.0; leads = l; rest = list_of (links t) k; before = None; chain = h.chain; first = e ∙ h.first; count = n ∙ h.len }
+  pub started : (s : Closed t) (k : Option ℕ) (at : Option Link) (left : ℕ)
+      → number at ≡ ((links t).ends k).first
+      → Leads at t.nodes.places
+      → left ≡ ((links t).ends k).len
+      → IsWalk t at left
+  started s k at left e l n =
+      let h = s.1.threaded k in
+      record {
+        sound = s.0;
+        leads = l;
+        rest = list_of (links t) k;
+        before = None;
+        chain = h.chain;
+        first = e ∙ h.first;
+        count = n ∙ h.len;
+      }
 
   -- where a node is left
   pub record Onward (l : Link) (v : Node T) (left : ℕ) (rest : List ℕ) : Type 0 where
@@ -26,7 +42,13 @@ module _ {T : Type 0} (t : ListArena T) where
     pub head : slice_get rest 0 ≡ Some l.number
     pub tail : drop 1 rest ≡ walk.rest
 
-  onward_by : (l : Link) (v : Node T) (left : ℕ) (rest : List ℕ) (before : Option ℕ) → Rattle.node_lists.specs.Edits.IsSound t → slice_get t.nodes.values l.number ≡ Some v → Chain (links t).prev (links t).next before rest None → Some l.number ≡ head_or rest None → left ≡ length rest → Onward l v left rest
+  onward_by : (l : Link) (v : Node T) (left : ℕ) (rest : List ℕ) (before : Option ℕ)
+      → Rattle.node_lists.specs.Edits.IsSound t
+      → slice_get t.nodes.values l.number ≡ Some v
+      → Chain (links t).prev (links t).next before rest None
+      → Some l.number ≡ head_or rest None
+      → left ≡ length rest
+      → Onward l v left rest
   onward_by l v left [] before s is c f n = absurd (cc)
   onward_by l v left (p ∷ ps) before s is c f n =
       let e = some_same f in record {
@@ -44,8 +66,12 @@ module _ {T : Type 0} (t : ListArena T) where
         tail = refl;
       }
 
-  pub onward : (at : Option Link) (left : ℕ) (w : IsWalk t at left) (l : Link) (v : Node T) → at ≡ Some l → slice_get t.nodes.values l.number ≡ Some v → Onward l v left w.rest
-  onward at left w l v e is = onward_by l v left w.rest w.before w.sound is w.chain (sym (ap number e) ∙ w.first) w.count
+  pub onward : (at : Option Link) (left : ℕ) (w : IsWalk t at left) (l : Link) (v : Node T)
+      → at ≡ Some l
+      → slice_get t.nodes.values l.number ≡ Some v
+      → Onward l v left w.rest
+  onward at left w l v e is =
+      onward_by l v left w.rest w.before w.sound is w.chain (sym (ap number e) ∙ w.first) w.count
 
   empty_by : (rest : List ℕ) → None ≡ head_or rest None → rest ≡ []
   empty_by [] e = refl

@@ -16,8 +16,11 @@ pub record Family (T : Type 0) : Type 0 where
 
 abbrev pub family_code : {T : Type 0} → Coded T → Coded (Family T)
 family_code {T} t =
-    code_by ((List T × List (Option ℕ)) × (List (List ℕ) × List ℕ)) (coded× (coded× (coded_list t) (coded_list (coded_option coded_ℕ))) (coded× (coded_list (coded_list coded_ℕ)) (coded_list coded_ℕ)))
-    (λ f. ((f.held, f.keys), (f.lists, f.spares))) (λ p. record { held = p.0.0; keys = p.0.1; lists = p.1.0; spares = p.1.1 }) (λ _. refl)
+    code_by ((List T × List (Option ℕ)) × (List (List ℕ) × List ℕ))
+    (coded× (coded× (coded_list t) (coded_list (coded_option coded_ℕ)))
+    (coded× (coded_list (coded_list coded_ℕ)) (coded_list coded_ℕ)))
+    (λ f. ((f.held, f.keys), (f.lists, f.spares)))
+    (λ p. record { held = p.0.0; keys = p.0.1; lists = p.1.0; spares = p.1.1 }) (λ _. refl)
 
 abbrev pub list_slot : Option (List ℕ) → List ℕ
 list_slot None = []

@@ -58,5 +58,7 @@ attached x k b a s =
       next = put_at b (Some x) (put_at (Some x) a s.next);
       prev = put_at a (Some x) (put_at (Some x) b s.prev);
       key = put_at (Some x) k s.key;
-      ends = put_key k (record { first = if_none b (Some x) h.first; last = if_none a (Some x) h.last; len = h.len + 1 }) s.ends;
+      ends =
+          put_key k (record { first = if_none b (Some x) h.first; last = if_none a (Some x) h.last; len = h.len + 1 })
+          s.ends;
     }

@@ -55,10 +55,18 @@ module _ {T : Type 0} where
 
   -- what the links of the nodes and heads say
   abbrev pub state_of : List (Node T) → List Head → Head → State
-  state_of vs hs spare = record { n = length vs; prev = field prev_of vs; next = field next_of vs; key = field key_of vs; ends = ends_at hs spare }
+  state_of vs hs spare = record {
+    n = length vs;
+    prev = field prev_of vs;
+    next = field next_of vs;
+    key = field key_of vs;
+    ends = ends_at hs spare;
+  }
 
   -- each link leads to a node or a head
   pub record Sound (ns : Rows (Node T)) (hs : Rows Head) (free : Head) : Type 0 where
-    pub node : (i : ℕ) (v : Node T) → slice_get ns.values i ≡ Some v → Leads v.prev ns.places × Leads v.next ns.places × Leads v.list hs.places
+    pub node : (i : ℕ) (v : Node T)
+        → slice_get ns.values i ≡ Some v
+        → Leads v.prev ns.places × Leads v.next ns.places × Leads v.list hs.places
     pub head : (i : ℕ) (h : Head) → slice_get hs.values i ≡ Some h → Leads h.first ns.places × Leads h.last ns.places
     pub spare : Leads free.first ns.places × Leads free.last ns.places

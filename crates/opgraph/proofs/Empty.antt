@@ -4,7 +4,7 @@ use Rattle.node_lists.specs.Chains.{IsIn, Apart}
 use Rattle.node_lists.specs.Families.{list_at, IsFull, nothing}
 use Rattle.opgraph.specs.declared.code.Body.{Body}
 use Rattle.opgraph.specs.Parts.{Good}
-use Rattle.opgraph.proofs.Tables.{none_some}
+use Rattle.heap_nodes.proofs.Places.{none_some}
 use Rattle.opgraph.proofs.SlotEdits.{none_not}
 
 module _ (T : Type 0) where
@@ -17,7 +17,12 @@ module _ (T : Type 0) where
   all_apart (Some k) = tt
 
   pub empty_full : IsFull (nothing {T = T})
-  empty_full = record { members = λ k i m. absurd (none_in k i m); everyone = λ i h. absurd (omega arith); apart = all_apart; low = λ i k e. none_some e }
+  empty_full = record {
+    members = λ k i m. absurd (none_in k i m);
+    everyone = λ i h. absurd (omega arith);
+    apart = all_apart;
+    low = λ i k e. none_some e;
+  }
 
 pub empty_good : Good nothing nothing nothing
 empty_good = record {

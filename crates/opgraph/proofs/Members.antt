@@ -5,12 +5,16 @@ use Rattle.opgraph.specs.declared.code.Body.{Body}
 use Rattle.node_lists.specs.Families.{Family, key_at}
 use Rattle.opgraph.specs.Graph.{OpRow, IsOp, has_width}
 use Rattle.opgraph.specs.Parts.{graph_of, Good}
-use Rattle.opgraph.proofs.Tables.{op_at_is, some_of, value_of}
+use Rattle.heap_nodes.proofs.Places.{some_of}
+use Rattle.opgraph.proofs.Tables.{op_at_is, value_of}
 use Rattle.opgraph.proofs.Whole.{row_is}
 use Rattle.opgraph.proofs.SlotEdits.{op_key}
 
 -- an op is in the graph where it is in a block
-pub op_there : (o : Family Body) (i : Family ℕ) (u : Family (Unit {0})) → Good o i u → (x : ℕ) → IsSome (key_at o x) ↔ IsOp (graph_of o i u) x
+pub op_there : (o : Family Body) (i : Family ℕ) (u : Family (Unit {0}))
+    → Good o i u
+    → (x : ℕ)
+    → IsSome (key_at o x) ↔ IsOp (graph_of o i u) x
 op_there o i u g x = (there, λ h. some_of (op_key o i u g x h).1)
   where
     there : IsSome (key_at o x) → IsOp (graph_of o i u) x
@@ -19,7 +23,10 @@ op_there o i u g x = (there, λ h. some_of (op_key o i u g x h).1)
         subst (λ (f : ℕ → Option OpRow). IsSome (f x)) (sym (op_at_is o i u)) (some_of r.2)
 
 -- an op has a value where it has a width
-pub width_there : (r : Option OpRow) (w : Option Width) → IsSome r → IfSome r (λ z. w ≡ z.width) → IsSome w ↔ has_width r
+pub width_there : (r : Option OpRow) (w : Option Width)
+    → IsSome r
+    → IfSome r (λ z. w ≡ z.width)
+    → IsSome w ↔ has_width r
 width_there None w h e = absurd (Rattle.std.proofs.Common.true≢false (sym h))
 width_there (Some r) w h e = (subst IsSome e, subst IsSome (sym e))
 

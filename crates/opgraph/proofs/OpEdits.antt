@@ -11,7 +11,8 @@ use Rattle.node_lists.proofs.Families.{length_less}
 use Rattle.node_lists.specs.Families.{Family, list_at, key_at, Moved}
 use Rattle.opgraph.specs.Graph.{OpRow, block_at, IsOp, Added, Removed}
 use Rattle.opgraph.specs.Parts.{or_zero, row_slot, inputs_of, row_of, uses_of, slot_of, graph_of, has_value, Good}
-use Rattle.opgraph.proofs.Tables.{some_same, none_some, some_of, get_low, op_at_is}
+use Rattle.heap_nodes.proofs.Places.{some_same, none_some, some_of, get_in}
+use Rattle.opgraph.proofs.Tables.{op_at_is}
 use Rattle.opgraph.proofs.Whole.{row_back, whole}
 use Rattle.opgraph.proofs.SlotEdits.{none_not, op_key}
 
@@ -36,9 +37,12 @@ module _ (o : Family Body) (i : Family ℕ) (u : Family (Unit {0})) (g : Good o 
   op_other x y f h e = let k = op_key o i u g y h in none_not f.key (some_of (ap (key_at o) (sym e) ∙ k.1))
 
   no_slots : (x : ℕ) → FreeOp x → inputs_of i u x ≡ []
-  no_slots x f = ap (map (λ s. or_zero (key_at u s))) (empty_of (list_at i (Some x)) (λ t m. none_not f.key (g.owners t x (g.full_inputs.members (Some x) t m).1)))
+  no_slots x f =
+      ap (map (λ s. or_zero (key_at u s)))
+      (empty_of (list_at i (Some x)) (λ t m. none_not f.key (g.owners t x (g.full_inputs.members (Some x) t m).1)))
 
-  module _ (x b : ℕ) (body : Body) (ps : List ℕ) (f : FreeOp x) (o1 o' : Family Body) (e1 : o1 ≡ record o { held = set o.held x body }) (m : Moved x (Some b) ps o1 o') where
+  module _ (x b : ℕ) (body : Body) (ps : List ℕ) (f : FreeOp x) (o1 o' : Family Body)
+      (e1 : o1 ≡ record o { held = set o.held x body }) (m : Moved x (Some b) ps o1 o') where
     keys : key_at o' ≡ put_at (Some x) (Some b) (key_at o)
     keys = m.keys ∙ ap (λ (z : Family Body). put_at (Some x) (Some b) (key_at z)) e1
 
@@ -55,7 +59,7 @@ module _ (o : Family Body) (i : Family ℕ) (u : Family (Unit {0})) (g : Good o 
     key_x = ap (λ (h : ℕ → Option ℕ). h x) keys ∙ put_here (Some b) (Some x) (key_at o) x refl
 
     held_x : slice_get o'.held x ≡ Some body
-    held_x = let old = get_low o.held x f.low in ap (λ hs. slice_get hs x) held_is ∙ get_set o.held x old.0 body old.1
+    held_x = let old = get_in o.held x f.low in ap (λ hs. slice_get hs x) held_is ∙ get_set o.held x old.0 body old.1
 
     held_length : length o'.held ≡ length o.held
     held_length = ap length held_is ∙ length-set o.held x body
@@ -79,24 +83,54 @@ module _ (o : Family Body) (i : Family ℕ) (u : Family (Unit {0})) (g : Good o 
       spare = g.spare;
       places = g.places;
       owners = λ s y e. let h = g.owners s y e in subst IsSome (sym (key_y y (live_other y h))) h;
-      values = λ s v e. let h = g.values s v e in let n = live_other v (key_some v (key_at o v) (slice_get o.held v) h) in subst (λ k. has_value k (slice_get o'.held v)) (sym (key_y v n)) (subst (has_value (key_at o v)) (sym (held_y v n)) h);
+      values =
+          λ s v e.
+          let h = g.values s v e in
+          let n = live_other v (key_some v (key_at o v) (slice_get o.held v) h) in
+          subst (λ k. has_value k (slice_get o'.held v)) (sym (key_y v n))
+          (subst (has_value (key_at o v)) (sym (held_y v n)) h);
     }
 
     abbrev pub row : OpRow
     row = record { block = b; code = body.code; inputs = []; width = body.width }
 
     rows : row_of o' i u ≡ put_at (Some x) (Some row) (row_of o i u)
-    rows = fun_ext (λ y. elim (cases_eq x y) [ inl e ↦ ap (row_of o' i u) (sym e) ∙ (λ j. row_slot (key_x j) (held_x j) (no_slots x f j)) ∙ sym (put_here (Some row) (Some x) (row_of o i u) y (ap Some e)) | inr n ↦ (λ j. row_slot (key_y y n j) (held_y y n j) (inputs_of i u y)) ∙ sym (put_away (Some row) (Some x) (row_of o i u) y (λ e. n (some_same e))) ])
+    rows =
+        fun_ext (λ y.
+        elim (cases_eq x y) [
+          | inl e ↦
+              ap (row_of o' i u) (sym e)
+              ∙ (λ j. row_slot (key_x j) (held_x j) (no_slots x f j))
+              ∙ sym (put_here (Some row) (Some x) (row_of o i u) y (ap Some e))
+          | inr n ↦
+              (λ j. row_slot (key_y y n j) (held_y y n j) (inputs_of i u y))
+              ∙ sym (put_away (Some row) (Some x) (row_of o i u) y (λ e. n (some_same e)))
+        ])
 
     pub absent : (c : Option ℕ) → (None ≡ c → ⊥) → removed x (list_at o c) ≡ list_at o c
     absent c n = removed_absent x (list_at o c) (λ k. n (sym f.key ∙ (g.full_ops.members c x k).1))
 
     blocks : (qs : List ℕ) → ps ≡ qs → block_at (graph_of o' i u) ≡ put_at (Some b) qs (block_at (graph_of o i u))
-    blocks qs e = fun_ext (λ y. ap (λ (h : Option ℕ → List ℕ). h (Some y)) m.lists ∙ elim (cases_eq b y) [ inl d ↦ key_here ps (Some b) (λ j. removed x (list_at o1 j)) (Some y) (ap Some d) ∙ e ∙ sym (put_here qs (Some b) (block_at (graph_of o i u)) y (ap Some d)) | inr n ↦ key_away ps (Some b) (λ j. removed x (list_at o1 j)) (Some y) (λ d. n (some_same d)) ∙ ap (λ (z : Family Body). removed x (list_at z (Some y))) e1 ∙ absent (Some y) (λ d. none_some d) ∙ sym (put_away qs (Some b) (block_at (graph_of o i u)) y (λ d. n (some_same d))) ])
+    blocks qs e =
+        fun_ext (λ y.
+        ap (λ (h : Option ℕ → List ℕ). h (Some y)) m.lists
+        ∙ elim (cases_eq b y) [
+          | inl d ↦
+              key_here ps (Some b) (λ j. removed x (list_at o1 j)) (Some y) (ap Some d)
+              ∙ e
+              ∙ sym (put_here qs (Some b) (block_at (graph_of o i u)) y (ap Some d))
+          | inr n ↦
+              key_away ps (Some b) (λ j. removed x (list_at o1 j)) (Some y) (λ d. n (some_same d))
+              ∙ ap (λ (z : Family Body). removed x (list_at z (Some y))) e1
+              ∙ absent (Some y) (λ d. none_some d)
+              ∙ sym (put_away qs (Some b) (block_at (graph_of o i u)) y (λ d. n (some_same d)))
+        ])
 
     pub claimed : (qs : List ℕ) → ps ≡ qs → Added x row qs (graph_of o i u) (graph_of o' i u)
     claimed qs e = record {
-      fresh = ap (λ (h : ℕ → Option OpRow). h x) (op_at_is o i u) ∙ ap (λ k. row_slot k (slice_get o.held x) (inputs_of i u x)) f.key;
+      fresh =
+          ap (λ (h : ℕ → Option OpRow). h x) (op_at_is o i u)
+          ∙ ap (λ k. row_slot k (slice_get o.held x) (inputs_of i u x)) f.key;
       ops = op_at_is o' i u ∙ rows ∙ ap (put_at (Some x) (Some row)) (sym (op_at_is o i u));
       blocks = blocks qs e;
       count = m.count ∙ ap (λ (z : Family Body). length z.lists) e1;
@@ -110,7 +144,8 @@ module _ (o : Family Body) (i : Family ℕ) (u : Family (Unit {0})) (g : Good o 
         let l = length_less x (list_at o None) h in let k = ap length e in omega arith
 
   -- an op with no inputs and no uses leaves its block
-  module _ (x : ℕ) (r : OpRow) (er : row_of o i u x ≡ Some r) (none : inputs_of i u x ≡ []) (unused : uses_of i u x ≡ []) (o' : Family Body) (m : Moved x None (x ∷ removed x (list_at o None)) o o') where
+  module _ (x : ℕ) (r : OpRow) (er : row_of o i u x ≡ Some r) (none : inputs_of i u x ≡ [])
+      (unused : uses_of i u x ≡ []) (o' : Family Body) (m : Moved x None (x ∷ removed x (list_at o None)) o o') where
     gone_key : (y : ℕ) → (x ≡ y → ⊥) → key_at o' y ≡ key_at o y
     gone_key y n = ap (λ (h : ℕ → Option ℕ). h y) m.keys ∙ put_away None (Some x) (key_at o) y (λ e. n (some_same e))
 
@@ -119,12 +154,14 @@ module _ (o : Family Body) (i : Family ℕ) (u : Family (Unit {0})) (g : Good o 
 
     owner_other : (s y : ℕ) → key_at i s ≡ Some y → x ≡ y → ⊥
     owner_other s y e d =
-        let k = e ∙ ap Some (sym d) in let h = subst (λ c. IsIn s (list_at i c)) k (g.full_inputs.everyone s (g.full_inputs.low s x k)) in
+        let k = e ∙ ap Some (sym d) in
+        let h = subst (λ c. IsIn s (list_at i c)) k (g.full_inputs.everyone s (g.full_inputs.low s x k)) in
         subst (IsIn s) (empty_map (λ t. or_zero (key_at u t)) (list_at i (Some x)) none) h
 
     value_other : (s v : ℕ) → key_at u s ≡ Some v → x ≡ v → ⊥
     value_other s v e d =
-        let k = e ∙ ap Some (sym d) in let h = subst (λ c. IsIn s (list_at u c)) k (g.full_uses.everyone s (g.full_uses.low s x k)) in
+        let k = e ∙ ap Some (sym d) in
+        let h = subst (λ c. IsIn s (list_at u c)) k (g.full_uses.everyone s (g.full_uses.low s x k)) in
         subst (IsIn s) (empty_map (slot_of i) (list_at u (Some x)) unused) h
 
     pub released_good : Good o' i u
@@ -139,11 +176,24 @@ module _ (o : Family Body) (i : Family ℕ) (u : Family (Unit {0})) (g : Good o 
       spare = g.spare;
       places = g.places;
       owners = λ s y e. subst IsSome (sym (gone_key y (owner_other s y e))) (g.owners s y e);
-      values = λ s v e. subst (λ k. has_value k (slice_get o'.held v)) (sym (gone_key v (value_other s v e))) (subst (λ hs. has_value (key_at o v) (slice_get hs v)) (sym m.held) (g.values s v e));
+      values =
+          λ s v e.
+          subst (λ k. has_value k (slice_get o'.held v)) (sym (gone_key v (value_other s v e)))
+          (subst (λ hs. has_value (key_at o v) (slice_get hs v)) (sym m.held) (g.values s v e));
     }
 
     rows_gone : row_of o' i u ≡ put_at (Some x) None (row_of o i u)
-    rows_gone = fun_ext (λ y. elim (cases_eq x y) [ inl e ↦ ap (λ z. row_slot (key_at o' z) (slice_get o'.held z) (inputs_of i u z)) (sym e) ∙ ap (λ k. row_slot k (slice_get o'.held x) (inputs_of i u x)) gone_x ∙ sym (put_here None (Some x) (row_of o i u) y (ap Some e)) | inr n ↦ (λ j. row_slot (gone_key y n j) (slice_get (m.held j) y) (inputs_of i u y)) ∙ sym (put_away None (Some x) (row_of o i u) y (λ e. n (some_same e))) ])
+    rows_gone =
+        fun_ext (λ y.
+        elim (cases_eq x y) [
+          | inl e ↦
+              ap (λ z. row_slot (key_at o' z) (slice_get o'.held z) (inputs_of i u z)) (sym e)
+              ∙ ap (λ k. row_slot k (slice_get o'.held x) (inputs_of i u x)) gone_x
+              ∙ sym (put_here None (Some x) (row_of o i u) y (ap Some e))
+          | inr n ↦
+              (λ j. row_slot (gone_key y n j) (slice_get (m.held j) y) (inputs_of i u y))
+              ∙ sym (put_away None (Some x) (row_of o i u) y (λ e. n (some_same e)))
+        ])
 
     x_key : key_at o x ≡ Some r.block
     x_key = row_back o i u g x r er
@@ -151,7 +201,22 @@ module _ (o : Family Body) (i : Family ℕ) (u : Family (Unit {0})) (g : Good o 
     pub released : Removed x r (graph_of o i u) (graph_of o' i u)
     released = record {
       ops = op_at_is o' i u ∙ rows_gone ∙ ap (put_at (Some x) None) (sym (op_at_is o i u));
-      blocks = fun_ext (λ y. ap (λ (h : Option ℕ → List ℕ). h (Some y)) m.lists ∙ key_away (x ∷ removed x (list_at o None)) None (λ j. removed x (list_at o j)) (Some y) (λ d. none_some d) ∙ elim (cases_eq r.block y) [ inl d ↦ ap (λ z. removed x (list_at o (Some z))) (sym d) ∙ sym (put_here (removed x (list_at o (Some r.block))) (Some r.block) (block_at (graph_of o i u)) y (ap Some d)) | inr n ↦ removed_absent x (list_at o (Some y)) (λ k. n (some_same (sym x_key ∙ (g.full_ops.members (Some y) x k).1))) ∙ sym (put_away (removed x (list_at o (Some r.block))) (Some r.block) (block_at (graph_of o i u)) y (λ d. n (some_same d))) ]);
+      blocks =
+          fun_ext (λ y.
+          ap (λ (h : Option ℕ → List ℕ). h (Some y)) m.lists
+          ∙ key_away (x ∷ removed x (list_at o None)) None (λ j. removed x (list_at o j)) (Some y) (λ d. none_some d)
+          ∙ elim (cases_eq r.block y) [
+            | inl d ↦
+                ap (λ z. removed x (list_at o (Some z))) (sym d)
+                ∙ sym
+                (put_here (removed x (list_at o (Some r.block))) (Some r.block) (block_at (graph_of o i u))
+                y (ap Some d))
+            | inr n ↦
+                removed_absent x (list_at o (Some y)) (λ k. n (some_same (sym x_key ∙ (g.full_ops.members (Some y) x k).1)))
+                ∙ sym
+                (put_away (removed x (list_at o (Some r.block))) (Some r.block) (block_at (graph_of o i u))
+                y (λ d. n (some_same d)))
+          ]);
       count = m.count;
       whole = whole o' i u released_good;
     }
@@ -159,4 +224,5 @@ module _ (o : Family Body) (i : Family ℕ) (u : Family (Unit {0})) (g : Good o 
     pub released_spares : length o'.spares ≡ length o.spares + 1
     released_spares =
         let e : list_at o' None ≡ x ∷ removed x (list_at o None) = ap (λ (h : Option ℕ → List ℕ). h None) m.lists ∙ key_here (x ∷ removed x (list_at o None)) None (λ j. removed x (list_at o j)) None refl in
-        let d = removed_absent x (list_at o None) (λ k. none_some (sym (g.full_ops.members None x k).1 ∙ x_key)) in let l = ap length d in let k = ap length e in omega arith
+        let d = removed_absent x (list_at o None) (λ k. none_some (sym (g.full_ops.members None x k).1 ∙ x_key)) in
+        let l = ap length d in let k = ap length e in omega arith

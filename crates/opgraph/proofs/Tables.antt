@@ -2,19 +2,11 @@
 use Rattle.std.proofs.Common.{◌≡◌, ℕ, zero, suc, ◌<◌, ◌≤◌, List, [], ◌∷◌, length, map, ◌⊎◌, inl, inr, Option, Some, None, IsSome, refl, sym, ap, ◌∙◌, subst, slice_get, arith, true≢false}
 use Rattle.std.proofs.Math.Path.{fun_ext}
 use native.Mathlib.Nat.{not-suc-le-zero, le_of_suc-le-suc}
+use Rattle.heap_nodes.proofs.Places.{none_some, some_same}
 use Rattle.opgraph.specs.declared.code.Body.{Body}
 use Rattle.node_lists.specs.Families.{Family, key_at}
 use Rattle.opgraph.specs.Graph.{op_slot, list_slot, op_at, uses_at}
 use Rattle.opgraph.specs.Parts.{table, row_slot, row_of, uses_of, slot_of, graph_of}
-
-pub some_same : {X : Type 0} {x y : X} → Some x ≡ Some y → x ≡ y
-some_same e = cc
-
-pub none_some : {X P : Type 0} {x : X} → None ≡ Some x → P
-none_some e = absurd (true≢false (sym (subst IsSome (sym e) refl)))
-
-pub some_of : {X : Type 0} {o : Option X} {x : X} → o ≡ Some x → IsSome o
-some_of e = subst IsSome (sym e) refl
 
 pub value_of : {X : Type 0} (o : Option X) → IsSome o → (x : X) × (o ≡ Some x)
 value_of None h = absurd (true≢false (sym h))
@@ -30,17 +22,9 @@ get_past [] i h = refl
 get_past (x ∷ xs) zero h = absurd (not-suc-le-zero h)
 get_past (x ∷ xs) (suc i) h = get_past xs i (le_of_suc-le-suc h)
 
-pub get_low : {X : Type 0} (xs : List X) (i : ℕ) → i < length xs → (x : X) × (slice_get xs i ≡ Some x)
-get_low [] i h = absurd (not-suc-le-zero h)
-get_low (x ∷ xs) zero h = (x, refl)
-get_low (x ∷ xs) (suc i) h = get_low xs i (le_of_suc-le-suc h)
-
-pub get_map : {X Y : Type 0} (f : X → Y) (xs : List X) (i : ℕ) (x : X) → slice_get xs i ≡ Some x → slice_get (map f xs) i ≡ Some (f x)
-get_map f [] i x e = none_some e
-get_map f (y ∷ xs) zero x e = ap (λ v. Some (f v)) (some_same e)
-get_map f (y ∷ xs) (suc i) x e = get_map f xs i x e
-
-pub of_map : {X Y : Type 0} (f : X → Y) (xs : List X) (i : ℕ) (y : Y) → slice_get (map f xs) i ≡ Some y → (x : X) × (slice_get xs i ≡ Some x) × (f x ≡ y)
+pub of_map : {X Y : Type 0} (f : X → Y) (xs : List X) (i : ℕ) (y : Y)
+    → slice_get (map f xs) i ≡ Some y
+    → (x : X) × (slice_get xs i ≡ Some x) × (f x ≡ y)
 of_map f [] i y e = none_some e
 of_map f (z ∷ xs) zero y e = (z, refl, some_same e)
 of_map f (z ∷ xs) (suc i) y e = of_map f xs i y e
@@ -66,11 +50,17 @@ module _ (o : Family Body) (i : Family ℕ) (u : Family (Unit {0})) where
     where
       by_size : (x : ℕ) → (x < length o.held) ⊎ (length o.held ≤ x) → op_at (graph_of o i u) x ≡ row_of o i u x
       by_size x (inl h) = ap op_slot (table_in (length o.held) (row_of o i u) x h)
-      by_size x (inr h) = ap op_slot (table_out (length o.held) (row_of o i u) x h) ∙ sym (ap (λ b. row_slot (key_at o x) b (Rattle.opgraph.specs.Parts.inputs_of i u x)) (get_past o.held x h) ∙ no_body (key_at o x) (Rattle.opgraph.specs.Parts.inputs_of i u x))
+      by_size x (inr h) =
+          ap op_slot (table_out (length o.held) (row_of o i u) x h)
+          ∙ sym
+          (ap (λ b. row_slot (key_at o x) b (Rattle.opgraph.specs.Parts.inputs_of i u x)) (get_past o.held x h)
+          ∙ no_body (key_at o x) (Rattle.opgraph.specs.Parts.inputs_of i u x))
 
   pub uses_at_is : uses_at (graph_of o i u) ≡ uses_of i u
   uses_at_is = fun_ext (λ v. by_size v (below_or v (length u.lists)))
     where
       by_size : (v : ℕ) → (v < length u.lists) ⊎ (length u.lists ≤ v) → uses_at (graph_of o i u) v ≡ uses_of i u v
       by_size v (inl h) = ap list_slot (table_in (length u.lists) (uses_of i u) v h)
-      by_size v (inr h) = ap list_slot (table_out (length u.lists) (uses_of i u) v h) ∙ sym (ap (λ l. map (slot_of i) (Rattle.node_lists.specs.Families.list_slot l)) (get_past u.lists v h))
+      by_size v (inr h) =
+          ap list_slot (table_out (length u.lists) (uses_of i u) v h)
+          ∙ sym (ap (λ l. map (slot_of i) (Rattle.node_lists.specs.Families.list_slot l)) (get_past u.lists v h))

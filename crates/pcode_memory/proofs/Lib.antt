@@ -1,2 +1,4 @@
+pub mod Frames
 pub mod Memory
 pub mod Acting
+mod Worked

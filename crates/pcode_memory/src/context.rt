@@ -2,12 +2,13 @@
 
 ghost use Rattle.std.specs.Prelude.{◌≡◌, ◌≤◌};
 ghost use Rattle.pcode_model.specs.Memory.{is_framed, offset_from};
-ghost use Rattle.pcode_model.specs.Spaces.{any_at, kind_of};
+ghost use Rattle.pcode_model.specs.Places.{place};
+ghost use Rattle.pcode_model.specs.Spaces.{any_at};
 ghost use Rattle.run_world.specs.Setting.{size};
-ghost use Rattle.pcode_memory.specs.Context.{IsContext, layout_of};
+ghost use Rattle.pcode_memory.specs.Context.{IsContext, frame_in, layout_of};
 
-use crate::frame::Frame;
-use pcode_model::{Listing, SpaceKind};
+use crate::frame;
+use pcode_model::{Frame, Listing};
 use run_world::{Answer, Setting, Shape};
 use std::alloc::Global;
 
@@ -26,14 +27,12 @@ pub struct PcodeContext<'a> {
 }
 
 impl<'a> PcodeContext<'a> {
-    /// The kind of the space with that number.
-    pub fn kind(&self, space: u8) -> SpaceKind
-        ensures { result ≡ kind_of self.now.listing.now space }
+    /// The offset of the frame variable's access at a place with that number, where it is one.
+    pub fn own(&self, address: u128, index: u32, argument: u32) -> Option<u64>
+        requires { IsContext self.now }
+        ensures { result ≡ (frame_in self.now).own (place address index) argument }
     {
-        match self.listing.spaces.get(usize::from(space)) {
-            Some(space) => space.kind,
-            None => SpaceKind::Constant,
-        }
+        frame::own(self.frame, self.ram, address, index, argument)
     }
 
     // An address of the first ram space as an offset from the stack pointer's entry word.
@@ -54,7 +53,8 @@ impl<'a> PcodeContext<'a> {
         requires { IsContext self.now }
         ensures { result ≡ is_framed (layout_of self.now) space address }
     {
-        space == self.setting.first_ram && self.frame.has(self.offset(address))
+        space == self.setting.first_ram
+            && frame::is_framed(self.frame, self.ram, self.offset(address))
     }
 
     /// Whether one of so many bytes is one of a frame variable.

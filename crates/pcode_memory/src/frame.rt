@@ -1,73 +1,107 @@
-//! Frame variables: which accesses are theirs, and which bytes.
+//! The frame of a listing as its run looks it up: which accesses are those of frame variables, and which bytes are theirs.
+//! Accesses and variables stand in order, so that they are searched by halves.
 
-ghost use Rattle.std.specs.Prelude.{◌≡◌, None};
+ghost use Rattle.std.specs.Prelude.{◌≡◌, slice_get};
+ghost use Rattle.std.specs.List.{AllByRecursion};
+ghost use Rattle.pcode_model.specs.Frame.{framed_in, own_in, wrapped};
 ghost use Rattle.pcode_model.specs.Places.{place};
-ghost use Rattle.pcode_model.specs.Memory.{no_frame};
-ghost use Rattle.pcode_memory.specs.Frame.{frame_of, framed_in, own_in};
+ghost use Rattle.run_world.specs.Setting.{size};
+ghost use Rattle.pcode_memory.specs.Frame.{ComesBefore, EndsBefore, IsNear, Rise, any_holds, comes_before, ends_by, first_past, is_at};
 
-use pcode_model::Place;
-use sqlite_items::Items;
-use std::alloc::Global;
+use pcode_model::{Frame, FrameAccess, FrameVariable};
+use run_world::Shape;
 
-/// The access of a frame variable by the LOAD or STORE at a place, which has the number 0, or by the argument of that
-/// number of the call there.
-#[derive(Clone, Copy, Debug, PartialEq, Eq)]
-pub struct OwnAccess {
-    pub place: Place,
-    pub argument: u32,
-    /// The offset from the stack pointer's entry word, modulo the size of the first ram space.
-    pub offset: u64,
+// An offset from the stack pointer's entry word, as a number below the size of the space.
+fn wrapped(ram: Shape, offset: i32) -> u64
+    ensures { result ≡ wrapped (size ram) offset }
+{
+    let size = i128::from(ram.last) + 1;
+    i128::from(offset).rem_euclid(size) as u64
 }
 
-/// Bytes of frame variables, by their offsets from the stack pointer's entry word.
-#[derive(Clone, Copy, Debug, PartialEq, Eq)]
-pub struct FrameRange {
-    pub offset: u64,
-    pub size: u32,
+// Whether an access comes before the one at a place with a number.
+fn comes_before(access: &FrameAccess, address: u128, index: u32, argument: u32) -> bool
+    ensures { result ≡ comes_before access.now (place address index) argument }
+{
+    let here = u128::from(access.place.address);
+    let at = access.place.index;
+    here < address
+        || (here == address && (at < index || (at == index && access.argument < argument)))
 }
 
-#[derive(Drop)]
-pub struct Frame {
-    pub accesses: Items<OwnAccess>,
-    pub ranges: Items<FrameRange>,
+fn is_at(access: &FrameAccess, address: u128, index: u32, argument: u32) -> bool
+    ensures { result ≡ is_at access.now (place address index) argument }
+{
+    u128::from(access.place.address) == address
+        && access.place.index == index
+        && access.argument == argument
 }
 
-impl Frame {
-    /// The frame of a listing without frame variables.
-    pub fn empty(alloc: Global) -> Frame
-        ensures { frame_of result ≡ no_frame }
-    {
-        Frame {
-            accesses: Items::new(alloc),
-            ranges: Items::new(alloc),
-        }
-    }
+// How many accesses come before the one at a place with a number.
+fn accesses_before(
+    accesses: &[FrameAccess],
+    address: u128,
+    index: u32,
+    argument: u32,
+) -> usize
+    requires { Rise ComesBefore accesses.now }
+    ensures { slice_get accesses.now result ≡ first_past (λ a. comes_before a (place address index) argument) accesses.now }
+{
+    accesses.partition_point(
+        |access: &FrameAccess| -> bool
+            ensures { result ≡ comes_before access.now (place address index) argument }
+        { comes_before(access, address, index, argument) },
+    )
+}
 
-    /// The offset of the frame variable's access at a place with that number, where it is one.
-    pub fn own(&self, address: u128, index: u32, argument: u32) -> Option<u64>
-        ensures { result ≡ own_in self.now.accesses (place address index) argument }
-    {
-        for a in self.accesses.as_slice() {
-            if u128::from(a.place.address) == address
-                && a.place.index == index
-                && a.argument == argument
-            {
-                return Some(a.offset);
-            }
-        }
+/// The offset of the frame variable's access at a place with that number, where it is one, below the size of the space.
+pub fn own(frame: &Frame, ram: Shape, address: u128, index: u32, argument: u32) -> Option<u64>
+    requires { Rise ComesBefore frame.now.accesses }
+    ensures { result ≡ own_in (size ram) frame.now.accesses (place address index) argument }
+{
+    let accesses = frame.accesses.as_slice();
+    let past = accesses_before(accesses, address, index, argument);
+    let Some(access) = accesses.get(past) else {
+        return None;
+    };
+    if is_at(access, address, index, argument) {
+        Some(wrapped(ram, access.offset))
+    } else {
         None
     }
+}
 
-    /// Whether the byte at an offset from the stack pointer's entry word is one of a frame variable.
-    pub fn has(&self, offset: u128) -> bool
-        ensures { result ≡ framed_in self.now.ranges offset }
-    {
-        for r in self.ranges.as_slice() {
-            let start = u128::from(r.offset);
-            if start <= offset && offset < start + u128::from(r.size) {
-                return true;
-            }
-        }
-        false
+// How many variables end by a signed offset.
+fn variables_before(variables: &[FrameVariable], offset: i128) -> usize
+    requires { Rise EndsBefore variables.now }
+    ensures { slice_get variables.now result ≡ first_past (λ v. ends_by v offset) variables.now }
+{
+    variables.partition_point(
+        |variable: &FrameVariable| -> bool
+            ensures { result ≡ ends_by variable.now offset }
+        { i128::from(variable.offset) + i128::from(variable.size) <= offset },
+    )
+}
+
+// Whether the byte at a signed offset is one of a variable's.
+fn any_holds(variables: &[FrameVariable], offset: i128) -> bool
+    requires { Rise EndsBefore variables.now }
+    ensures { result ≡ any_holds variables.now offset }
+{
+    match variables.get(variables_before(variables, offset)) {
+        Some(variable) => i128::from(variable.offset) <= offset,
+        None => false,
     }
+}
+
+/// Whether the byte at an offset from the stack pointer's entry word is one of a frame variable: at the offset itself, or
+/// as far below that word as the space goes on at 0.
+pub fn is_framed(frame: &Frame, ram: Shape, offset: u128) -> bool
+    requires rising { Rise EndsBefore frame.now.variables }
+    requires near { AllByRecursion (IsNear (size ram)) frame.now.variables }
+    ensures { result ≡ framed_in (size ram) frame.now.variables offset }
+{
+    let variables = frame.variables.as_slice();
+    let above = i128::from(ram.reduce(offset));
+    any_holds(variables, above) || any_holds(variables, above - i128::from(ram.last) - 1)
 }

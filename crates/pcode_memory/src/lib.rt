@@ -3,10 +3,9 @@
 
 pub mod context;
 pub mod effects;
-pub mod frame;
+mod frame;
 pub mod whole;
 
 pub use context::PcodeContext;
 pub use effects::{store, take_answer};
-pub use frame::{Frame, FrameRange, OwnAccess};
 pub use whole::Whole;

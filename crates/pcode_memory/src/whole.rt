@@ -1,8 +1,8 @@
 //! Memory with hidden and spoiled bytes.
 
 ghost use Rattle.std.specs.Prelude.{◌≡◌, ◌≤◌, ℕ, IfOk, OnOk};
-ghost use Rattle.pcode_model.specs.Memory.{conceal, found, is_framed, is_hidden, poke_whole, tuck, whole};
-ghost use Rattle.pcode_model.specs.Spaces.{any_at, bytes_at, each_at, first_ram, or};
+ghost use Rattle.pcode_model.specs.Memory.{conceal, found, is_hidden, poke_whole, tuck, whole};
+ghost use Rattle.pcode_model.specs.Spaces.{any_at, bytes_at, each_at};
 ghost use Rattle.run_world.specs.Setting.{HasShape, size};
 ghost use Rattle.pcode_memory.specs.Context.{IsContext, got, layout_of, spoil, whole_of};
 
@@ -21,8 +21,8 @@ pub struct Whole {
 }
 
 impl Whole {
-    // Whether one of so many bytes is one of a frame variable or hidden.
-    fn any_outside(
+    // Whether one of so many bytes is hidden.
+    fn any_hidden(
         &self,
         context: &PcodeContext,
         shape: Shape,
@@ -32,24 +32,16 @@ impl Whole {
     ) -> bool
         requires context { IsContext context.now }
         requires inside { address ≤ shape.last }
-        ensures { result ≡ any_at (size shape) (λ x. or (is_framed (layout_of context.now) space x) (is_hidden context.now.listing.now (whole_of self.now) space x)) address count }
+        ensures { result ≡ any_at (size shape) (is_hidden context.now.listing.now (whole_of self.now) space) address count }
     {
         let mut here = address;
         for _ in 0..count {
-            if self.is_outside(context, space, here) {
+            if self.is_hidden(context, space, here) {
                 return true;
             }
             here = shape.next(here);
         }
         false
-    }
-
-    // Whether a pointer access of that byte is outside.
-    fn is_outside(&self, context: &PcodeContext, space: u8, address: u64) -> bool
-        requires { IsContext context.now }
-        ensures { result ≡ or (is_framed (layout_of context.now) space address) (is_hidden context.now.listing.now (whole_of self.now) space address) }
-    {
-        context.is_framed(space, address) || self.is_hidden(context, space, address)
     }
 
     fn is_hidden(&self, context: &PcodeContext, space: u8, address: u64) -> bool
@@ -87,7 +79,10 @@ impl Whole {
         requires inside { address ≤ shape.last }
         ensures { IfOk result (λ bytes. got bytes ≡ (whole (layout_of context.now)).read space address count (whole_of self.now)) }
     {
-        if self.any_outside(context, shape, space, address, count as usize) {
+        if context.any_framed(shape, space, address, count as usize) {
+            return Ok(None);
+        }
+        if self.any_hidden(context, shape, space, address, count as usize) {
             return Ok(None);
         }
         let bytes = self

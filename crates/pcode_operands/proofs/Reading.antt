@@ -7,7 +7,7 @@ use Rattle.machine.specs.Trace.{End, Outside}
 use Rattle.pcode_model.specs.declared.listing.Listing.{Listing}
 use Rattle.pcode_model.specs.declared.listing.Storage.{Storage}
 use Rattle.pcode_model.specs.declared.listing.Varnode.{Varnode}
-use Rattle.pcode_model.specs.Memory.{Acts, Frame, Bytes, Layout, Whole, whole, unless}
+use Rattle.pcode_model.specs.Memory.{Acts, Bytes, Frame, Layout, Whole, any_framed, any_hidden, unless, whole}
 use Rattle.pcode_model.specs.Spaces.{bytes_at, next, kind_of, size_of}
 use Rattle.pcode_model.specs.Step.{State, local_word, read_varnode, read_operand, read_all, with_first, all_read, argument, arguments, as_word, read_at}
 use Rattle.run_world.specs.declared.shape.Shape.{Shape}
@@ -36,8 +36,13 @@ pub got_length : (n : ℕ) (f : ℕ → ℕ) (o k : ℕ) (t : Bool) (bs : List �
 got_length n f o k true bs e = absurd (cc)
 got_length n f o k false bs e = let same : bs ≡ bytes_at n f o k = cc in ap (λ (xs : List ℕ). length xs) same ∙ length_bytes_at n f o k
 
+-- the same where two tests come before it
+got_twice : (n : ℕ) (f : ℕ → ℕ) (o k : ℕ) (t u : Bool) (bs : List ℕ) → Ok bs ≡ unless t Outside (unless u Outside (Ok (bytes_at n f o k))) → length bs ≡ k
+got_twice n f o k true u bs e = absurd (cc)
+got_twice n f o k false u bs e = got_length n f o k u bs e
+
 pub read_length : (y : Layout) (own : Option ℕ) (s a k : ℕ) (w : Whole) (bs : List ℕ) → Ok bs ≡ read_at (whole y) own s a k w → length bs ≡ k
-read_length y None s a k w bs e = got_length _ _ a k _ bs e
+read_length y None s a k w bs e = got_twice (size_of y.listing s) (w.bytes s) a k (any_framed y s a k) (any_hidden y.listing w s a k) bs e
 read_length y (Some c) s a k w bs e = got_length _ _ a k _ bs e
 
 -- an access of a frame variable, whichever offset it has

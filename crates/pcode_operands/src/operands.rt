@@ -8,8 +8,7 @@ ghost use Rattle.pcode_model.specs.Spaces.{first_ram, kind_of, size_of};
 ghost use Rattle.pcode_model.specs.Step.{all_read, argument, arguments, as_word, local_word, read_all, read_at, read_operand, read_varnode, stack_address};
 ghost use Rattle.run_world.specs.Maps.{bytes_of};
 ghost use Rattle.run_world.specs.Setting.{HasShape};
-ghost use Rattle.pcode_memory.specs.Context.{IsContext, got, layout_of, whole_of};
-ghost use Rattle.pcode_memory.specs.Frame.{frame_of};
+ghost use Rattle.pcode_memory.specs.Context.{IsContext, frame_in, got, layout_of, whole_of};
 ghost use Rattle.pcode_operands.specs.State.{state_of};
 ghost use Rattle.pcode_operands.specs.Used.{IsArgument, IsLocal, IsUsed};
 ghost use Rattle.pcode_operands.specs.Words.{got_word, got_words};
@@ -109,7 +108,7 @@ pub fn read_varnode(
     ensures value { IfOk result (λ w. got_word w ≡ read_varnode (whole (layout_of context.now)) context.now.listing.now (kind_of context.now.listing.now v.space) v (state_of context.now state.now)) }
     ensures width { IfOk result (λ w. IfSome w (λ n. n.width.bytes ≡ v.size)) }
 {
-    match context.kind(v.space) {
+    match context.listing.space_kind(v.space) {
         SpaceKind::Constant => Ok(Some(Word {
             value: u128::from(v.offset),
             width: Width {
@@ -147,12 +146,12 @@ fn read_argument(
 ) -> Result<Option<Word>, Memory>
     requires context { IsContext context.now }
     requires used { IsArgument context.now.listing.now storage }
-    ensures { IfOk result (λ w. got_word w ≡ read_operand (whole (layout_of context.now)) context.now.listing.now (frame_of context.now.frame.now) (state_of context.now state.now) (argument number storage)) }
+    ensures { IfOk result (λ w. got_word w ≡ read_operand (whole (layout_of context.now)) context.now.listing.now (frame_in context.now) (state_of context.now state.now) (argument number storage)) }
 {
     match storage {
         Storage::At(v) => read_varnode(context, state, v),
         Storage::Stack { offset, size } => {
-            let own = context.frame.own(state.at.address, state.at.index, number);
+            let own = context.own(state.at.address, state.at.index, number);
             let address = stack_address(context, state, offset)?;
             word_at(
                 context,
@@ -174,7 +173,7 @@ pub fn read_all(
 ) -> Result<Option<WordList>, Memory>
     requires context { IsContext context.now }
     requires used { AllByRecursion (IsUsed context.now.listing.now) varnodes.now }
-    ensures { IfOk result (λ ws. got_words ws ≡ read_all (whole (layout_of context.now)) context.now.listing.now (frame_of context.now.frame.now) (state_of context.now state.now) (all_read varnodes.now)) }
+    ensures { IfOk result (λ ws. got_words ws ≡ read_all (whole (layout_of context.now)) context.now.listing.now (frame_in context.now) (state_of context.now state.now) (all_read varnodes.now)) }
 {
     let mut words = WordList::new(context.alloc);
     for v in varnodes {
@@ -195,7 +194,7 @@ pub fn read_arguments(
     requires context { IsContext context.now }
     requires used { AllByRecursion (IsArgument context.now.listing.now) storages.now }
     requires few { length storages.now < 2 ^ 32 }
-    ensures { IfOk result (λ ws. got_words ws ≡ read_all (whole (layout_of context.now)) context.now.listing.now (frame_of context.now.frame.now) (state_of context.now state.now) (arguments 0 storages.now)) }
+    ensures { IfOk result (λ ws. got_words ws ≡ read_all (whole (layout_of context.now)) context.now.listing.now (frame_in context.now) (state_of context.now state.now) (arguments 0 storages.now)) }
 {
     let mut words = WordList::new(context.alloc);
     for n in 0..storages.len() {

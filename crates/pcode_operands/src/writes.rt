@@ -44,7 +44,7 @@ pub fn write_varnode(
     requires used { IsUsed context.now.listing.now v }
     ensures { OnOk result (state_of context.now state.new ≡ write_varnode (whole (layout_of context.now)) context.now.listing.now (kind_of context.now.listing.now v.space) v word (state_of context.now state.old)) }
 {
-    match context.kind(v.space) {
+    match context.listing.space_kind(v.space) {
         SpaceKind::Constant => Ok(()),
         SpaceKind::Ram => {
             let shape = Shape::new(context.listing, v.space);

@@ -39,7 +39,7 @@ not_wide n h = grind (arith, nat_tests)
 
 zero_constant : (ss : List Space) → AreSpaces ss → same_kind Constant (kind_in (slice_get ss 0)) ≡ true
 zero_constant [] good = absurd good
-zero_constant (s ∷ ss) good = ap (same_kind Constant) good.0
+zero_constant (s ∷ ss) good = ap (λ (x : Space). same_kind Constant x.kind) good.0
 
 is_zero : (n : ℕ) → (n ≡ 0) ⊎ (0 < n)
 is_zero zero = inl refl

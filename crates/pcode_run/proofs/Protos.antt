@@ -1,4 +1,4 @@
--- What the prototypes of a listing that can run have.
+-- What the prototypes of a well formed listing have.
 use Rattle.std.proofs.Common.{◌≡◌, ℕ, zero, suc, ◌<◌, ◌≤◌, ◌^◌, ◌==◌, Bool, true, false, cond, List, [], ◌∷◌, length, Option, Some, None, refl, sym, subst, arith}
 use Rattle.std.specs.Prelude.{IfSome, slice_get}
 use Rattle.std.specs.List.{AllByRecursion}
@@ -14,7 +14,6 @@ use Rattle.pcode_model.specs.Spaces.{kind_of, same_kind}
 use Rattle.pcode_model.specs.Step.{callee_at, callee_in, proto_at, proto_in, proto_of}
 use Rattle.pcode_model.specs.WellFormed as formed
 use Rattle.pcode_model.specs.WellFormed.{AreSpaces, IsFunction, IsProto, IsRegister, IsStorage}
-use Rattle.pcode_memory.specs.Context.{CanRun}
 use Rattle.pcode_operands.specs.Calls.{Ends}
 use Rattle.pcode_operands.specs.Used.{IsArgument, IsLocal, IsStack, IsUsed}
 use Rattle.pcode_operands.proofs.Registers.{register_inside, stack_is}
@@ -82,12 +81,12 @@ some_got [] n below = absurd (omega (arith, below))
 some_got (x ∷ xs) zero below = (x, refl)
 some_got (x ∷ xs) (suc n) below = some_got xs n (omega (arith, below))
 
-proto_runs : (l : Listing) (n : ℕ) → CanRun l → n < length l.protos → Runs l (proto_at l n)
-proto_runs l n can below =
+proto_runs : (l : Listing) (n : ℕ) → formed.IsWellFormed l → n < length l.protos → Runs l (proto_at l n)
+proto_runs l n good below =
     let s = some_got l.protos n below in
     let P : Option Proto → Type 0 = λ o. IfSome o (IsProto l.spaces l.stack) in
     let Q : Option Proto → Type 0 = λ o. Runs l (proto_in o) in
-    subst Q (sym s.1) (runs l s.0 can.formed.spaces (subst P s.1 (got (IsProto l.spaces l.stack) l.protos n can.formed.protos below)))
+    subst Q (sym s.1) (runs l s.0 good.spaces (subst P s.1 (got (IsProto l.spaces l.stack) l.protos n good.protos below)))
 
 found : (P : Function → Type 0) (g f : Function) (rest : Option Function) (b : Bool) → cond b (Some g) rest ≡ Some f → P g → (rest ≡ Some f → P f) → P f
 found P g f rest true e here later = let same : g ≡ f = cc in subst P same here
@@ -101,17 +100,17 @@ pub callee_proto : (l : Listing) (a : ℕ) (f : Function) → formed.IsWellForme
 callee_proto l a f good is = (callee_is (IsFunction l.spaces (length l.protos)) l.callees a f good.callees is).proto
 
 -- the prototype of a callee that isn't declared
-pub own_runs : (l : Listing) → CanRun l → Runs l (proto_of l None)
-own_runs l can = proto_runs l l.func.proto can can.formed.func.proto
+pub own_runs : (l : Listing) → formed.IsWellFormed l → Runs l (proto_of l None)
+own_runs l good = proto_runs l l.func.proto good good.func.proto
 
-pub called_runs : (l : Listing) (a : ℕ) → CanRun l → Runs l (proto_of l (callee_at l a))
-called_runs l a can = by (callee_at l a) refl where
+pub called_runs : (l : Listing) (a : ℕ) → formed.IsWellFormed l → Runs l (proto_of l (callee_at l a))
+called_runs l a good = by (callee_at l a) refl where
   by : (o : Option Function) → callee_at l a ≡ o → Runs l (proto_of l o)
-  by None is = own_runs l can
-  by (Some f) is = proto_runs l f.proto can (callee_proto l a f can.formed is)
+  by None is = own_runs l good
+  by (Some f) is = proto_runs l f.proto good (callee_proto l a f good is)
 
-pub stack_runs : (l : Listing) → CanRun l → IfSome l.stack (IsStack l)
-stack_runs l can = by l.stack refl where
+pub stack_runs : (l : Listing) → formed.IsWellFormed l → IfSome l.stack (IsStack l)
+stack_runs l good = by l.stack refl where
   by : (o : Option Varnode) → l.stack ≡ o → IfSome o (IsStack l)
   by None is = tt
-  by (Some v) is = stack_is l v can is
+  by (Some v) is = stack_is l v good is

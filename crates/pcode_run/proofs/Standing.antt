@@ -1,5 +1,5 @@
--- What stands at a place of a listing that can run.
-use Rattle.std.proofs.Common.{◌≡◌, ◌<◌, ◌^◌, ◌==◌, ℕ, zero, suc, Bool, true, false, cond, List, [], ◌∷◌, length, Option, Some, inl, inr, sym, subst, ap, ◌∙◌}
+-- What stands at a place of a well formed listing whose ops obey their rules.
+use Rattle.std.proofs.Common.{◌≡◌, ◌<◌, ◌^◌, ◌==◌, ℕ, zero, suc, Bool, true, false, cond, List, [], ◌∷◌, length, Option, Some, None, inl, inr, sym, subst, ap, ◌∙◌}
 use Rattle.std.specs.Prelude.{slice_get}
 use Rattle.std.specs.List.{AllByRecursion}
 use Rattle.pcode_model.specs.declared.listing.Instruction.{Instruction}
@@ -7,10 +7,9 @@ use Rattle.pcode_model.specs.declared.listing.Listing.{Listing}
 use Rattle.pcode_model.specs.declared.listing.Op.{Op}
 use Rattle.pcode_model.specs.Flow.{IsIn}
 use Rattle.pcode_model.specs.Places.{Does, instruction_at, instruction_in, op_in, place, standing, standing_in, standing_of}
-use Rattle.pcode_model.specs.Rules.{HasFewOps}
-use Rattle.pcode_model.specs.WellFormed.{HasOps, IsOp}
+use Rattle.pcode_model.specs.Rules.{HasFewOps, first_bad}
+use Rattle.pcode_model.specs.WellFormed.{HasOps, IsOp, IsWellFormed}
 use Rattle.pcode_laws.proofs.Rules.{in_code}
-use Rattle.pcode_memory.specs.Context.{CanRun}
 use Rattle.pcode_run.specs.Steps.{Obeys}
 
 either_in : (j i : Instruction) (rest : List Instruction) (o : Option Instruction) (b : Bool) → cond b (Some j) o ≡ Some i → (o ≡ Some i → IsIn i rest) → IsIn i (j ∷ rest)
@@ -36,13 +35,13 @@ few_in i [] few is = absurd is
 few_in i (j ∷ rest) few (inl e) = let P : Instruction → Type 0 = λ x. length x.ops < 2 ^ 32 in subst P (sym e) few.0
 few_in i (j ∷ rest) few (inr is) = few_in i rest few.1 is
 
-pub few_ops : (l : Listing) (a : ℕ) (i : Instruction) → CanRun l → instruction_at l a ≡ Some i → length i.ops < 2 ^ 32
-few_ops l a i can here = few_in i l.code can.formed.few (found_in l.code a i here)
+pub few_ops : (l : Listing) (a : ℕ) (i : Instruction) → IsWellFormed l → instruction_at l a ≡ Some i → length i.ops < 2 ^ 32
+few_ops l a i good here = few_in i l.code good.few (found_in l.code a i here)
 
-pub op_obeys : (l : Listing) (a n : ℕ) (i : Instruction) (op : Op) → CanRun l → instruction_at l a ≡ Some i → slice_get i.ops n ≡ Some op → Obeys l op
-op_obeys l a n i op can here is = record {
-  formed = each IsOp op i.ops (each HasOps i l.code can.formed.ops (found_in l.code a i here)) (some_in i.ops n op is);
-  checked = in_code l l.code can.checked i (found_in l.code a i here) op (some_in i.ops n op is);
+pub op_obeys : (l : Listing) (a n : ℕ) (i : Instruction) (op : Op) → IsWellFormed l → first_bad l ≡ None → instruction_at l a ≡ Some i → slice_get i.ops n ≡ Some op → Obeys l op
+op_obeys l a n i op good checked here is = record {
+  formed = each IsOp op i.ops (each HasOps i l.code good.ops (found_in l.code a i here)) (some_in i.ops n op is);
+  checked = in_code l l.code checked i (found_in l.code a i here) op (some_in i.ops n op is);
 }
 
 pub does_in : (i : Instruction) (ops : List Op) (n : ℕ) (op : Op) → slice_get ops n ≡ Some op → standing_in i ops n ≡ Does i op

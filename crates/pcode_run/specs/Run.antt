@@ -11,8 +11,8 @@ use Rattle.pcode_model.specs.Memory as M
 use Rattle.pcode_model.specs.Places.{Does, Nothing, Passes, Standing, standing}
 use Rattle.pcode_model.specs.Spaces.{first_ram, or}
 use Rattle.pcode_model.specs.Step.{varnode_at}
-use Rattle.pcode_memory.specs.declared.frame.Frame.{Frame}
-use Rattle.pcode_memory.specs.declared.frame.OwnAccess.{OwnAccess}
+use Rattle.pcode_model.specs.declared.frame.Frame.{Frame}
+use Rattle.pcode_model.specs.declared.frame.FrameAccess.{FrameAccess}
 
 abbrev pub by_pointer : Opcode → Bool
 by_pointer O.Load = true
@@ -26,7 +26,7 @@ accesses ram (Passes i) = true
 accesses ram (Does i op) = or (not (by_pointer op.code)) ((varnode_at op.inputs 0).offset == ram)
 
 -- the access is a call's argument, or its LOAD or STORE is one of the first ram space
-abbrev pub lies_in_ram : Listing → OwnAccess → Bool
+abbrev pub lies_in_ram : Listing → FrameAccess → Bool
 lies_in_ram l a = if a.argument == 0 then accesses (first_ram l) (standing l a.place) else true
 
 -- the frame's own accesses lie in the first ram space

@@ -12,8 +12,7 @@ use Rattle.pcode_model.specs.Spaces.{first_ram}
 use Rattle.pcode_model.specs.Step.{State, step_at, varnode_at}
 use Rattle.pcode_model.specs.WellFormed.{IsOp}
 use Rattle.pcode_memory.specs.declared.context.PcodeContext.{PcodeContext}
-use Rattle.pcode_memory.specs.Context.{layout_of}
-use Rattle.pcode_memory.specs.Frame.{frame_of}
+use Rattle.pcode_memory.specs.Context.{frame_in, layout_of}
 
 -- an op that breaks no rule
 pub record Obeys (l : Listing) (op : Op) : Type 0 where
@@ -22,7 +21,7 @@ pub record Obeys (l : Listing) (op : Op) : Type 0 where
 
 -- what the step makes of a state at which this stands
 abbrev pub stepped : PcodeContext → Standing → State Whole → State Whole
-stepped c at s = step_at (whole (layout_of c)) c.listing.now (frame_of c.frame.now) at s
+stepped c at s = step_at (whole (layout_of c)) c.listing.now (frame_in c) at s
 
 -- what an op of an instruction makes of a state
 abbrev pub done : PcodeContext → Instruction → Op → State Whole → State Whole
@@ -30,7 +29,7 @@ done c i op s = stepped c (Does i op) s
 
 -- The access of a LOAD or STORE at the state's place is in the first ram space where it is a frame variable's.
 abbrev pub OwnsRam : PcodeContext → Op → State Whole → Type 0
-OwnsRam c op s = IsSome ((frame_of c.frame.now).own s.at 0) → (varnode_at op.inputs 0).offset ≡ first_ram c.listing.now
+OwnsRam c op s = IsSome ((frame_in c).own s.at 0) → (varnode_at op.inputs 0).offset ≡ first_ram c.listing.now
 
 -- two words that were read, or the end Outside
 abbrev pub got_two : Option (Word × Word) → Result (List ℕ) End

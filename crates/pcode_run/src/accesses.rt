@@ -12,7 +12,7 @@ ghost use Rattle.pcode_operands.specs.Words.{got_word};
 ghost use Rattle.pcode_run.specs.Steps.{Obeys, OwnsRam, done};
 
 use crate::ends::finish;
-use crate::inputs::{input, read_two, size_out};
+use crate::inputs::read_two;
 use crate::places::next_spot;
 use bits_core::{Memory, Word};
 use pcode_memory::PcodeContext;
@@ -78,14 +78,14 @@ pub fn load(
     requires owns { OwnsRam context.now op.now (state_of context.now state.old) }
     ensures { OnOk result (state_of context.now state.new ≡ done context.now instruction.now op.now (state_of context.now state.old)) }
 {
-    let space = input(op, 0).offset as u8;
-    let Some(offset) = read_varnode(context, state, input(op, 1))? else {
+    let space = op.input(0).offset as u8;
+    let Some(offset) = read_varnode(context, state, op.input(1))? else {
         finish(state, End::Outside);
         return Ok(());
     };
     let address = byte_address(context.listing, space, offset.value);
-    let own = context.frame.own(state.at.address, state.at.index, 0);
-    let word = word_at(context, state, own, space, address, size_out(op.out))?;
+    let own = context.own(state.at.address, state.at.index, 0);
+    let word = word_at(context, state, own, space, address, op.size_out())?;
     state.at = next_spot(instruction, state.at.index);
     put_fetched(context, state, op.out, word)
 }
@@ -136,14 +136,14 @@ pub fn store(
     requires owns { OwnsRam context.now op.now (state_of context.now state.old) }
     ensures { OnOk result (state_of context.now state.new ≡ done context.now instruction.now op.now (state_of context.now state.old)) }
 {
-    let space = input(op, 0).offset as u8;
-    let value = input(op, 2);
-    let Some((offset, word)) = read_two(context, state, input(op, 1), value)? else {
+    let space = op.input(0).offset as u8;
+    let value = op.input(2);
+    let Some((offset, word)) = read_two(context, state, op.input(1), value)? else {
         finish(state, End::Outside);
         return Ok(());
     };
     let address = byte_address(context.listing, space, offset.value);
-    let own = context.frame.own(state.at.address, state.at.index, 0);
+    let own = context.own(state.at.address, state.at.index, 0);
     state.at = next_spot(instruction, state.at.index);
     put_at(context, state, own, space, address, value.size, word.value)
 }

@@ -13,9 +13,7 @@ ghost use Rattle.pcode_operands.specs.State.{places_of, state_of};
 ghost use Rattle.pcode_operands.specs.Used.{IsLocal};
 ghost use Rattle.pcode_run.specs.Steps.{Obeys, done};
 
-use crate::callees::own_proto;
 use crate::ends::{finish, go};
-use crate::inputs::input;
 use crate::places::{branch_spot, next_spot};
 use bits_core::{Memory, Word};
 use pcode_memory::PcodeContext;
@@ -30,7 +28,7 @@ pub fn branch(state: &mut State, instruction: &Instruction, op: &Op)
     requires kind { op.now.code ≡ O.Branch }
     ensures { (c : PcodeContext) → state_of c state.new ≡ done c instruction.now op.now (state_of c state.old) }
 {
-    let to = branch_spot(instruction, state.at.index, input(op, 0));
+    let to = branch_spot(instruction, state.at.index, op.input(0));
     go(state, to);
 }
 
@@ -59,9 +57,9 @@ pub fn cbranch(
     requires obeys { Obeys context.now.listing.now op.now }
     ensures { OnOk result (state_of context.now state.new ≡ done context.now instruction.now op.now (state_of context.now state.old)) }
 {
-    match read_varnode(context, state, input(op, 1))? {
+    match read_varnode(context, state, op.input(1))? {
         Some(test) => {
-            let to = tested_spot(instruction, state.at.index, input(op, 0), test);
+            let to = tested_spot(instruction, state.at.index, op.input(0), test);
             go(state, to);
         }
         None => finish(state, End::Outside),
@@ -76,7 +74,7 @@ pub fn branch_ind(context: &PcodeContext, state: &mut State, op: &Op) -> Result<
     requires obeys { Obeys context.now.listing.now op.now }
     ensures { OnOk result ((i : Instruction) → state_of context.now state.new ≡ done context.now i op.now (state_of context.now state.old)) }
 {
-    match read_varnode(context, state, input(op, 0))? {
+    match read_varnode(context, state, op.input(0))? {
         Some(to) => {
             state.at = WidePlace {
                 address: to.value,
@@ -113,9 +111,9 @@ pub fn do_return(context: &PcodeContext, state: &mut State, op: &Op) -> Result<(
     requires obeys { Obeys context.now.listing.now op.now }
     ensures { OnOk result ((i : Instruction) → state_of context.now state.new ≡ done context.now i op.now (state_of context.now state.old)) }
 {
-    match read_varnode(context, state, input(op, 0))? {
+    match read_varnode(context, state, op.input(0))? {
         Some(_) => {
-            let word = word_given(context, state, own_proto(context.listing).gives)?;
+            let word = word_given(context, state, context.listing.own_proto().gives)?;
             finish(state, End::Returned(word));
         }
         None => finish(state, End::Outside),

@@ -13,9 +13,8 @@ ghost use Rattle.pcode_operands.specs.State.{place_of, state_of};
 ghost use Rattle.pcode_operands.specs.Used.{IsLocal, IsUsed};
 ghost use Rattle.pcode_run.specs.Steps.{Obeys, done};
 
-use crate::callees::{called_at, own_proto};
+use crate::callees::called_at;
 use crate::ends::finish;
-use crate::inputs::input;
 use crate::places::next_spot;
 use bits_core::Memory;
 use pcode_memory::{PcodeContext, take_answer};
@@ -77,7 +76,7 @@ pub fn call(
     requires obeys { Obeys context.now.listing.now op.now }
     ensures { OnOk result (state_of context.now state.new ≡ done context.now instruction.now op.now (state_of context.now state.old)) }
 {
-    let to = input(op, 0).offset;
+    let to = op.input(0).offset;
     let (proto, returns) = called_at(context.listing, to);
     match read_arguments(context, state, proto.args.as_slice())? {
         Some(args) => {
@@ -104,8 +103,8 @@ pub fn call_ind(
     requires obeys { Obeys context.now.listing.now op.now }
     ensures { OnOk result (state_of context.now state.new ≡ done context.now instruction.now op.now (state_of context.now state.old)) }
 {
-    let proto = own_proto(context.listing);
-    let Some(to) = read_varnode(context, state, input(op, 0))? else {
+    let proto = context.listing.own_proto();
+    let Some(to) = read_varnode(context, state, op.input(0))? else {
         finish(state, End::Outside);
         return Ok(());
     };
@@ -175,7 +174,7 @@ pub fn call_other(
     match read_all(context, state, &op.inputs.as_slice()[1..])? {
         Some(args) => {
             let next = next_spot(instruction, state.at.index);
-            ask(context, state, next, input(op, 0).offset, args, op.out)
+            ask(context, state, next, op.input(0).offset, args, op.out)
         }
         None => {
             finish(state, End::Outside);

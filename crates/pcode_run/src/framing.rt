@@ -5,21 +5,19 @@ ghost use Rattle.pcode_model.specs.declared.listing.Instruction.{Instruction};
 ghost use Rattle.pcode_model.specs.Flow.{AreApart};
 ghost use Rattle.pcode_model.specs.Places.{Does, standing, standing_of};
 ghost use Rattle.pcode_model.specs.Spaces.{first_ram};
-ghost use Rattle.pcode_memory.specs.declared.frame.Frame.{Frame};
+ghost use Rattle.pcode_model.specs.declared.frame.Frame.{Frame};
 ghost use Rattle.pcode_run.specs.Run.{LiesInRam, accesses, lies_in_ram};
 
-use crate::inputs::input;
 use instructions::instruction;
-use pcode_memory::{Frame, OwnAccess};
 use pcode_model::ranges::number_of;
-use pcode_model::{Instruction, Listing, Op, Opcode, Place, SpaceKind};
+use pcode_model::{Frame, FrameAccess, Instruction, Listing, Op, Opcode, Place, SpaceKind};
 
 // Whether an op is no LOAD or STORE, or one of the space with that number.
 fn accesses_space(op: &Op, ram: usize) -> bool
     ensures { (i : Instruction) → result ≡ accesses ram (Does i op.now) }
 {
     match op.code {
-        Opcode::Load | Opcode::Store => input(op, 0).offset == ram as u64,
+        Opcode::Load | Opcode::Store => op.input(0).offset == ram as u64,
         _ => true,
     }
 }
@@ -44,7 +42,7 @@ fn accesses_place(listing: &Listing, at: Place, ram: usize) -> bool
     }
 }
 
-fn lies(listing: &Listing, ram: usize, access: &OwnAccess) -> bool
+fn lies(listing: &Listing, ram: usize, access: &FrameAccess) -> bool
     requires apart { AreApart listing.now.code }
     requires ram { ram ≡ first_ram listing.now }
     ensures { result ≡ lies_in_ram listing.now access.now }

@@ -1,10 +1,9 @@
-//! The inputs and the output of an op.
+//! Two words that an op reads, and the width of its output.
 
 ghost use Rattle.std.specs.Prelude.{◌≡◌, ◌<◌, ◌≤◌, [], ◌∷◌, IfOk, IfSome};
 ghost use Rattle.pcode_model.specs.Memory.{whole};
-ghost use Rattle.pcode_model.specs.Step.{Reads, read_all, size_out, varnode_at};
-ghost use Rattle.pcode_memory.specs.Context.{IsContext, layout_of};
-ghost use Rattle.pcode_memory.specs.Frame.{frame_of};
+ghost use Rattle.pcode_model.specs.Step.{Reads, read_all, size_out};
+ghost use Rattle.pcode_memory.specs.Context.{IsContext, frame_in, layout_of};
 ghost use Rattle.pcode_operands.specs.State.{state_of};
 ghost use Rattle.pcode_operands.specs.Used.{IsUsed};
 ghost use Rattle.pcode_run.specs.Steps.{got_two};
@@ -15,38 +14,14 @@ use pcode_model::{Op, Varnode};
 use pcode_operands::operands::read_varnode;
 use pcode_operands::state::State;
 
-/// The input of that number.
-pub fn input(op: &Op, number: usize) -> Varnode
-    ensures { result ≡ varnode_at op.now.inputs number }
-{
-    match op.inputs.as_slice().get(number) {
-        Some(v) => *v,
-        None => Varnode {
-            space: 0,
-            offset: 0,
-            size: 0,
-        },
-    }
-}
-
-/// Bytes of the output, 0 where there is none.
-pub fn size_out(out: Option<Varnode>) -> u32
-    ensures { result ≡ size_out out }
-{
-    match out {
-        Some(v) => v.size,
-        None => 0,
-    }
-}
-
 /// The width of the output.
-pub fn width_out(out: Option<Varnode>) -> Width
-    requires some { 0 < size_out out }
-    requires few { size_out out ≤ 16 }
-    ensures { result.bytes ≡ size_out out }
+pub fn width_out(op: &Op) -> Width
+    requires some { 0 < size_out op.now.out }
+    requires few { size_out op.now.out ≤ 16 }
+    ensures { result.bytes ≡ size_out op.now.out }
 {
     Width {
-        bytes: size_out(out) as u8,
+        bytes: op.size_out() as u8,
     }
 }
 
@@ -60,7 +35,7 @@ pub fn read_two(
     requires context { IsContext context.now }
     requires first { IsUsed context.now.listing.now first }
     requires second { IsUsed context.now.listing.now second }
-    ensures value { IfOk result (λ r. got_two r ≡ read_all (whole (layout_of context.now)) context.now.listing.now (frame_of context.now.frame.now) (state_of context.now state.now) (Reads first ∷ Reads second ∷ [])) }
+    ensures value { IfOk result (λ r. got_two r ≡ read_all (whole (layout_of context.now)) context.now.listing.now (frame_in context.now) (state_of context.now state.now) (Reads first ∷ Reads second ∷ [])) }
     ensures widths { IfOk result (λ r. IfSome r (λ p. (p.0.width.bytes ≡ first.size) × (p.1.width.bytes ≡ second.size))) }
 {
     let Some(a) = read_varnode(context, state, first)? else {

@@ -1,14 +1,14 @@
 ghost use Rattle.std.specs.Prelude.{◌≡◌, IfErr, IfOk};
+ghost use Rattle.pcode_model.specs.Frame.{frame_of};
 ghost use Rattle.pcode_model.specs.Step.{seen_p};
 ghost use Rattle.pcode_model.specs.WellFormed.{IsWellFormed};
 ghost use Rattle.run_world.specs.Meaning.{entry_of, trace_of};
-ghost use Rattle.pcode_memory.specs.Frame.{frame_of};
+ghost use Rattle.pcode_memory.specs.Frame.{IsOrdered};
 ghost use Rattle.pcode_run.specs.Refused.{IsRefused};
 
 use crate::framing::lies_in_ram;
-use crate::run::{can_run, run_p};
-use pcode_memory::Frame;
-use pcode_model::{Listing, OpFault, check_ops};
+use crate::run::run_p;
+use pcode_model::{Frame, Listing, OpFault, check_ops};
 use run_world::{Entry, Trace};
 use std::alloc::Global;
 
@@ -17,8 +17,6 @@ use std::alloc::Global;
 pub enum NoRun {
     /// An op breaks a rule: the first one that does.
     BadOp(OpFault),
-    /// The listing has more than 256 spaces, or a stack pointer of more than 8 bytes.
-    TooLarge,
     /// A LOAD or STORE that is a frame variable's access isn't one of the first ram space.
     BadFrame,
     Memory,
@@ -32,15 +30,13 @@ pub fn run_listing(
     entry: &Entry,
     n: u32,
 ) -> Result<Trace, NoRun>
-    requires { IsWellFormed listing.now }
-    ensures run { IfOk result (λ t. trace_of t ≡ seen_p listing.now (frame_of frame.now) (entry_of listing.now entry.now) n) }
+    requires formed { IsWellFormed listing.now }
+    requires ordered { IsOrdered listing.now frame.now }
+    ensures run { IfOk result (λ t. trace_of t ≡ seen_p listing.now (frame_of listing.now frame.now) (entry_of listing.now entry.now) n) }
     ensures refused { IfErr result (IsRefused listing.now frame.now) }
 {
     if let Err(fault) = check_ops(listing) {
         return Err(NoRun::BadOp(fault));
-    }
-    if !can_run(listing) {
-        return Err(NoRun::TooLarge);
     }
     if !lies_in_ram(listing, frame) {
         return Err(NoRun::BadFrame);

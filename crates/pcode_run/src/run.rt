@@ -1,7 +1,8 @@
 //! The run.
 
-ghost use Rattle.std.specs.Prelude.{◌≡◌, ◌≤◌, ◌↔◌, None, IfOk, IfSome, IsTrue};
+ghost use Rattle.std.specs.Prelude.{◌≡◌, None, IfOk};
 ghost use Rattle.machine.specs.Machine.{seen};
+ghost use Rattle.pcode_model.specs.Frame.{frame_of};
 ghost use Rattle.pcode_model.specs.Memory.{whole};
 ghost use Rattle.pcode_model.specs.Rules.{first_bad};
 ghost use Rattle.pcode_model.specs.Step.{first_whole, layout, machine, seen_p, stack_word, start};
@@ -9,37 +10,19 @@ ghost use Rattle.pcode_model.specs.WellFormed.{IsWellFormed};
 ghost use Rattle.run_world.specs.Maps.{bytes_of};
 ghost use Rattle.run_world.specs.Meaning.{entry_of, trace_of};
 ghost use Rattle.pcode_memory.specs.declared.context.PcodeContext.{PcodeContext};
-ghost use Rattle.pcode_memory.specs.Context.{CanRun, IsContext, layout_of, whole_of};
-ghost use Rattle.pcode_memory.specs.Frame.{frame_of};
+ghost use Rattle.pcode_memory.specs.Context.{IsContext, frame_in, layout_of, whole_of};
+ghost use Rattle.pcode_memory.specs.Frame.{IsOrdered};
 ghost use Rattle.pcode_operands.specs.State.{state_of};
 ghost use Rattle.pcode_run.specs.Run.{LiesInRam, OwnsFirstRam};
 
 use crate::step::step;
 use bits_core::Memory;
-use pcode_memory::{Frame, PcodeContext, Whole};
-use pcode_model::{Listing, Varnode};
+use pcode_memory::{PcodeContext, Whole};
+use pcode_model::{Frame, Listing};
 use pcode_operands::operands::local_word;
 use pcode_operands::state::{State, WidePlace};
 use run_world::{ByteMap, Entry, Events, Log, OffsetMap, Setting, Shape, Trace};
 use std::alloc::Global;
-
-/// Whether the run of a listing can be carried out: at most 256 spaces, and a stack pointer of at most 8 bytes.
-pub fn can_run(listing: &Listing) -> bool
-    requires formed { IsWellFormed listing.now }
-    requires checked { first_bad listing.now ≡ None }
-    ensures { IsTrue result ↔ CanRun listing.now }
-{
-    listing.spaces.len() <= 256 && is_narrow(listing.stack)
-}
-
-fn is_narrow(stack: Option<Varnode>) -> bool
-    ensures { IsTrue result ↔ IfSome stack (λ v. v.size ≤ 8) }
-{
-    match stack {
-        Some(v) => v.size <= 8,
-        None => true,
-    }
-}
 
 // What the memory begins with.
 fn first_memory(alloc: Global, listing: &Listing, entry: &Entry) -> Result<Whole, Memory>
@@ -100,13 +83,15 @@ fn context<'a>(
     entry: &'a Entry,
     local: &ByteMap,
 ) -> Result<PcodeContext<'a>, Memory>
-    requires can { CanRun listing.now }
+    requires formed { IsWellFormed listing.now }
+    requires checked { first_bad listing.now ≡ None }
+    requires ordered { IsOrdered listing.now frame.now }
     requires local { bytes_of local.now ≡ (entry_of listing.now entry.now).bytes }
     ensures context { IfOk result IsContext }
     ensures listing { IfOk result (λ c. c.listing.now ≡ listing.now) }
     ensures frame { IfOk result (λ c. c.frame.now ≡ frame.now) }
     ensures answers { IfOk result (λ c. c.answers.now ≡ entry.now.answers) }
-    ensures layout { IfOk result (λ c. layout_of c ≡ layout listing.now (frame_of frame.now) (entry_of listing.now entry.now)) }
+    ensures layout { IfOk result (λ c. layout_of c ≡ layout listing.now (frame_of listing.now frame.now) (entry_of listing.now entry.now)) }
 {
     let setting = Setting::new(alloc, listing)?;
     let ram = Shape::new(listing, setting.first_ram);
@@ -126,8 +111,8 @@ fn context<'a>(
 // What the run has shown after n steps from a state on.
 fn run_from(context: &PcodeContext, state: State, n: u32) -> Result<Trace, Memory>
     requires context { IsContext context.now }
-    requires owns { OwnsFirstRam context.now.listing.now (frame_of context.now.frame.now) }
-    ensures { IfOk result (λ t. trace_of t ≡ seen (machine (whole (layout_of context.now)) context.now.listing.now (frame_of context.now.frame.now)) (state_of context.now state) n) }
+    requires owns { OwnsFirstRam context.now.listing.now (frame_in context.now) }
+    ensures { IfOk result (λ t. trace_of t ≡ seen (machine (whole (layout_of context.now)) context.now.listing.now (frame_in context.now)) (state_of context.now state) n) }
 {
     let mut state = state;
     for _ in 0..n {
@@ -141,7 +126,8 @@ fn run_from(context: &PcodeContext, state: State, n: u32) -> Result<Trace, Memor
     Ok(Trace { events, end })
 }
 
-/// What the run of a listing's p-code has shown after n steps, with the frame's variables.
+/// What the run of a listing's p-code has shown after n steps, with the variables of a frame that stands in order and whose
+/// accesses lie in the first ram space.
 pub fn run_p(
     alloc: Global,
     listing: &Listing,
@@ -149,9 +135,11 @@ pub fn run_p(
     entry: &Entry,
     n: u32,
 ) -> Result<Trace, Memory>
-    requires can { CanRun listing.now }
+    requires formed { IsWellFormed listing.now }
+    requires checked { first_bad listing.now ≡ None }
+    requires ordered { IsOrdered listing.now frame.now }
     requires owns { LiesInRam listing.now frame.now }
-    ensures { IfOk result (λ t. trace_of t ≡ seen_p listing.now (frame_of frame.now) (entry_of listing.now entry.now) n) }
+    ensures { IfOk result (λ t. trace_of t ≡ seen_p listing.now (frame_of listing.now frame.now) (entry_of listing.now entry.now) n) }
 {
     let state = start(alloc, listing, entry)?;
     let context = context(alloc, listing, frame, entry, &state.local)?;

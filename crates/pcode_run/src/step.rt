@@ -2,8 +2,7 @@
 
 ghost use Rattle.std.specs.Prelude.{◌≡◌, ◌<◌, ◌^◌, length, true, Some, OnOk};
 ghost use Rattle.pcode_model.specs.Places.{instruction_at, standing, standing_of};
-ghost use Rattle.pcode_memory.specs.Context.{IsContext};
-ghost use Rattle.pcode_memory.specs.Frame.{frame_of};
+ghost use Rattle.pcode_memory.specs.Context.{IsContext, frame_in};
 ghost use Rattle.pcode_operands.specs.State.{state_of};
 ghost use Rattle.pcode_run.specs.Run.{OwnsFirstRam, by_pointer};
 ghost use Rattle.pcode_run.specs.Steps.{Obeys, OwnsRam, done, stepped};
@@ -62,7 +61,7 @@ fn carry_out(
 fn stand(context: &PcodeContext, state: &mut State, instruction: &Instruction) -> Result<(), Memory>
     requires context { IsContext context.now }
     requires here { instruction_at context.now.listing.now state.old.at.address ≡ Some instruction.now }
-    requires owns { OwnsFirstRam context.now.listing.now (frame_of context.now.frame.now) }
+    requires owns { OwnsFirstRam context.now.listing.now (frame_in context.now) }
     ensures { OnOk result (state_of context.now state.new ≡ stepped context.now (standing_of (Some instruction.now) state.old.at.index) (state_of context.now state.old)) }
 {
     if instruction.ops.is_empty() && state.at.index == 0 {
@@ -81,7 +80,7 @@ fn stand(context: &PcodeContext, state: &mut State, instruction: &Instruction) -
 /// Carries out what stands at the state's place.
 pub fn step(context: &PcodeContext, state: &mut State) -> Result<(), Memory>
     requires context { IsContext context.now }
-    requires owns { OwnsFirstRam context.now.listing.now (frame_of context.now.frame.now) }
+    requires owns { OwnsFirstRam context.now.listing.now (frame_in context.now) }
     ensures { OnOk result (state_of context.now state.new ≡ stepped context.now (standing context.now.listing.now (state_of context.now state.old).at) (state_of context.now state.old)) }
 {
     match instruction(context.listing, state.at.address) {

@@ -12,7 +12,7 @@ ghost use Rattle.pcode_operands.specs.Used.{IsUsed};
 ghost use Rattle.pcode_run.specs.Steps.{Obeys, done};
 
 use crate::ends::finish;
-use crate::inputs::{input, read_two, width_out};
+use crate::inputs::{read_two, width_out};
 use crate::places::next_spot;
 use bits_core::{Binary, Divide, Memory, Unary, Word, binary, divide, unary};
 use pcode_memory::PcodeContext;
@@ -53,9 +53,9 @@ pub fn do_unary(
     requires obeys { Obeys context.now.listing.now op.now }
     ensures { OnOk result (state_of context.now state.new ≡ done context.now instruction.now op.now (state_of context.now state.old)) }
 {
-    match read_varnode(context, state, input(op, 0))? {
+    match read_varnode(context, state, op.input(0))? {
         Some(a) => {
-            let word = unary(code, a, width_out(op.out));
+            let word = unary(code, a, width_out(op));
             put_value(context, state, instruction, op, word.value)
         }
         None => {
@@ -79,9 +79,9 @@ pub fn do_binary(
     requires obeys { Obeys context.now.listing.now op.now }
     ensures { OnOk result (state_of context.now state.new ≡ done context.now instruction.now op.now (state_of context.now state.old)) }
 {
-    match read_two(context, state, input(op, 0), input(op, 1))? {
+    match read_two(context, state, op.input(0), op.input(1))? {
         Some((a, b)) => {
-            let word = binary(code, a, b, width_out(op.out));
+            let word = binary(code, a, b, width_out(op));
             put_value(context, state, instruction, op, word.value)
         }
         None => {
@@ -130,7 +130,7 @@ pub fn do_divide(
     requires obeys { Obeys context.now.listing.now op.now }
     ensures { OnOk result (state_of context.now state.new ≡ done context.now instruction.now op.now (state_of context.now state.old)) }
 {
-    match read_two(context, state, input(op, 0), input(op, 1))? {
+    match read_two(context, state, op.input(0), op.input(1))? {
         Some((a, b)) => put_divided(context, state, instruction, op, code, a, b),
         None => {
             finish(state, End::Outside);

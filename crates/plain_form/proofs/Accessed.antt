@@ -20,24 +20,9 @@ use Rattle.pcode_model.specs.Atoms.{Accesses, IsLocal, further_ranges, one_range
 use Rattle.supported.specs.Ranges as named
 use Rattle.supported.specs.Ranges.{code_ranges, is_local, is_local_kind, local_of, locals_of, named_ranges, ops_ranges, output_of, result_range, storage_ranges}
 use Rattle.supported.specs.Supported.{IsSupported, is_supported_code}
+pub use Rattle.plaincode.proofs.Members.{in_front, behind, in_either}
 use Rattle.plain_form.proofs.Standing.{StandsIn, stands_in, supported_in}
 use Rattle.plain_form.proofs.Formed.{Inside, IsFormed}
-
--- ---- lists
-
-pub in_front : {A : Type 0} (xs ys : List A) (x : A) → IsIn x xs → IsIn x (xs ++ ys)
-in_front [] ys x h = absurd h
-in_front (y ∷ xs) ys x (inl e) = inl e
-in_front (y ∷ xs) ys x (inr h) = inr (in_front xs ys x h)
-
-pub behind : {A : Type 0} (xs ys : List A) (x : A) → IsIn x ys → IsIn x (xs ++ ys)
-behind [] ys x h = h
-behind (y ∷ xs) ys x h = inr (behind xs ys x h)
-
-pub in_either : {A : Type 0} (xs ys : List A) (x : A) → IsIn x (xs ++ ys) → IsIn x xs ⊎ IsIn x ys
-in_either [] ys x h = inr h
-in_either (y ∷ xs) ys x (inl e) = inl (inl e)
-in_either (y ∷ xs) ys x (inr h) = elim (in_either xs ys x h) [ inl p ↦ inl (inr p) | inr q ↦ inr q ]
 
 -- ---- what a supported op accesses
 
@@ -51,7 +36,11 @@ read_rest [] v h = absurd h
 read_rest (x ∷ vs) v h = inr (read_back vs v h)
 
 -- a supported op accesses its inputs, its output, and a RETURN the function's result
-operand_is : (l : Listing) (code : Opcode) (vs : List Varnode) → is_supported_code code ≡ true → (v : Varnode) → IsIn v (ranges_read (operands l code vs)) → IsIn v vs
+operand_is : (l : Listing) (code : Opcode) (vs : List Varnode)
+    → is_supported_code code ≡ true
+    → (v : Varnode)
+    → IsIn v (ranges_read (operands l code vs))
+    → IsIn v vs
 operand_is l (O.Unary op) vs s v h = read_back vs v h
 operand_is l (O.Binary op) vs s v h = read_back vs v h
 operand_is l O.Branch vs s v h = absurd h
@@ -69,7 +58,11 @@ operand_is l (O.FloatConversion op) vs s v h = absurd (cc)
 operand_is l (O.Analysis op) vs s v h = absurd (cc)
 operand_is l (O.LeftOut op) vs s v h = absurd (cc)
 
-further_is : (l : Listing) (code : Opcode) (vs : List Varnode) → is_supported_code code ≡ true → (v : Varnode) → IsIn v (further_ranges l None code vs) → IsIn v (one_range (proto_of l None).gives)
+further_is : (l : Listing) (code : Opcode) (vs : List Varnode)
+    → is_supported_code code ≡ true
+    → (v : Varnode)
+    → IsIn v (further_ranges l None code vs)
+    → IsIn v (one_range (proto_of l None).gives)
 further_is l (O.Unary op) vs s v h = absurd h
 further_is l (O.Binary op) vs s v h = absurd h
 further_is l O.Branch vs s v h = absurd h
@@ -98,10 +91,15 @@ local_is l v h = if_local (is_local l v) v h
 
 locals_are : (l : Listing) (vs : List Varnode) (v : Varnode) → IsIn v vs → is_local l v ≡ true → IsIn v (locals_of l vs)
 locals_are l [] v is h = absurd is
-locals_are l (x ∷ vs) v (inl e) h = in_front (local_of l x) (locals_of l vs) v (let P : Varnode → Type 0 = λ y. IsIn v (local_of l y) in subst P e (local_is l v h))
+locals_are l (x ∷ vs) v (inl e) h =
+    in_front (local_of l x) (locals_of l vs) v
+    (let P : Varnode → Type 0 = λ y. IsIn v (local_of l y) in subst P e (local_is l v h))
 locals_are l (x ∷ vs) v (inr is) h = behind (local_of l x) (locals_of l vs) v (locals_are l vs v is h)
 
-output_is : (l : Listing) (out : Option Varnode) (v : Varnode) → IsIn v (one_range out) → is_local l v ≡ true → IsIn v (output_of l out)
+output_is : (l : Listing) (out : Option Varnode) (v : Varnode)
+    → IsIn v (one_range out)
+    → is_local l v ≡ true
+    → IsIn v (output_of l out)
 output_is l None v is h = absurd is
 output_is l (Some z) v (inl e) h = let P : Varnode → Type 0 = λ y. IsIn v (local_of l y) in subst P e (local_is l v h)
 output_is l (Some z) v (inr is) h = absurd is
@@ -111,35 +109,63 @@ result_is None v is = absurd is
 result_is (Some z) v (inl e) = inl e
 result_is (Some z) v (inr is) = absurd is
 
-in_ops : (l : Listing) (ops : List Op) (op : Op) → IsIn op ops → (v : Varnode) → IsIn v (named.op_ranges l op) → IsIn v (ops_ranges l ops)
+in_ops : (l : Listing) (ops : List Op) (op : Op)
+    → IsIn op ops
+    → (v : Varnode)
+    → IsIn v (named.op_ranges l op)
+    → IsIn v (ops_ranges l ops)
 in_ops l [] op is v h = absurd is
-in_ops l (x ∷ ops) op (inl e) v h = in_front (named.op_ranges l x) (ops_ranges l ops) v (let P : Op → Type 0 = λ y. IsIn v (named.op_ranges l y) in subst P e h)
+in_ops l (x ∷ ops) op (inl e) v h =
+    in_front (named.op_ranges l x) (ops_ranges l ops) v
+    (let P : Op → Type 0 = λ y. IsIn v (named.op_ranges l y) in subst P e h)
 in_ops l (x ∷ ops) op (inr is) v h = behind (named.op_ranges l x) (ops_ranges l ops) v (in_ops l ops op is v h)
 
-in_code : (l : Listing) (code : List Instruction) (i : Instruction) (op : Op) → StandsIn code i op → (v : Varnode) → IsIn v (named.op_ranges l op) → IsIn v (code_ranges l code)
+in_code : (l : Listing) (code : List Instruction) (i : Instruction) (op : Op)
+    → StandsIn code i op
+    → (v : Varnode)
+    → IsIn v (named.op_ranges l op)
+    → IsIn v (code_ranges l code)
 in_code l [] i op s v h = absurd s.code_has
 in_code l (x ∷ code) i op s v h = elim s.code_has [
-  | inl e ↦ in_front (ops_ranges l x.ops) (code_ranges l code) v (let P : Instruction → Type 0 = λ y. IsIn op y.ops in in_ops l x.ops op (subst P e s.ops_have) v h)
-  | inr is ↦ behind (ops_ranges l x.ops) (code_ranges l code) v (in_code l code i op (record { code_has = is; ops_have = s.ops_have }) v h)
+  | inl e ↦ in_front (ops_ranges l x.ops) (code_ranges l code) v
+      (let P : Instruction → Type 0 = λ y. IsIn op y.ops in in_ops l x.ops op (subst P e s.ops_have) v h)
+  | inr is ↦ behind (ops_ranges l x.ops) (code_ranges l code) v
+      (in_code l code i op (record { code_has = is; ops_have = s.ops_have }) v h)
 ]
 
 -- a space with the number of the register space or of the unique space
-pub named_op : (l : Listing) → IsSupported l → (i : Instruction) (op : Op) → StandsIn l.code i op → (v : Varnode) → is_local l v ≡ true → IsIn v (op_ranges l None op) → IsIn v (named_ranges l)
+pub named_op : (l : Listing)
+    → IsSupported l
+    → (i : Instruction) (op : Op)
+    → StandsIn l.code i op
+    → (v : Varnode)
+    → is_local l v ≡ true
+    → IsIn v (op_ranges l None op)
+    → IsIn v (named_ranges l)
 named_op l sup i op s v local h =
     let code = (and_parts _ _ (supported_in l l.code sup.ops i op s)).0 in
     let rest : List Varnode = storage_ranges (proto_of l None).args ++ result_range (proto_of l None).gives in
-    let of_op : IsIn v (named.op_ranges l op) → IsIn v (named_ranges l) = λ q. in_front (code_ranges l l.code) rest v (in_code l l.code i op s v q) in
-    elim (in_either (ranges_read (operands l op.code op.inputs)) (one_range op.out ++ further_ranges l None op.code op.inputs) v h) [
-      | inl p ↦ of_op (in_front (locals_of l op.inputs) (output_of l op.out) v (locals_are l op.inputs v (operand_is l op.code op.inputs code v p) local))
+    let of_op : IsIn v (named.op_ranges l op) → IsIn v (named_ranges l) =
+    λ q. in_front (code_ranges l l.code) rest v (in_code l l.code i op s v q) in
+    elim (in_either (ranges_read (operands l op.code op.inputs))
+    (one_range op.out ++ further_ranges l None op.code op.inputs) v h) [
+      | inl p ↦ of_op (in_front (locals_of l op.inputs) (output_of l op.out) v
+          (locals_are l op.inputs v (operand_is l op.code op.inputs code v p) local))
       | inr q ↦ elim (in_either (one_range op.out) (further_ranges l None op.code op.inputs) v q) [
         | inl o ↦ of_op (behind (locals_of l op.inputs) (output_of l op.out) v (output_is l op.out v o local))
-        | inr f ↦ behind (code_ranges l l.code) rest v (behind (storage_ranges (proto_of l None).args) (result_range (proto_of l None).gives) v (result_is (proto_of l None).gives v (further_is l op.code op.inputs code v f)))
+        | inr f ↦ behind (code_ranges l l.code) rest v
+            (behind (storage_ranges (proto_of l None).args) (result_range (proto_of l None).gives) v
+            (result_is (proto_of l None).gives v (further_is l op.code op.inputs code v f)))
       ]
     ]
 
 -- ---- what is accessed is named
 
-local_at : (l : Listing) (v : Varnode) (n : ℕ) (k : SpaceKind) → v.space ≡ n → kind_of l n ≡ k → is_local_kind k ≡ true → is_local l v ≡ true
+local_at : (l : Listing) (v : Varnode) (n : ℕ) (k : SpaceKind)
+    → v.space ≡ n
+    → kind_of l n ≡ k
+    → is_local_kind k ≡ true
+    → is_local l v ≡ true
 local_at l v n k e f h =
     let P : ℕ → Type 0 = λ s. is_local_kind (kind_of l s) ≡ true in
     let Q : SpaceKind → Type 0 = λ j. is_local_kind j ≡ true in
@@ -149,18 +175,37 @@ pub local_of_home : (l : Listing) → IsFormed l → (v : Varnode) → IsLocal l
 local_of_home l formed v (inl e) = local_at l v (register_space l) Register e formed.register refl
 local_of_home l formed v (inr e) = local_at l v (unique_space l) Unique e formed.unique refl
 
-by_standing : (l : Listing) → IsSupported l → (p : Place) (s : Standing) → standing l p ≡ s → (v : Varnode) → is_local l v ≡ true → IsIn v (ranges_in l None s) → IsIn v (named_ranges l)
+by_standing : (l : Listing)
+    → IsSupported l
+    → (p : Place) (s : Standing)
+    → standing l p ≡ s
+    → (v : Varnode)
+    → is_local l v ≡ true
+    → IsIn v (ranges_in l None s)
+    → IsIn v (named_ranges l)
 by_standing l sup p Nothing e v local h = absurd h
 by_standing l sup p (Passes i) e v local h = absurd h
 by_standing l sup p (Does i op) e v local h = named_op l sup i op (stands_in l p i op e) v local h
 
-pub accessed_named : (l : Listing) → IsSupported l → IsFormed l → (v : Varnode) → Accesses l [] v → IsIn v (named_ranges l)
-accessed_named l sup formed v acc = by_standing l sup acc.at (standing l acc.at) refl v (local_of_home l formed v acc.is_local) acc.range
+pub accessed_named : (l : Listing)
+    → IsSupported l
+    → IsFormed l
+    → (v : Varnode)
+    → Accesses l [] v
+    → IsIn v (named_ranges l)
+accessed_named l sup formed v acc =
+    by_standing l sup acc.at (standing l acc.at) refl v (local_of_home l formed v acc.is_local) acc.range
 
 -- the ranges that a supported listing accesses have 1 to 16 bytes and lie inside their spaces
 pub accessed_inside : (l : Listing) → IsSupported l → IsFormed l → (v : Varnode) → Accesses l [] v → Inside l v
 accessed_inside l sup formed v acc = formed.ranges v (accessed_named l sup formed v acc)
 
 -- any two of them are equal or apart
-pub accessed_apart : (l : Listing) → IsSupported l → IsFormed l → (v w : Varnode) → Accesses l [] v → Accesses l [] w → (v ≡ w) ⊎ named.AreApart v w
+pub accessed_apart : (l : Listing)
+    → IsSupported l
+    → IsFormed l
+    → (v w : Varnode)
+    → Accesses l [] v
+    → Accesses l [] w
+    → (v ≡ w) ⊎ named.AreApart v w
 accessed_apart l sup formed v w a b = sup.ranges v w (accessed_named l sup formed v a) (accessed_named l sup formed w b)

@@ -37,12 +37,16 @@ accessed_equal_or_apart l sup formed v w a b = accessed_apart l sup formed v w a
 
 in_range : (l : Listing) (a : Atom) → IsLocalStorage a.storage → listed.range_of l a ≡ Some (range_of l a)
 in_range l a h = by_storage l a.storage a.size h where
-  by_storage : (l : Listing) (s : ParamStorage) (k : ℕ) → IsLocalStorage s → listed.range_at l s k ≡ Some (range_at l s k)
+  by_storage : (l : Listing) (s : ParamStorage) (k : ℕ)
+      → IsLocalStorage s
+      → listed.range_at l s k ≡ Some (range_at l s k)
   by_storage l (P.Register o) k h = refl
   by_storage l (P.Unique o) k h = refl
   by_storage l (P.Stack o) k h = absurd h
 
-local_storage : (l : Listing) (s : ParamStorage) (k : ℕ) (v : Varnode) → listed.range_at l s k ≡ Some v → IsLocalStorage s × (range_at l s k ≡ v)
+local_storage : (l : Listing) (s : ParamStorage) (k : ℕ) (v : Varnode)
+    → listed.range_at l s k ≡ Some v
+    → IsLocalStorage s × (range_at l s k ≡ v)
 local_storage l (P.Register o) k v h = (tt, cc)
 local_storage l (P.Unique o) k v h = (tt, cc)
 local_storage l (P.Stack o) k v h = absurd (none-some v h)
@@ -64,7 +68,12 @@ known l atoms are a is =
     let Q : Varnode → Type 0 = λ v. Accesses l [] v in
     record { local = y.0; accessed = subst Q (sym y.1) x.1.1 }
 
-narrow_of : (l : Listing) → IsSupported l → IsFormed l → (atoms : List Atom) → ((a : Atom) → IsIn a atoms → Known l a) → AreNarrow atoms
+narrow_of : (l : Listing)
+    → IsSupported l
+    → IsFormed l
+    → (atoms : List Atom)
+    → ((a : Atom) → IsIn a atoms → Known l a)
+    → AreNarrow atoms
 narrow_of l sup formed [] know = tt
 narrow_of l sup formed (a ∷ rest) know =
     let k = know a (inl refl) in
@@ -79,7 +88,9 @@ got_in (x ∷ xs) zero a h = let e : x ≡ a = cc in inl (sym e)
 got_in (x ∷ xs) (suc n) a h = inr (got_in xs n a h)
 
 -- the atom of a variable's range
-mapped : (l : Listing) (atoms : List Atom) (n : ℕ) (v : Varnode) → slice_get (ranges_of l atoms) n ≡ Some v → (a : Atom) × ((slice_get atoms n ≡ Some a) × (v ≡ range_of l a))
+mapped : (l : Listing) (atoms : List Atom) (n : ℕ) (v : Varnode)
+    → slice_get (ranges_of l atoms) n ≡ Some v
+    → (a : Atom) × ((slice_get atoms n ≡ Some a) × (v ≡ range_of l a))
 mapped l [] n v h = absurd (cc)
 mapped l (x ∷ xs) zero v h = let e : range_of l x ≡ v = cc in (x, (refl, sym e))
 mapped l (x ∷ xs) (suc n) v h = mapped l xs n v h
@@ -109,9 +120,14 @@ before_trans (P.Stack a) (P.Stack b) (P.Register c) p q = absurd q
 before_trans (P.Stack a) (P.Stack b) (P.Unique c) p q = absurd q
 before_trans (P.Stack a) (P.Stack b) (P.Stack c) p q = omega (arith, ints, p, q)
 
-first_before : (a : Atom) (rest : List Atom) → InOrder (a ∷ rest) → (b : Atom) → IsIn b rest → StandsBefore a.storage b.storage
+first_before : (a : Atom) (rest : List Atom)
+    → InOrder (a ∷ rest)
+    → (b : Atom)
+    → IsIn b rest
+    → StandsBefore a.storage b.storage
 first_before a [] h b is = absurd is
-first_before a (x ∷ rest) h b (inl e) = let Q : Atom → Type 0 = λ y. StandsBefore a.storage y.storage in subst Q (sym e) h.0
+first_before a (x ∷ rest) h b (inl e) = let Q : Atom → Type 0 = λ y. StandsBefore a.storage y.storage in
+    subst Q (sym e) h.0
 first_before a (x ∷ rest) h b (inr is) = before_trans a.storage x.storage b.storage h.0 (first_before x rest h.1 b is)
 
 order_tail : (a : Atom) (rest : List Atom) → InOrder (a ∷ rest) → InOrder rest
@@ -127,10 +143,12 @@ spaces_differ l formed e =
 
 different : (l : Listing) → IsFormed l → (s t : ParamStorage) (j k : ℕ) → IsLocalStorage s → IsLocalStorage t
     → StandsBefore s t → range_at l s j ≡ range_at l t k → ⊥
-different l formed (P.Register a) (P.Register b) j k x y p e = let f : a ≡ b = ap (λ v. v.offset) e in absurd (omega (arith, p, f))
+different l formed (P.Register a) (P.Register b) j k x y p e = let f : a ≡ b = ap (λ v. v.offset) e in
+    absurd (omega (arith, p, f))
 different l formed (P.Register a) (P.Unique b) j k x y p e = spaces_differ l formed (ap (λ v. v.space) e)
 different l formed (P.Unique a) (P.Register b) j k x y p e = p
-different l formed (P.Unique a) (P.Unique b) j k x y p e = let f : a ≡ b = ap (λ v. v.offset) e in absurd (omega (arith, p, f))
+different l formed (P.Unique a) (P.Unique b) j k x y p e = let f : a ≡ b = ap (λ v. v.offset) e in
+    absurd (omega (arith, p, f))
 different l formed (P.Stack a) t j k x y p e = x
 different l formed s (P.Stack b) j k x y p e = y
 
@@ -158,9 +176,10 @@ distinct l formed (x ∷ xs) local order (suc m) (suc n) a b p q ne e =
 -- ---- the table of variables
 
 same_or_not : (m n : ℕ) → (m ≡ n) ⊎ (m ≢ n)
-same_or_not m n = (elim (m == n) as (λ b. (m == n) ≡ b → (m ≡ n) ⊎ (m ≢ n)) [ true ↦ λ h. inl (equal_numbers m n h) | false ↦ λ h. inr (λ e. absurd (grind (arith, nat_tests))) ]) refl where
-  equal_numbers : (m n : ℕ) → (m == n) ≡ true → m ≡ n
-  equal_numbers m n h = grind (arith, nat_tests)
+same_or_not m n = (elim (m == n) as (λ b. (m == n) ≡ b → (m ≡ n) ⊎ (m ≢ n))
+    [ true ↦ λ h. inl (equal_numbers m n h) | false ↦ λ h. inr (λ e. absurd (grind (arith, nat_tests))) ]) refl where
+      equal_numbers : (m n : ℕ) → (m == n) ≡ true → m ≡ n
+      equal_numbers m n h = grind (arith, nat_tests)
 
 turned : (v w : Varnode) → named.AreApart v w → table.AreApart v w
 turned v w h = elim (same_or_not v.space w.space) [ inl e ↦ inr (h e) | inr ne ↦ inl ne ]
@@ -169,7 +188,12 @@ apart_by : (v w : Varnode) → (v ≡ w → ⊥) → (v ≡ w) ⊎ named.AreApar
 apart_by v w ne (inl e) = absurd (ne e)
 apart_by v w ne (inr h) = turned v w h
 
-table_of : (l : Listing) → IsSupported l → IsFormed l → (atoms : List Atom) → AreAccessed l atoms → IsTable l (ranges_of l atoms)
+table_of : (l : Listing)
+    → IsSupported l
+    → IsFormed l
+    → (atoms : List Atom)
+    → AreAccessed l atoms
+    → IsTable l (ranges_of l atoms)
 table_of l sup formed atoms are = record {
   inside = λ n v h.
       let m = mapped l atoms n v h in
@@ -181,10 +205,14 @@ table_of l sup formed atoms are = record {
       let k = mapped l atoms o w i in
       let a = known l atoms are m.0 (got_in atoms n m.0 m.1.0) in
       let b = known l atoms are k.0 (got_in atoms o k.0 k.1.0) in
-      let differ : range_of l m.0 ≡ range_of l k.0 → ⊥ = λ e. distinct l formed atoms (λ c h. (known l atoms are c h).local) are.listed.in_order n o m.0 k.0 m.1.0 k.1.0 ne e in
+      let differ : range_of l m.0 ≡ range_of l k.0 → ⊥ =
+      λ e. distinct l formed atoms (λ c h. (known l atoms are c h).local) are.listed.in_order n o m.0 k.0 m.1.0
+      k.1.0 ne e in
       let Q : Varnode → Type 0 = λ x. table.AreApart x w in
       let R : Varnode → Type 0 = λ x. table.AreApart (range_of l m.0) x in
-      subst Q (sym m.1.1) (subst R (sym k.1.1) (apart_by (range_of l m.0) (range_of l k.0) differ (accessed_apart l sup formed (range_of l m.0) (range_of l k.0) a.accessed b.accessed)));
+      subst Q (sym m.1.1) (subst R (sym k.1.1)
+      (apart_by (range_of l m.0) (range_of l k.0) differ
+      (accessed_apart l sup formed (range_of l m.0) (range_of l k.0) a.accessed b.accessed)));
 }
 
 in_ranges : (l : Listing) (atoms : List Atom) (a : Atom) → IsIn a atoms → IsIn (range_of l a) (ranges_of l atoms)
@@ -192,7 +220,11 @@ in_ranges l [] a is = absurd is
 in_ranges l (x ∷ xs) a (inl e) = inl (ap (range_of l) e)
 in_ranges l (x ∷ xs) a (inr is) = inr (in_ranges l xs a is)
 
-has_range : (l : Listing) (atoms : List Atom) → AreAccessed l atoms → (v : Varnode) → Accesses l [] v → IsIn v (ranges_of l atoms)
+has_range : (l : Listing) (atoms : List Atom)
+    → AreAccessed l atoms
+    → (v : Varnode)
+    → Accesses l [] v
+    → IsIn v (ranges_of l atoms)
 has_range l atoms are v acc =
     let x = are.listed.all v acc in
     let y = local_storage l x.0.storage x.0.size v x.1.1 in
@@ -200,9 +232,18 @@ has_range l atoms are v acc =
     subst Q y.1 (in_ranges l atoms x.0 x.1.0)
 
 -- All that the theorem of the plain lowering asks for.
-pub plain_form : (l : Listing) → first_bad l ≡ None → IsSupported l → IsFormed l → (blocks : List Block) → IsFlow l [] blocks → NoFault l [] → length blocks ≤ 2048 → (atoms : List Atom) → AreAccessed l atoms → IsPlainForm l [] blocks atoms
+pub plain_form : (l : Listing)
+    → first_bad l ≡ None
+    → IsSupported l
+    → IsFormed l
+    → (blocks : List Block)
+    → IsFlow l [] blocks
+    → NoFault l []
+    → length blocks ≤ 2048
+    → (atoms : List Atom)
+    → AreAccessed l atoms
+    → IsPlainForm l [] blocks atoms
 plain_form l good sup formed blocks flow fine few atoms are = record {
-  callees = sup.callees;
   flow = flow;
   few = omega arith;
   table = table_of l sup formed atoms are;

@@ -33,7 +33,11 @@ pub record Inside (l : Listing) (v : Varnode) : Type 0 where
 
 pub record IsFormed (l : Listing) : Type 0 where
   pub inputs : (i : Instruction) (op : Op) → StandsIn l.code i op → (v : Varnode) → IsIn v op.inputs → IsInput l v
-  pub outputs : (i : Instruction) (op : Op) → StandsIn l.code i op → (v : Varnode) → IsIn v (one_range op.out) → IsWritten l v
+  pub outputs : (i : Instruction) (op : Op)
+      → StandsIn l.code i op
+      → (v : Varnode)
+      → IsIn v (one_range op.out)
+      → IsWritten l v
   pub register : kind_of l (register_space l) ≡ Register
   pub unique : kind_of l (unique_space l) ≡ Unique
   pub ranges : (v : Varnode) → IsIn v (named_ranges l) → Inside l v

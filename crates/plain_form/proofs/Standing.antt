@@ -24,20 +24,28 @@ by_op : (i : Instruction) (o : Option Op) (j : Instruction) (op : Op) → op_in 
 by_op i None j op h = absurd (cc)
 by_op i (Some x) j op h = (cc, let e : x ≡ op = cc in ap Some e)
 
-by_ops : (i : Instruction) (ops : List Op) (n : ℕ) (j : Instruction) (op : Op) → standing_in i ops n ≡ Does j op → (i ≡ j) × IsIn op ops
+by_ops : (i : Instruction) (ops : List Op) (n : ℕ) (j : Instruction) (op : Op)
+    → standing_in i ops n ≡ Does j op
+    → (i ≡ j) × IsIn op ops
 by_ops i [] zero j op h = absurd (cc)
 by_ops i [] (suc n) j op h = absurd (cc)
 by_ops i (x ∷ ops) n j op h = let b = by_op i (slice_get (x ∷ ops) n) j op h in (b.0, got_in (x ∷ ops) n op b.1)
 
-found : (b : Bool) (i : Instruction) (rest : Option Instruction) (j : Instruction) → (if b then Some i else rest) ≡ Some j → (i ≡ j) ⊎ (rest ≡ Some j)
+found : (b : Bool) (i : Instruction) (rest : Option Instruction) (j : Instruction)
+    → (if b then Some i else rest) ≡ Some j
+    → (i ≡ j) ⊎ (rest ≡ Some j)
 found true i rest j h = inl (cc)
 found false i rest j h = inr h
 
 in_code : (code : List Instruction) (a : ℕ) (i : Instruction) → instruction_in code a ≡ Some i → IsIn i code
 in_code [] a i h = absurd (cc)
-in_code (x ∷ code) a i h = elim (found (x.address == a) x (instruction_in code a) i h) [ inl e ↦ inl (sym e) | inr more ↦ inr (in_code code a i more) ]
+in_code (x ∷ code) a i h = elim (found (x.address == a) x (instruction_in code a) i h)
+    [ inl e ↦ inl (sym e) | inr more ↦ inr (in_code code a i more) ]
 
-of_option : (code : List Instruction) (o : Option Instruction) (n : ℕ) (j : Instruction) (op : Op) → ((i : Instruction) → o ≡ Some i → IsIn i code) → standing_of o n ≡ Does j op → StandsIn code j op
+of_option : (code : List Instruction) (o : Option Instruction) (n : ℕ) (j : Instruction) (op : Op)
+    → ((i : Instruction) → o ≡ Some i → IsIn i code)
+    → standing_of o n ≡ Does j op
+    → StandsIn code j op
 of_option code None n j op found h = absurd (cc)
 of_option code (Some i) n j op found h =
     let b = by_ops i i.ops n j op h in
@@ -46,18 +54,29 @@ of_option code (Some i) n j op found h =
     record { code_has = subst P b.0 (found i refl); ops_have = subst Q b.0 b.1 }
 
 pub stands_in : (l : Listing) (p : Place) (i : Instruction) (op : Op) → standing l p ≡ Does i op → StandsIn l.code i op
-stands_in l p i op h = of_option l.code (instruction_in l.code p.address) p.index i op (λ j e. in_code l.code p.address j e) h
+stands_in l p i op h = of_option l.code (instruction_in l.code p.address) p.index i op
+    (λ j e. in_code l.code p.address j e) h
 
 -- ---- what the tests say of an op
 
-supported_op : (l : Listing) (ops : List Op) → are_supported_ops l ops ≡ true → (op : Op) → IsIn op ops → is_supported_op l op ≡ true
+supported_op : (l : Listing) (ops : List Op)
+    → are_supported_ops l ops ≡ true
+    → (op : Op)
+    → IsIn op ops
+    → is_supported_op l op ≡ true
 supported_op l [] h op is = absurd is
-supported_op l (x ∷ ops) h op (inl e) = let P : Op → Type 0 = λ y. is_supported_op l y ≡ true in subst P (sym e) (and_parts _ _ h).0
+supported_op l (x ∷ ops) h op (inl e) = let P : Op → Type 0 = λ y. is_supported_op l y ≡ true in
+    subst P (sym e) (and_parts _ _ h).0
 supported_op l (x ∷ ops) h op (inr is) = supported_op l ops (and_parts _ _ h).1 op is
 
-pub supported_in : (l : Listing) (code : List Instruction) → is_supported_code_of l code ≡ true → (i : Instruction) (op : Op) → StandsIn code i op → is_supported_op l op ≡ true
+pub supported_in : (l : Listing) (code : List Instruction)
+    → is_supported_code_of l code ≡ true
+    → (i : Instruction) (op : Op)
+    → StandsIn code i op
+    → is_supported_op l op ≡ true
 supported_in l [] h i op s = absurd s.code_has
 supported_in l (x ∷ code) h i op s = elim s.code_has [
-  | inl e ↦ let P : Instruction → Type 0 = λ y. IsIn op y.ops in supported_op l x.ops (and_parts _ _ h).0 op (subst P e s.ops_have)
+  | inl e ↦ let P : Instruction → Type 0 = λ y. IsIn op y.ops in
+      supported_op l x.ops (and_parts _ _ h).0 op (subst P e s.ops_have)
   | inr is ↦ supported_in l code (and_parts _ _ h).1 i op (record { code_has = is; ops_have = s.ops_have })
 ]

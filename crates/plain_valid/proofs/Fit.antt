@@ -86,7 +86,9 @@ module _ (l : Listing) (ws : ℕ → ℕ) where
   BlocksFit [] = Unit {0}
   BlocksFit (x ∷ xs) = Fit x.body × BlocksFit xs
 
-  blocks_fit : (labels : List (Option ℕ)) (n : ℕ) (blocks : List Block) → BlocksFit blocks → Fit (laid_from labels n blocks)
+  blocks_fit : (labels : List (Option ℕ)) (n : ℕ) (blocks : List Block)
+      → BlocksFit blocks
+      → Fit (laid_from labels n blocks)
   blocks_fit labels n [] h = refl
   blocks_fit labels n (x ∷ xs) h =
       let ex = exit_lines labels (suc n) x.exit in

@@ -22,11 +22,13 @@ module _
     within_long : (s r : ParamStorage) (size m d : ℕ) → 0 < size
         → area_of s ≡ area_of r → offset_of s ≡ offset_of r +ℤ pos d → d + size ≤ m
         → IsAccessed l t no_variables (range r m) → IsLong s
-    within_long (P.Register o) (P.Register p) size m d some area at fits acc = omega (arith, ints, some, at, fits, low _ acc)
+    within_long (P.Register o) (P.Register p) size m d some area at fits acc =
+        omega (arith, ints, some, at, fits, low _ acc)
     within_long (P.Register o) (P.Unique p) size m d some area at fits acc = absurd (cc)
     within_long (P.Register o) (P.Stack p) size m d some area at fits acc = absurd acc.1.0
     within_long (P.Unique o) (P.Register p) size m d some area at fits acc = absurd (cc)
-    within_long (P.Unique o) (P.Unique p) size m d some area at fits acc = omega (arith, ints, some, at, fits, low _ acc)
+    within_long (P.Unique o) (P.Unique p) size m d some area at fits acc =
+        omega (arith, ints, some, at, fits, low _ acc)
     within_long (P.Unique o) (P.Stack p) size m d some area at fits acc = absurd acc.1.0
     within_long (P.Stack o) (P.Register p) size m d some area at fits acc = absurd (cc)
     within_long (P.Stack o) (P.Unique p) size m d some area at fits acc = absurd (cc)

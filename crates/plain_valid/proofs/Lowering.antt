@@ -34,6 +34,7 @@ use Rattle.plaincode.proofs.Nodes.{nearest_is}
 use Rattle.plain_valid.proofs.Shapes.{AllBelow, Fits, variable_fits, constant_fits, unary_fits, binary_fits}
 use Rattle.plain_valid.proofs.Statements.{AreQuiet, quiet_none, quiet_append, quiet_one, assign_obeys, in_assign}
 use Rattle.plain_valid.proofs.Lines.{ExitSuits, BlocksSuit}
+use Rattle.plaincode.proofs.Members.{in_front, behind}
 use Rattle.plaincode.proofs.Operands.{output_in}
 
 -- a range's variable is a parameter of its width
@@ -48,19 +49,33 @@ pub record Setting (l : Listing) (ranges : List Varnode) (f : CFunction) : Type 
 
 -- ---- operands
 
-range_fits : (l : Listing) (ranges : List Varnode) (f : CFunction) → Setting l ranges f → (v : Varnode) → IsNarrow v → IsIn v ranges → Fits (widths_in f) (length f.params) (E.Var (variable_of ranges v)) v.size 1
-range_fits l ranges f set v narrow h =
-    let p = set.parameters v h in
-    variable_fits (widths_in f) (length f.params) (variable_of ranges v) v.size p.within set.few p.width narrow.0
+module _
+    (l : Listing)
+    (ranges : List Varnode)
+    (f : CFunction)
+    (set : Setting l ranges f)
+  where
+    range_fits : (v : Varnode)
+        → IsNarrow v
+        → IsIn v ranges
+        → Fits (widths_in f) (length f.params) (E.Var (variable_of ranges v)) v.size 1
+    range_fits v narrow h =
+        let p = set.parameters v h in
+        variable_fits (widths_in f) (length f.params) (variable_of ranges v) v.size p.within set.few p.width narrow.0
 
-operand_by_fits : (l : Listing) (ranges : List Varnode) (f : CFunction) → Setting l ranges f → (k : SpaceKind) (v : Varnode) → IsNarrow v → IsOperandBy k ranges v → Fits (widths_in f) (length f.params) (operand_by k ranges v) v.size 1
-operand_by_fits l ranges f set Constant v narrow h = constant_fits (widths_in f) (length f.params) v.size v.offset narrow.0 narrow.1
-operand_by_fits l ranges f set Ram v narrow h = absurd h
-operand_by_fits l ranges f set Register v narrow h = range_fits l ranges f set v narrow h
-operand_by_fits l ranges f set Unique v narrow h = range_fits l ranges f set v narrow h
+    operand_by_fits : (k : SpaceKind) (v : Varnode)
+        → IsNarrow v
+        → IsOperandBy k ranges v
+        → Fits (widths_in f) (length f.params) (operand_by k ranges v) v.size 1
+    operand_by_fits Constant v narrow h = constant_fits (widths_in f) (length f.params) v.size v.offset narrow.0 narrow.1
+    operand_by_fits Ram v narrow h = absurd h
+    operand_by_fits Register v narrow h = range_fits v narrow h
+    operand_by_fits Unique v narrow h = range_fits v narrow h
 
-operand_fits : (l : Listing) (ranges : List Varnode) (f : CFunction) → Setting l ranges f → (v : Varnode) → IsOperand l ranges v → Fits (widths_in f) (length f.params) (operand l ranges v) v.size 1
-operand_fits l ranges f set v h = operand_by_fits l ranges f set (kind_of l v.space) v h.0 h.1
+    operand_fits : (v : Varnode)
+        → IsOperand l ranges v
+        → Fits (widths_in f) (length f.params) (operand l ranges v) v.size 1
+    operand_fits v h = operand_by_fits (kind_of l v.space) v h.0 h.1
 
 output_operand : (k : SpaceKind) (ranges : List Varnode) (z : Varnode) → IsOutputBy k ranges z → IsOperandBy k ranges z
 output_operand Constant ranges z h = absurd h
@@ -73,116 +88,180 @@ output_operand Unique ranges z h = h
 has_its_width : (o : Option Shape) (s : Shape) (w : ℕ) → o ≡ Some s → s.width ≡ w → has_width w o ≡ true
 has_its_width o s w is same = ap (has_width w) is ∙ (let t : (s.width == w) ≡ true = grind (arith, nat_tests) in t)
 
-assigned : (ws : ℕ → ℕ) (v w : ℕ) (o : Option Shape) → v < 2 ^ 32 → ws v ≡ w → 0 < w → has_width w o ≡ true → is_assigned ws v o ≡ true
+assigned : (ws : ℕ → ℕ) (v w : ℕ) (o : Option Shape)
+    → v < 2 ^ 32
+    → ws v ≡ w
+    → 0 < w
+    → has_width w o ≡ true
+    → is_assigned ws v o ≡ true
 assigned ws v w o few is some wide =
     let t : is_variable ws v ≡ true = grind (arith, nat_tests) in
     ap (λ b. b && has_width (ws v) o) t ∙ ap (λ k. has_width k o) is ∙ wide
 
-assign_quiet : (l : Listing) (ranges : List Varnode) (f : CFunction) (labels : ℕ) → Setting l ranges f → (z : Varnode) (e : Expr) → IsOutput l ranges z → Fits (widths_in f) (length f.params) e z.size 3 → AreQuiet f labels (S.Assign (variable_of ranges z) e ∷ [])
-assign_quiet l ranges f labels set z e out fits =
-    let p = set.parameters z (output_in (kind_of l z.space) ranges z out.1) in
-    let wide = has_its_width (shape_of (widths_in f) e) fits.shape z.size fits.is fits.width in
-    quiet_one f labels (S.Assign (variable_of ranges z) e) (Variable (variable_of ranges z) ∷ in_expr e)
-    (assign_obeys f labels (variable_of ranges z) e (assigned (widths_in f) (variable_of ranges z) z.size (shape_of (widths_in f) e) (omega (arith, p.within, set.few)) p.width (out.0).0 wide))
-    (in_assign (variable_of ranges z) e) (p.within, fits.mentions)
+module _
+    (l : Listing)
+    (ranges : List Varnode)
+    (f : CFunction)
+    (labels : ℕ)
+    (set : Setting l ranges f)
+  where
+    assign_quiet : (z : Varnode) (e : Expr)
+        → IsOutput l ranges z
+        → Fits (widths_in f) (length f.params) e z.size 3
+        → AreQuiet f labels (S.Assign (variable_of ranges z) e ∷ [])
+    assign_quiet z e out fits =
+        let p = set.parameters z (output_in (kind_of l z.space) ranges z out.1) in
+        let wide = has_its_width (shape_of (widths_in f) e) fits.shape z.size fits.is fits.width in
+        quiet_one f labels (S.Assign (variable_of ranges z) e) (Variable (variable_of ranges z) ∷ in_expr e)
+        (assign_obeys f labels (variable_of ranges z) e
+        (assigned (widths_in f) (variable_of ranges z) z.size (shape_of (widths_in f) e)
+        (omega (arith, p.within, set.few)) p.width (out.0).0 wide))
+        (in_assign (variable_of ranges z) e) (p.within, fits.mentions)
 
-op_quiet : (l : Listing) (ranges : List Varnode) (f : CFunction) (labels : ℕ) → Setting l ranges f → (code : Opcode) (out : Option Varnode) (vs : List Varnode) → IsPlainOp l ranges code out vs → AreQuiet f labels (op_statements l ranges code out vs)
-op_quiet l ranges f labels set (O.Unary op) (Some z) (x ∷ []) h =
-    assign_quiet l ranges f labels set z (unary_node op z.size (operand l ranges x)) h.1.1
-    (unary_fits op (widths_in f) (length f.params) x.size z.size (operand l ranges x) h.0 ((h.1.1).0).0 ((h.1.1).0).1 (operand_fits l ranges f set x h.1.0))
-op_quiet l ranges f labels set (O.Binary op) (Some z) (x ∷ y ∷ []) h =
-    assign_quiet l ranges f labels set z (binary_node op (operand l ranges x) (operand l ranges y)) h.1.1
-    (binary_fits op (widths_in f) (length f.params) x.size y.size z.size (operand l ranges x) (operand l ranges y) h.0.0 h.0.1 ((h.1.1).0).1 (operand_fits l ranges f set x (h.1.0).0) (operand_fits l ranges f set y (h.1.0).1))
-op_quiet l ranges f labels set O.Branch None (to ∷ []) h = quiet_none f labels
-op_quiet l ranges f labels set O.CBranch None (to ∷ x ∷ []) h = quiet_none f labels
-op_quiet l ranges f labels set O.Return None (to ∷ []) h = quiet_none f labels
-op_quiet l ranges f labels set code out vs h = absurd h
+    op_quiet : (code : Opcode) (out : Option Varnode) (vs : List Varnode)
+        → IsPlainOp l ranges code out vs
+        → AreQuiet f labels (op_statements l ranges code out vs)
+    op_quiet (O.Unary op) (Some z) (x ∷ []) h =
+        assign_quiet z (unary_node op z.size (operand l ranges x)) h.1.1
+        (unary_fits op (widths_in f) (length f.params) x.size z.size (operand l ranges x) h.0 ((h.1.1).0).0
+        ((h.1.1).0).1 (operand_fits l ranges f set x h.1.0))
+    op_quiet (O.Binary op) (Some z) (x ∷ y ∷ []) h =
+        assign_quiet z (binary_node op (operand l ranges x) (operand l ranges y)) h.1.1
+        (binary_fits op (widths_in f) (length f.params) x.size y.size z.size (operand l ranges x) (operand l ranges y)
+        h.0.0 h.0.1 ((h.1.1).0).1 (operand_fits l ranges f set x (h.1.0).0) (operand_fits l ranges f set y (h.1.0).1))
+    op_quiet O.Branch None (to ∷ []) h = quiet_none f labels
+    op_quiet O.CBranch None (to ∷ x ∷ []) h = quiet_none f labels
+    op_quiet O.Return None (to ∷ []) h = quiet_none f labels
+    op_quiet code out vs h = absurd h
 
-here_quiet : (l : Listing) (ranges : List Varnode) (f : CFunction) (labels : ℕ) → Setting l ranges f → (here : Standing) → IsPlain l ranges here → AreQuiet f labels (statements_in l ranges here)
-here_quiet l ranges f labels set Nothing h = absurd h
-here_quiet l ranges f labels set (Passes i) h = quiet_none f labels
-here_quiet l ranges f labels set (Does i op) h = op_quiet l ranges f labels set op.code op.out op.inputs h
+    here_quiet : (here : Standing) → IsPlain l ranges here → AreQuiet f labels (statements_in l ranges here)
+    here_quiet Nothing h = absurd h
+    here_quiet (Passes i) h = quiet_none f labels
+    here_quiet (Does i op) h = op_quiet op.code op.out op.inputs h
 
-body_quiet : (l : Listing) (ranges : List Varnode) (f : CFunction) (labels : ℕ) → Setting l ranges f → (ps : List Place) → ((q : Place) → IsIn q ps → IsPlain l ranges (standing l q)) → AreQuiet f labels (body_of l ranges ps)
-body_quiet l ranges f labels set [] plain = quiet_none f labels
-body_quiet l ranges f labels set (p ∷ ps) plain = quiet_append f labels (statements l ranges p) (body_of l ranges ps) (here_quiet l ranges f labels set (standing l p) (plain p (inl refl))) (body_quiet l ranges f labels set ps (λ q h. plain q (inr h)))
+    body_quiet : (ps : List Place)
+        → ((q : Place) → IsIn q ps → IsPlain l ranges (standing l q))
+        → AreQuiet f labels (body_of l ranges ps)
+    body_quiet [] plain = quiet_none f labels
+    body_quiet (p ∷ ps) plain = quiet_append f labels (statements l ranges p) (body_of l ranges ps)
+        (here_quiet (standing l p) (plain p (inl refl))) (body_quiet ps (λ q h. plain q (inr h)))
 
 -- ---- exits
 
-jump_suits : (l : Listing) (ranges : List Varnode) (f : CFunction) (here : Standing) (starts : List Place) (to : Option Place) (e : flow_exit.Exit) → JumpsTo starts to e → ExitSuits f (exit_by l ranges here e)
-jump_suits l ranges f here starts to F.Return h = absurd h
-jump_suits l ranges f here starts to (F.Jump n) h = tt
-jump_suits l ranges f here starts to (F.Test m n) h = absurd h
-jump_suits l ranges f here starts to (F.Switch t ns) h = absurd h
-jump_suits l ranges f here starts to F.Stop h = absurd h
+module _
+    (l : Listing)
+    (ranges : List Varnode)
+    (f : CFunction)
+    (set : Setting l ranges f)
+  where
+    jump_suits : (here : Standing) (starts : List Place) (to : Option Place) (e : flow_exit.Exit)
+        → JumpsTo starts to e
+        → ExitSuits f (exit_by l ranges here e)
+    jump_suits here starts to F.Return h = absurd h
+    jump_suits here starts to (F.Jump n) h = tt
+    jump_suits here starts to (F.Test m n) h = absurd h
+    jump_suits here starts to (F.Switch t ns) h = absurd h
+    jump_suits here starts to F.Stop h = absurd h
 
-leaf_condition : (o : Option Shape) (s : Shape) → o ≡ Some s → s.depth ≤ 1 → is_condition o ≡ true
-leaf_condition o s is deep = ap is_condition is ∙ by s.comparison where
-  by : (b : Bool) → cond b true (nat_lt s.depth 64) ≡ true
-  by true = refl
-  by false = grind (arith, nat_tests)
+    leaf_condition : (o : Option Shape) (s : Shape) → o ≡ Some s → s.depth ≤ 1 → is_condition o ≡ true
+    leaf_condition o s is deep = ap is_condition is ∙ by s.comparison where
+      by : (b : Bool) → cond b true (nat_lt s.depth 64) ≡ true
+      by true = refl
+      by false = grind (arith, nat_tests)
 
-test_if : (f : CFunction) (c : Expr) (a b : ℕ) (same : Bool) → (is_condition (shape_of (widths_in f) c) ≡ true) × AllBelow (length f.params) (in_expr c) → ExitSuits f (cond same (X.Jump a) (X.Test c a b))
-test_if f c a b true h = tt
-test_if f c a b false h = h
+    test_if : (c : Expr) (a b : ℕ) (same : Bool)
+        → (is_condition (shape_of (widths_in f) c) ≡ true) × AllBelow (length f.params) (in_expr c)
+        → ExitSuits f (cond same (X.Jump a) (X.Test c a b))
+    test_if c a b true h = tt
+    test_if c a b false h = h
 
-test_suits : (l : Listing) (ranges : List Varnode) (f : CFunction) (here : Standing) (starts : List Place) (to next : Option Place) (e : flow_exit.Exit) → (is_condition (shape_of (widths_in f) (condition_in l ranges here)) ≡ true) × AllBelow (length f.params) (in_expr (condition_in l ranges here)) → TestsTo starts to next e → ExitSuits f (exit_by l ranges here e)
-test_suits l ranges f here starts to next F.Return c h = absurd h
-test_suits l ranges f here starts to next (F.Jump n) c h = absurd h
-test_suits l ranges f here starts to next (F.Test m n) c h = test_if f (condition_in l ranges here) m n (m == n) c
-test_suits l ranges f here starts to next (F.Switch t ns) c h = absurd h
-test_suits l ranges f here starts to next F.Stop c h = absurd h
+    test_suits : (here : Standing) (starts : List Place) (to next : Option Place) (e : flow_exit.Exit)
+        → (is_condition (shape_of (widths_in f) (condition_in l ranges here)) ≡ true)
+        × AllBelow (length f.params) (in_expr (condition_in l ranges here))
+        → TestsTo starts to next e
+        → ExitSuits f (exit_by l ranges here e)
+    test_suits here starts to next F.Return c h = absurd h
+    test_suits here starts to next (F.Jump n) c h = absurd h
+    test_suits here starts to next (F.Test m n) c h = test_if (condition_in l ranges here) m n (m == n) c
+    test_suits here starts to next (F.Switch t ns) c h = absurd h
+    test_suits here starts to next F.Stop c h = absurd h
 
--- the result, if there is one, has the width of the function's result
-result_suits : (l : Listing) (ranges : List Varnode) (f : CFunction) → Setting l ranges f → (o : Option Varnode) → IsResult l ranges o → (is_returned (widths_in f) (width_of_result o) (result_in l ranges o) ≡ true) × AllBelow (length f.params) (in_option (result_in l ranges o))
-result_suits l ranges f set None h = (refl, tt)
-result_suits l ranges f set (Some v) h =
-    let fits = operand_fits l ranges f set v (h.0, output_operand (kind_of l v.space) ranges v h.1) in
-    (has_its_width (shape_of (widths_in f) (operand l ranges v)) fits.shape (nearest v.size) fits.is (fits.width ∙ sym (nearest_is v.size (h.0).0 (h.0).1)), fits.mentions)
+    -- the result, if there is one, has the width of the function's result
+    result_suits : (o : Option Varnode)
+        → IsResult l ranges o
+        → (is_returned (widths_in f) (width_of_result o) (result_in l ranges o) ≡ true)
+        × AllBelow (length f.params) (in_option (result_in l ranges o))
+    result_suits None h = (refl, tt)
+    result_suits (Some v) h =
+        let fits = operand_fits l ranges f set v (h.0, output_operand (kind_of l v.space) ranges v h.1) in (
+          has_its_width (shape_of (widths_in f) (operand l ranges v)) fits.shape (nearest v.size) fits.is
+              (fits.width ∙ sym (nearest_is v.size (h.0).0 (h.0).1)),
+          fits.mentions,
+        )
 
-return_suits : (l : Listing) (ranges : List Varnode) (f : CFunction) (here : Standing) → Setting l ranges f → IsResult l ranges (proto_of l None).gives → (e : flow_exit.Exit) → e ≡ F.Return → ExitSuits f (exit_by l ranges here e)
-return_suits l ranges f here set h e is =
-    let r = result_suits l ranges f set (proto_of l None).gives h in
-    let returned : is_returned (widths_in f) f.gives (result l ranges) ≡ true = ap (λ g. is_returned (widths_in f) g (result l ranges)) set.gives ∙ r.0 in
-    let P : flow_exit.Exit → Type 0 = λ x. ExitSuits f (exit_by l ranges here x) in
-    subst P (sym is) (returned, r.1)
+    return_suits : (here : Standing)
+        → IsResult l ranges (proto_of l None).gives
+        → (e : flow_exit.Exit)
+        → e ≡ F.Return
+        → ExitSuits f (exit_by l ranges here e)
+    return_suits here h e is =
+        let r = result_suits (proto_of l None).gives h in
+        let returned : is_returned (widths_in f) f.gives (result l ranges) ≡ true =
+        ap (λ g. is_returned (widths_in f) g (result l ranges)) set.gives ∙ r.0 in
+        let P : flow_exit.Exit → Type 0 = λ x. ExitSuits f (exit_by l ranges here x) in
+        subst P (sym is) (returned, r.1)
 
-op_suits : (l : Listing) (ranges : List Varnode) (f : CFunction) (t : List TableAt) (starts : List Place) (p : Place) (here : Standing) → Setting l ranges f → (code : Opcode) (out : Option Varnode) (vs : List Varnode) (e : flow_exit.Exit) → condition_in l ranges here ≡ operand l ranges (varnode_at vs 1) → IsPlainOp l ranges code out vs → LeavesBy t starts p here (turn_of l code vs) e → ExitSuits f (exit_by l ranges here e)
-op_suits l ranges f t starts p here set (O.Unary op) out vs e is h by = jump_suits l ranges f here starts (next_in here p.index) e by
-op_suits l ranges f t starts p here set (O.Binary op) out vs e is h by = jump_suits l ranges f here starts (next_in here p.index) e by
-op_suits l ranges f t starts p here set O.Branch None (to ∷ []) e is h by = jump_suits l ranges f here starts _ e by
-op_suits l ranges f t starts p here set O.CBranch None (to ∷ c ∷ []) e is h by =
-    let fits = operand_fits l ranges f set c h.1 in
-    let P : Expr → Type 0 = λ x. (is_condition (shape_of (widths_in f) x) ≡ true) × AllBelow (length f.params) (in_expr x) in
-    test_suits l ranges f here starts _ _ e (subst P (sym is) (leaf_condition (shape_of (widths_in f) (operand l ranges c)) fits.shape fits.is fits.depth, fits.mentions)) by
-op_suits l ranges f t starts p here set O.Return None (to ∷ []) e is h by = return_suits l ranges f here set h.1 e by
-op_suits l ranges f t starts p here set code out vs e is h by = absurd h
+    op_suits : (t : List TableAt) (starts : List Place) (p : Place) (here : Standing)
+        → (code : Opcode) (out : Option Varnode) (vs : List Varnode) (e : flow_exit.Exit)
+        → condition_in l ranges here ≡ operand l ranges (varnode_at vs 1)
+        → IsPlainOp l ranges code out vs
+        → LeavesBy t starts p here (turn_of l code vs) e
+        → ExitSuits f (exit_by l ranges here e)
+    op_suits t starts p here (O.Unary op) out vs e is h by = jump_suits here starts (next_in here p.index) e by
+    op_suits t starts p here (O.Binary op) out vs e is h by = jump_suits here starts (next_in here p.index) e by
+    op_suits t starts p here O.Branch None (to ∷ []) e is h by = jump_suits here starts _ e by
+    op_suits t starts p here O.CBranch None (to ∷ c ∷ []) e is h by =
+        let fits = operand_fits l ranges f set c h.1 in
+        let P : Expr → Type 0 = λ x. (is_condition (shape_of (widths_in f) x) ≡ true)
+        × AllBelow (length f.params) (in_expr x) in
+        test_suits here starts _ _ e (subst P (sym is)
+        (leaf_condition (shape_of (widths_in f) (operand l ranges c)) fits.shape fits.is fits.depth, fits.mentions))
+        by
+    op_suits t starts p here O.Return None (to ∷ []) e is h by = return_suits here h.1 e by
+    op_suits t starts p here code out vs e is h by = absurd h
 
-here_suits : (l : Listing) (ranges : List Varnode) (f : CFunction) (t : List TableAt) (starts : List Place) (p : Place) (here : Standing) → Setting l ranges f → (e : flow_exit.Exit) → IsPlain l ranges here → LeavesBy t starts p here (turn_in l here) e → ExitSuits f (exit_by l ranges here e)
-here_suits l ranges f t starts p Nothing set e h by = absurd h
-here_suits l ranges f t starts p (Passes i) set e h by = jump_suits l ranges f (Passes i) starts (next_in (Passes i) p.index) e by
-here_suits l ranges f t starts p (Does i op) set e h by = op_suits l ranges f t starts p (Does i op) set op.code op.out op.inputs e refl h by
+    here_suits : (t : List TableAt) (starts : List Place) (p : Place) (here : Standing)
+        → (e : flow_exit.Exit)
+        → IsPlain l ranges here
+        → LeavesBy t starts p here (turn_in l here) e
+        → ExitSuits f (exit_by l ranges here e)
+    here_suits t starts p Nothing e h by = absurd h
+    here_suits t starts p (Passes i) e h by = jump_suits (Passes i) starts (next_in (Passes i) p.index) e by
+    here_suits t starts p (Does i op) e h by = op_suits t starts p (Does i op) op.code op.out op.inputs e refl h by
 
-exit_suits : (l : Listing) (ranges : List Varnode) (f : CFunction) (t : List TableAt) (starts : List Place) → Setting l ranges f → (ps : List Place) (e : flow_exit.Exit) → ((q : Place) → IsIn q ps → IsPlain l ranges (standing l q)) → RunsBlock l t starts ps e → ExitSuits f (exit_of l ranges ps e)
-exit_suits l ranges f t starts set [] e plain runs = absurd runs
-exit_suits l ranges f t starts set (p ∷ []) e plain runs = here_suits l ranges f t starts p (standing l p) set e (plain p (inl refl)) runs
-exit_suits l ranges f t starts set (p ∷ q ∷ ps) e plain runs = exit_suits l ranges f t starts set (q ∷ ps) e (λ r h. plain r (inr h)) runs.1
+    exit_suits : (t : List TableAt) (starts : List Place)
+        → (ps : List Place) (e : flow_exit.Exit)
+        → ((q : Place) → IsIn q ps → IsPlain l ranges (standing l q))
+        → RunsBlock l t starts ps e
+        → ExitSuits f (exit_of l ranges ps e)
+    exit_suits t starts [] e plain runs = absurd runs
+    exit_suits t starts (p ∷ []) e plain runs = here_suits t starts p (standing l p) e (plain p (inl refl)) runs
+    exit_suits t starts (p ∷ q ∷ ps) e plain runs = exit_suits t starts (q ∷ ps) e (λ r h. plain r (inr h)) runs.1
 
 -- ---- blocks
 
-in_first : {A : Type 0} (x : A) (xs ys : List A) → IsIn x xs → IsIn x (xs ++ ys)
-in_first x [] ys h = absurd h
-in_first x (y ∷ xs) ys (inl e) = inl e
-in_first x (y ∷ xs) ys (inr h) = inr (in_first x xs ys h)
-
-in_second : {A : Type 0} (x : A) (xs ys : List A) → IsIn x ys → IsIn x (xs ++ ys)
-in_second x [] ys h = h
-in_second x (y ∷ xs) ys h = inr (in_second x xs ys h)
-
-pub blocks_suit : (l : Listing) (ranges : List Varnode) (f : CFunction) (labels : ℕ) (t : List TableAt) (starts : List Place) → Setting l ranges f → (blocks : List flow_block.Block) → ((q : Place) → IsIn q (places_of blocks) → IsPlain l ranges (standing l q)) → AllRun l t starts blocks → BlocksSuit f labels (map (block_of l ranges) blocks)
+pub blocks_suit : (l : Listing) (ranges : List Varnode) (f : CFunction) (labels : ℕ) (t : List TableAt)
+    (starts : List Place)
+    → Setting l ranges f
+    → (blocks : List flow_block.Block)
+    → ((q : Place) → IsIn q (places_of blocks) → IsPlain l ranges (standing l q))
+    → AllRun l t starts blocks
+    → BlocksSuit f labels (map (block_of l ranges) blocks)
 blocks_suit l ranges f labels t starts set [] plain all = tt
 blocks_suit l ranges f labels t starts set (b ∷ blocks) plain all =
-    let here : (q : Place) → IsIn q b.places → IsPlain l ranges (standing l q) = λ q h. plain q (in_first q b.places (places_of blocks) h) in (
-      (body_quiet l ranges f labels set b.places here, exit_suits l ranges f t starts set b.places b.exit here all.0),
-      blocks_suit l ranges f labels t starts set blocks (λ q h. plain q (in_second q b.places (places_of blocks) h)) all.1,
+    let here : (q : Place) → IsIn q b.places → IsPlain l ranges (standing l q) =
+    λ q h. plain q (in_front b.places (places_of blocks) q h) in (
+      (body_quiet l ranges f labels set b.places here, exit_suits l ranges f set t starts b.places b.exit here all.0),
+      blocks_suit l ranges f labels t starts set blocks (λ q h. plain q (behind b.places (places_of blocks) q h))
+          all.1,
     )

@@ -61,50 +61,82 @@ pub record Fits (ws : ℕ → ℕ) (n : ℕ) (e : Expr) (w d : ℕ) : Type 0 whe
   pub depth : shape.depth ≤ d
   pub mentions : AllBelow n (in_expr e)
 
-shape_layer : (ws : ℕ → ℕ) (e : Expr) (l : Expr-F Expr) → roll-Expr l ≡ e → shape_of ws e ≡ shape_step ws (map-Expr Expr (Option Shape) (shape_of ws) l)
+shape_layer : (ws : ℕ → ℕ) (e : Expr) (l : Expr-F Expr)
+    → roll-Expr l ≡ e
+    → shape_of ws e ≡ shape_step ws (map-Expr Expr (Option Shape) (shape_of ws) l)
 unfolding shape_of
 shape_layer ws e l is = ap (shape_of ws) (sym is) ∙ fold-roll-Expr (Option Shape) (shape_step ws) l
 
 abbrev node : ℕ → ℕ → Bool → Shape
 node w depth comparison = record { width = w; depth = depth + 1; constant = None; comparison = comparison }
 
-above_is : (right : Bool) (w depth : ℕ) (comparison : Bool) → right ≡ true → depth < 64 → above right w depth comparison ≡ Some (node w depth comparison)
+above_is : (right : Bool) (w depth : ℕ) (comparison : Bool)
+    → right ≡ true
+    → depth < 64
+    → above right w depth comparison ≡ Some (node w depth comparison)
 above_is right w depth comparison r d =
     let t : (right && nat_lt depth 64) ≡ true = grind (arith, nat_tests) in
     ap (λ b. cond b (Some (node w depth comparison)) None) t
 
 -- over one operand
-one : (ws : ℕ → ℕ) (n : ℕ) (c e : Expr) (right : ℕ → Bool) (w : ℕ → ℕ) (v d : ℕ) → shape_of ws c ≡ one_shape right w (shape_of ws e) → in_expr c ≡ in_expr e → Fits ws n e v d → right v ≡ true → d < 64 → Fits ws n c (w v) (suc d)
+one : (ws : ℕ → ℕ) (n : ℕ) (c e : Expr) (right : ℕ → Bool) (w : ℕ → ℕ) (v d : ℕ)
+    → shape_of ws c ≡ one_shape right w (shape_of ws e)
+    → in_expr c ≡ in_expr e
+    → Fits ws n e v d
+    → right v ≡ true
+    → d < 64
+    → Fits ws n c (w v) (suc d)
 one ws n c e right w v d is same f r small =
     let s = f.shape in
     let deep : s.depth < 64 = omega (arith, f.depth, small) in
     record {
       shape = node (w s.width) s.depth false;
-      is = is ∙ ap (one_shape right w) f.is ∙ above_is (right s.width) (w s.width) s.depth false (ap right f.width ∙ r) deep;
+      is = is ∙ ap (one_shape right w) f.is
+          ∙ above_is (right s.width) (w s.width) s.depth false (ap right f.width ∙ r) deep;
       width = ap w f.width;
       depth = omega (arith, f.depth);
       mentions = subst (AllBelow n) (sym same) f.mentions;
     }
 
 -- over two
-two : (ws : ℕ → ℕ) (n : ℕ) (c a b : Expr) (right : Shape → Shape → Bool) (w : ℕ → ℕ → ℕ) (comparison : Bool) (u v : ℕ) → shape_of ws c ≡ two_shape right w comparison (shape_of ws a) (shape_of ws b) → in_expr c ≡ in_expr a ++ in_expr b → Fits ws n a u 1 → Fits ws n b v 1 → ((x y : Shape) → x.width ≡ u → y.width ≡ v → right x y ≡ true) → Fits ws n c (w u v) 2
+two : (ws : ℕ → ℕ) (n : ℕ) (c a b : Expr) (right : Shape → Shape → Bool) (w : ℕ → ℕ → ℕ) (comparison : Bool) (u v : ℕ)
+    → shape_of ws c ≡ two_shape right w comparison (shape_of ws a) (shape_of ws b)
+    → in_expr c ≡ in_expr a ++ in_expr b
+    → Fits ws n a u 1
+    → Fits ws n b v 1
+    → ((x y : Shape) → x.width ≡ u → y.width ≡ v → right x y ≡ true)
+    → Fits ws n c (w u v) 2
 two ws n c a b right w comparison u v is same f g r =
     let x = f.shape in
     let y = g.shape in
     let deep : max x.depth y.depth < 64 = omega (arith, f.depth, g.depth) in
     record {
       shape = node (w x.width y.width) (max x.depth y.depth) comparison;
-      is = is ∙ ap (λ s. two_shape right w comparison s (shape_of ws b)) f.is ∙ ap (two_shape right w comparison (Some x)) g.is ∙ above_is (right x y) (w x.width y.width) (max x.depth y.depth) comparison (r x y f.width g.width) deep;
+      is = is ∙ ap (λ s. two_shape right w comparison s (shape_of ws b)) f.is
+          ∙ ap (two_shape right w comparison (Some x)) g.is
+          ∙ above_is (right x y) (w x.width y.width) (max x.depth y.depth) comparison (r x y f.width g.width) deep;
       width = ap (λ k. w k y.width) f.width ∙ ap (w u) g.width;
       depth = omega (arith, f.depth, g.depth);
       mentions = subst (AllBelow n) (sym same) (below_append n (in_expr a) (in_expr b) f.mentions g.mentions);
     }
 
 pub deeper : (ws : ℕ → ℕ) (n : ℕ) (e : Expr) (w d m : ℕ) → d ≤ m → Fits ws n e w d → Fits ws n e w m
-deeper ws n e w d m le f = record { shape = f.shape; is = f.is; width = f.width; depth = omega (arith, f.depth, le); mentions = f.mentions }
+deeper ws n e w d m le f = record {
+  shape = f.shape;
+  is = f.is;
+  width = f.width;
+  depth = omega (arith, f.depth, le);
+  mentions = f.mentions;
+}
 
 as_wide : (ws : ℕ → ℕ) (n : ℕ) (e : Expr) (v w d : ℕ) → v ≡ w → Fits ws n e v d → Fits ws n e w d
-as_wide ws n e v w d is f = record { shape = f.shape; is = f.is; width = f.width ∙ is; depth = f.depth; mentions = f.mentions }
+as_wide ws n e v w d is f = record {
+  shape = f.shape;
+  is = f.is;
+  width = f.width ∙ is;
+  depth = f.depth;
+  mentions = f.mentions;
+}
 
 -- ---- leaves
 
@@ -136,7 +168,12 @@ constant_fits ws n w value some small =
 equal_widths : (x y : Shape) (u v : ℕ) → u ≡ v → x.width ≡ u → y.width ≡ v → same_width x y ≡ true
 equal_widths x y u v is p q = let e : x.width ≡ y.width = p ∙ is ∙ sym q in grind (arith, nat_tests)
 
-extend_fits : (op : ExtendOp) (ws : ℕ → ℕ) (n v w d : ℕ) (e : Expr) → v < w → w ≤ 16 → d < 64 → Fits ws n e v d → Fits ws n (E.Extend op (width_by w) e) w (suc d)
+extend_fits : (op : ExtendOp) (ws : ℕ → ℕ) (n v w d : ℕ) (e : Expr)
+    → v < w
+    → w ≤ 16
+    → d < 64
+    → Fits ws n e v d
+    → Fits ws n (E.Extend op (width_by w) e) w (suc d)
 extend_fits op ws n v w d e less small deep f =
     let i : nearest w ≡ w = nearest_is w (omega (arith, less)) small in
     let c = E.Extend op (width_by w) e in
@@ -145,17 +182,28 @@ extend_fits op ws n v w d e less small deep f =
     (shape_layer ws c (Expr-F.Extend op (width_by w) e) (E.rolls-Extend op (width_by w) e))
     (in_layer c (Expr-F.Extend op (width_by w) e) (E.rolls-Extend op (width_by w) e)) f r deep)
 
-unary_fits_by : (op : UnaryOp) (ws : ℕ → ℕ) (n v w : ℕ) (e : Expr) → v ≡ w → Fits ws n e v 1 → Fits ws n (E.Unary op e) w 2
+unary_fits_by : (op : UnaryOp) (ws : ℕ → ℕ) (n v w : ℕ) (e : Expr)
+    → v ≡ w
+    → Fits ws n e v 1
+    → Fits ws n (E.Unary op e) w 2
 unary_fits_by op ws n v w e same f =
     let c = E.Unary op e in
-    as_wide ws n c v w 2 same (one ws n c e (λ k. true) (λ k. k) v 1 (shape_layer ws c (Expr-F.Unary op e) (E.rolls-Unary op e)) (in_layer c (Expr-F.Unary op e) (E.rolls-Unary op e)) f refl (omega arith))
+    as_wide ws n c v w 2 same (one ws n c e (λ k. true) (λ k. k) v 1
+    (shape_layer ws c (Expr-F.Unary op e) (E.rolls-Unary op e))
+    (in_layer c (Expr-F.Unary op e) (E.rolls-Unary op e)) f refl (omega arith))
 
 count_fits : (op : CountOp) (ws : ℕ → ℕ) (n v : ℕ) (e : Expr) → Fits ws n e v 1 → Fits ws n (E.Count op e) 1 2
 count_fits op ws n v e f =
     let c = E.Count op e in
-    one ws n c e (λ k. true) (λ k. 1) v 1 (shape_layer ws c (Expr-F.Count op e) (E.rolls-Count op e)) (in_layer c (Expr-F.Count op e) (E.rolls-Count op e)) f refl (omega arith)
+    one ws n c e (λ k. true) (λ k. 1) v 1 (shape_layer ws c (Expr-F.Count op e) (E.rolls-Count op e))
+    (in_layer c (Expr-F.Count op e) (E.rolls-Count op e)) f refl (omega arith)
 
-widened_by : (t : Bool) (ws : ℕ → ℕ) (n w : ℕ) (e : Expr) → (w == 1) ≡ t → 0 < w → w ≤ 16 → Fits ws n e 1 2 → Fits ws n (cond t e (E.Extend Zext (width_by w) e)) w 3
+widened_by : (t : Bool) (ws : ℕ → ℕ) (n w : ℕ) (e : Expr)
+    → (w == 1) ≡ t
+    → 0 < w
+    → w ≤ 16
+    → Fits ws n e 1 2
+    → Fits ws n (cond t e (E.Extend Zext (width_by w) e)) w 3
 widened_by true ws n w e is some small f =
     let o : 1 ≡ w = grind (arith, nat_tests) in
     as_wide ws n e 1 w 3 o (deeper ws n e 1 2 3 (omega arith) f)
@@ -163,35 +211,61 @@ widened_by false ws n w e is some small f =
     let o : 1 < w = grind (arith, nat_tests) in
     extend_fits Zext ws n 1 w 2 e o small (omega arith) f
 
-arithmetic_fits : (op : ArithmeticOp) (ws : ℕ → ℕ) (n u v w : ℕ) (d e : Expr) → u ≡ w → v ≡ w → Fits ws n d u 1 → Fits ws n e v 1 → Fits ws n (E.Arithmetic op d e) w 3
+arithmetic_fits : (op : ArithmeticOp) (ws : ℕ → ℕ) (n u v w : ℕ) (d e : Expr)
+    → u ≡ w
+    → v ≡ w
+    → Fits ws n d u 1
+    → Fits ws n e v 1
+    → Fits ws n (E.Arithmetic op d e) w 3
 arithmetic_fits op ws n u v w d e p q f g =
     let c = E.Arithmetic op d e in
     as_wide ws n c u w 3 p (deeper ws n c u 2 3 (omega arith) (two ws n c d e same_width left_width false u v
     (shape_layer ws c (Expr-F.Arithmetic op d e) (E.rolls-Arithmetic op d e))
-    (in_layer c (Expr-F.Arithmetic op d e) (E.rolls-Arithmetic op d e)) f g (λ x y i j. equal_widths x y u v (p ∙ sym q) i j)))
+    (in_layer c (Expr-F.Arithmetic op d e) (E.rolls-Arithmetic op d e)) f g
+    (λ x y i j. equal_widths x y u v (p ∙ sym q) i j)))
 
-shift_fits : (op : ShiftOp) (ws : ℕ → ℕ) (n u v w : ℕ) (d e : Expr) → u ≡ w → Fits ws n d u 1 → Fits ws n e v 1 → Fits ws n (E.Shift op d e) w 3
+shift_fits : (op : ShiftOp) (ws : ℕ → ℕ) (n u v w : ℕ) (d e : Expr)
+    → u ≡ w
+    → Fits ws n d u 1
+    → Fits ws n e v 1
+    → Fits ws n (E.Shift op d e) w 3
 shift_fits op ws n u v w d e p f g =
     let c = E.Shift op d e in
     as_wide ws n c u w 3 p (deeper ws n c u 2 3 (omega arith) (two ws n c d e (λ x y. true) left_width false u v
     (shape_layer ws c (Expr-F.Shift op d e) (E.rolls-Shift op d e))
     (in_layer c (Expr-F.Shift op d e) (E.rolls-Shift op d e)) f g (λ x y i j. refl)))
 
-compare_fits : (op : CompareOp) (ws : ℕ → ℕ) (n u v w : ℕ) (d e : Expr) → u ≡ v → w ≡ 1 → Fits ws n d u 1 → Fits ws n e v 1 → Fits ws n (E.Compare op d e) w 3
+compare_fits : (op : CompareOp) (ws : ℕ → ℕ) (n u v w : ℕ) (d e : Expr)
+    → u ≡ v
+    → w ≡ 1
+    → Fits ws n d u 1
+    → Fits ws n e v 1
+    → Fits ws n (E.Compare op d e) w 3
 compare_fits op ws n u v w d e p q f g =
     let c = E.Compare op d e in
     as_wide ws n c 1 w 3 (sym q) (deeper ws n c 1 2 3 (omega arith) (two ws n c d e same_width (λ x y. 1) true u v
     (shape_layer ws c (Expr-F.Compare op d e) (E.rolls-Compare op d e))
     (in_layer c (Expr-F.Compare op d e) (E.rolls-Compare op d e)) f g (λ x y i j. equal_widths x y u v p i j)))
 
-signed_compare_fits : (op : SignedCompareOp) (ws : ℕ → ℕ) (n u v w : ℕ) (d e : Expr) → u ≡ v → w ≡ 1 → Fits ws n d u 1 → Fits ws n e v 1 → Fits ws n (E.SignedCompare op d e) w 3
+signed_compare_fits : (op : SignedCompareOp) (ws : ℕ → ℕ) (n u v w : ℕ) (d e : Expr)
+    → u ≡ v
+    → w ≡ 1
+    → Fits ws n d u 1
+    → Fits ws n e v 1
+    → Fits ws n (E.SignedCompare op d e) w 3
 signed_compare_fits op ws n u v w d e p q f g =
     let c = E.SignedCompare op d e in
     as_wide ws n c 1 w 3 (sym q) (deeper ws n c 1 2 3 (omega arith) (two ws n c d e same_width (λ x y. 1) true u v
     (shape_layer ws c (Expr-F.SignedCompare op d e) (E.rolls-SignedCompare op d e))
-    (in_layer c (Expr-F.SignedCompare op d e) (E.rolls-SignedCompare op d e)) f g (λ x y i j. equal_widths x y u v p i j)))
+    (in_layer c (Expr-F.SignedCompare op d e) (E.rolls-SignedCompare op d e)) f g
+    (λ x y i j. equal_widths x y u v p i j)))
 
-overflow_fits : (op : OverflowOp) (ws : ℕ → ℕ) (n u v w : ℕ) (d e : Expr) → u ≡ v → w ≡ 1 → Fits ws n d u 1 → Fits ws n e v 1 → Fits ws n (E.Overflow op d e) w 3
+overflow_fits : (op : OverflowOp) (ws : ℕ → ℕ) (n u v w : ℕ) (d e : Expr)
+    → u ≡ v
+    → w ≡ 1
+    → Fits ws n d u 1
+    → Fits ws n e v 1
+    → Fits ws n (E.Overflow op d e) w 3
 overflow_fits op ws n u v w d e p q f g =
     let c = E.Overflow op d e in
     as_wide ws n c 1 w 3 (sym q) (deeper ws n c 1 2 3 (omega arith) (two ws n c d e same_width (λ x y. 1) false u v
@@ -199,28 +273,56 @@ overflow_fits op ws n u v w d e p q f g =
     (in_layer c (Expr-F.Overflow op d e) (E.rolls-Overflow op d e)) f g (λ x y i j. equal_widths x y u v p i j)))
 
 join_widths : (x y : Shape) (u v w : ℕ) → w ≡ u + v → w ≤ 16 → x.width ≡ u → y.width ≡ v → may_join x y ≡ true
-join_widths x y u v w is small p q = let e : x.width + y.width ≤ 16 = omega (arith, is, small, p, q) in grind (arith, nat_tests)
+join_widths x y u v w is small p q = let e : x.width + y.width ≤ 16 = omega (arith, is, small, p, q) in
+    grind (arith, nat_tests)
 
-concat_fits : (ws : ℕ → ℕ) (n u v w : ℕ) (d e : Expr) → w ≡ u + v → w ≤ 16 → Fits ws n d u 1 → Fits ws n e v 1 → Fits ws n (E.Concat d e) w 3
+concat_fits : (ws : ℕ → ℕ) (n u v w : ℕ) (d e : Expr)
+    → w ≡ u + v
+    → w ≤ 16
+    → Fits ws n d u 1
+    → Fits ws n e v 1
+    → Fits ws n (E.Concat d e) w 3
 concat_fits ws n u v w d e p small f g =
     let c = E.Concat d e in
-    as_wide ws n c (u + v) w 3 (sym p) (deeper ws n c (u + v) 2 3 (omega arith) (two ws n c d e may_join (λ x y. x + y) false u v
+    as_wide ws n c (u + v) w 3 (sym p)
+    (deeper ws n c (u + v) 2 3 (omega arith) (two ws n c d e may_join (λ x y. x + y) false u v
     (shape_layer ws c (Expr-F.Concat d e) (E.rolls-Concat d e))
     (in_layer c (Expr-F.Concat d e) (E.rolls-Concat d e)) f g (λ x y i j. join_widths x y u v w p small i j)))
 
 -- ---- operations
 
-pub unary_fits : (op : Unary) (ws : ℕ → ℕ) (n v w : ℕ) (e : Expr) → IsUnarySized op v w → 0 < w → w ≤ 16 → Fits ws n e v 1 → Fits ws n (unary_node op w e) w 3
+pub unary_fits : (op : Unary) (ws : ℕ → ℕ) (n v w : ℕ) (e : Expr)
+    → IsUnarySized op v w
+    → 0 < w
+    → w ≤ 16
+    → Fits ws n e v 1
+    → Fits ws n (unary_node op w e) w 3
 unary_fits U.Copy ws n v w e s some small f = as_wide ws n e v w 3 s (deeper ws n e v 1 3 (omega arith) f)
-unary_fits U.Negate ws n v w e s some small f = deeper ws n (E.Unary Neg e) w 2 3 (omega arith) (unary_fits_by Neg ws n v w e s f)
-unary_fits U.Complement ws n v w e s some small f = deeper ws n (E.Unary Not e) w 2 3 (omega arith) (unary_fits_by Not ws n v w e s f)
-unary_fits U.ZeroExtend ws n v w e s some small f = deeper ws n (E.Extend Zext (width_by w) e) w 2 3 (omega arith) (extend_fits Zext ws n v w 1 e s small (omega arith) f)
-unary_fits U.SignExtend ws n v w e s some small f = deeper ws n (E.Extend Sext (width_by w) e) w 2 3 (omega arith) (extend_fits Sext ws n v w 1 e s small (omega arith) f)
-unary_fits U.CountOnes ws n v w e s some small f = widened_by (w == 1) ws n w (E.Count Popcount e) refl some small (count_fits Popcount ws n v e f)
-unary_fits U.CountLeadingZeros ws n v w e s some small f = widened_by (w == 1) ws n w (E.Count Lzcount e) refl some small (count_fits Lzcount ws n v e f)
-unary_fits U.BoolNegate ws n v w e s some small f = arithmetic_fits Xor ws n v 1 w e (constant 1 1) (s.0 ∙ sym s.1) (sym s.1) f (constant_fits ws n 1 1 (omega arith) (omega arith))
+unary_fits U.Negate ws n v w e s some small f =
+    deeper ws n (E.Unary Neg e) w 2 3 (omega arith) (unary_fits_by Neg ws n v w e s f)
+unary_fits U.Complement ws n v w e s some small f =
+    deeper ws n (E.Unary Not e) w 2 3 (omega arith) (unary_fits_by Not ws n v w e s f)
+unary_fits U.ZeroExtend ws n v w e s some small f =
+    deeper ws n (E.Extend Zext (width_by w) e) w 2 3 (omega arith)
+    (extend_fits Zext ws n v w 1 e s small (omega arith) f)
+unary_fits U.SignExtend ws n v w e s some small f =
+    deeper ws n (E.Extend Sext (width_by w) e) w 2 3 (omega arith)
+    (extend_fits Sext ws n v w 1 e s small (omega arith) f)
+unary_fits U.CountOnes ws n v w e s some small f =
+    widened_by (w == 1) ws n w (E.Count Popcount e) refl some small (count_fits Popcount ws n v e f)
+unary_fits U.CountLeadingZeros ws n v w e s some small f =
+    widened_by (w == 1) ws n w (E.Count Lzcount e) refl some small (count_fits Lzcount ws n v e f)
+unary_fits U.BoolNegate ws n v w e s some small f =
+    arithmetic_fits Xor ws n v 1 w e (constant 1 1) (s.0 ∙ sym s.1) (sym s.1) f
+    (constant_fits ws n 1 1 (omega arith) (omega arith))
 
-pub binary_fits : (op : Binary) (ws : ℕ → ℕ) (n u v w : ℕ) (d e : Expr) → HasNode op → IsBinarySized op u v w → w ≤ 16 → Fits ws n d u 1 → Fits ws n e v 1 → Fits ws n (binary_node op d e) w 3
+pub binary_fits : (op : Binary) (ws : ℕ → ℕ) (n u v w : ℕ) (d e : Expr)
+    → HasNode op
+    → IsBinarySized op u v w
+    → w ≤ 16
+    → Fits ws n d u 1
+    → Fits ws n e v 1
+    → Fits ws n (binary_node op d e) w 3
 binary_fits B.Piece ws n u v w d e has s small f g = concat_fits ws n u v w d e s small f g
 binary_fits B.Subpiece ws n u v w d e has s small f g = absurd has
 binary_fits B.Add ws n u v w d e has s small f g = arithmetic_fits Add ws n u v w d e s.0 s.1 f g
@@ -241,6 +343,9 @@ binary_fits B.SignedBorrow ws n u v w d e has s small f g = overflow_fits SBorro
 binary_fits B.Left ws n u v w d e has s small f g = shift_fits Shl ws n u v w d e s f g
 binary_fits B.Right ws n u v w d e has s small f g = shift_fits Shr ws n u v w d e s f g
 binary_fits B.SignedRight ws n u v w d e has s small f g = shift_fits Sar ws n u v w d e s f g
-binary_fits B.BoolAnd ws n u v w d e has s small f g = arithmetic_fits And ws n u v w d e (s.0 ∙ sym s.2) (s.1 ∙ sym s.2) f g
-binary_fits B.BoolOr ws n u v w d e has s small f g = arithmetic_fits Or ws n u v w d e (s.0 ∙ sym s.2) (s.1 ∙ sym s.2) f g
-binary_fits B.BoolXor ws n u v w d e has s small f g = arithmetic_fits Xor ws n u v w d e (s.0 ∙ sym s.2) (s.1 ∙ sym s.2) f g
+binary_fits B.BoolAnd ws n u v w d e has s small f g =
+    arithmetic_fits And ws n u v w d e (s.0 ∙ sym s.2) (s.1 ∙ sym s.2) f g
+binary_fits B.BoolOr ws n u v w d e has s small f g =
+    arithmetic_fits Or ws n u v w d e (s.0 ∙ sym s.2) (s.1 ∙ sym s.2) f g
+binary_fits B.BoolXor ws n u v w d e has s small f g =
+    arithmetic_fits Xor ws n u v w d e (s.0 ∙ sym s.2) (s.1 ∙ sym s.2) f g

@@ -26,44 +26,63 @@ abbrev pub AllObey : CFunction → ℕ → List Stmt → Type 0
 AllObey f labels [] = Unit {0}
 AllObey f labels (s ∷ ss) = Obeys f labels s × AllObey f labels ss
 
-pub obey_append : (f : CFunction) (labels : ℕ) (xs ys : List Stmt) → AllObey f labels xs → AllObey f labels ys → AllObey f labels (xs ++ ys)
-obey_append f labels [] ys h g = g
-obey_append f labels (x ∷ xs) ys h g = (h.0, obey_append f labels xs ys h.1 g)
+module _ (f : CFunction) (labels : ℕ) where
+  pub obey_append : (xs ys : List Stmt) → AllObey f labels xs → AllObey f labels ys → AllObey f labels (xs ++ ys)
+  obey_append [] ys h g = g
+  obey_append (x ∷ xs) ys h g = (h.0, obey_append xs ys h.1 g)
 
-pub obey_all : (f : CFunction) (labels : ℕ) (ss : List Stmt) (after : Bool) → AllObey f labels ss → all_hold after (map (rule_of f labels) ss) false 256 ≡ true
-obey_all f labels [] after h = refl
-obey_all f labels (s ∷ ss) after h =
-    ap (λ b. b && all_hold (rule_of f labels s).calls (map (rule_of f labels) ss) false 256) (h.0 after)
-    ∙ obey_all f labels ss (rule_of f labels s).calls h.1
+  pub obey_all : (ss : List Stmt) (after : Bool)
+      → AllObey f labels ss
+      → all_hold after (map (rule_of f labels) ss) false 256 ≡ true
+  obey_all [] after h = refl
+  obey_all (s ∷ ss) after h =
+      ap (λ b. b && all_hold (rule_of f labels s).calls (map (rule_of f labels) ss) false 256) (h.0 after)
+      ∙ obey_all ss (rule_of f labels s).calls h.1
 
-pub assign_obeys : (f : CFunction) (labels v : ℕ) (e : Expr) → is_assigned (widths_in f) v (shape_of (widths_in f) e) ≡ true → Obeys f labels (S.Assign v e)
-assign_obeys f labels v e is after = ap (λ r. r.holds after false 255) (rule_of_layer f labels (S.Assign v e) (Stmt-F.Assign v e) (S.rolls-Assign v e)) ∙ is
+  pub assign_obeys : (v : ℕ) (e : Expr)
+      → is_assigned (widths_in f) v (shape_of (widths_in f) e) ≡ true
+      → Obeys f labels (S.Assign v e)
+  assign_obeys v e is after = ap (λ r. r.holds after false 255)
+      (rule_of_layer f labels (S.Assign v e) (Stmt-F.Assign v e) (S.rolls-Assign v e)) ∙ is
 
-pub return_obeys : (f : CFunction) (labels : ℕ) (e : Option Expr) → is_returned (widths_in f) f.gives e ≡ true → Obeys f labels (S.Return e)
-return_obeys f labels e is after = ap (λ r. r.holds after false 255) (rule_of_layer f labels (S.Return e) (Stmt-F.Return e) (S.rolls-Return e)) ∙ is
+  pub return_obeys : (e : Option Expr) → is_returned (widths_in f) f.gives e ≡ true → Obeys f labels (S.Return e)
+  return_obeys e is after = ap (λ r. r.holds after false 255)
+      (rule_of_layer f labels (S.Return e) (Stmt-F.Return e) (S.rolls-Return e)) ∙ is
 
-pub label_obeys : (f : CFunction) (labels n : ℕ) → n < 2 ^ 32 → Obeys f labels (S.Label n)
-label_obeys f labels n few after = ap (λ r. r.holds after false 255) (rule_of_layer f labels (S.Label n) (Stmt-F.Label n) (S.rolls-Label n)) ∙ grind (arith, nat_tests)
+  pub label_obeys : (n : ℕ) → n < 2 ^ 32 → Obeys f labels (S.Label n)
+  label_obeys n few after = ap (λ r. r.holds after false 255)
+      (rule_of_layer f labels (S.Label n) (Stmt-F.Label n) (S.rolls-Label n)) ∙ grind (arith, nat_tests)
 
-goto_holds : (f : CFunction) (labels n : ℕ) → 0 < n → n < labels → (after : Bool) (room : ℕ) → (rule_of f labels (S.Goto n)).holds after false room ≡ true
-goto_holds f labels n from to after room =
-    let t : (nat_lt 0 n && nat_lt n labels) ≡ true = grind (arith, nat_tests) in
-    ap (λ r. r.holds after false room) (rule_of_layer f labels (S.Goto n) (Stmt-F.Goto n) (S.rolls-Goto n)) ∙ t
+  goto_holds : (n : ℕ)
+      → 0 < n
+      → n < labels
+      → (after : Bool) (room : ℕ)
+      → (rule_of f labels (S.Goto n)).holds after false room ≡ true
+  goto_holds n from to after room =
+      let t : (nat_lt 0 n && nat_lt n labels) ≡ true = grind (arith, nat_tests) in
+      ap (λ r. r.holds after false room) (rule_of_layer f labels (S.Goto n) (Stmt-F.Goto n) (S.rolls-Goto n)) ∙ t
 
-pub goto_obeys : (f : CFunction) (labels n : ℕ) → 0 < n → n < labels → Obeys f labels (S.Goto n)
-goto_obeys f labels n from to after = goto_holds f labels n from to after 255
+  pub goto_obeys : (n : ℕ) → 0 < n → n < labels → Obeys f labels (S.Goto n)
+  goto_obeys n from to after = goto_holds n from to after 255
 
-if_is : (f : CFunction) (labels : ℕ) (c : Expr) (body : List Stmt) (after : Bool) (room : ℕ) → (rule_of f labels (S.If c body)).holds after false room ≡ (is_condition (shape_of (widths_in f) c) && all_hold false (map (rule_of f labels) body) false room)
-if_is f labels c body after room = ap (λ r. r.holds after false room) (rule_of_layer f labels (S.If c body) (Stmt-F.If c body) (S.rolls-If c body))
+  if_is : (c : Expr) (body : List Stmt) (after : Bool) (room : ℕ)
+      → (rule_of f labels (S.If c body)).holds after false room
+      ≡ (is_condition (shape_of (widths_in f) c) && all_hold false (map (rule_of f labels) body) false room)
+  if_is c body after room = ap (λ r. r.holds after false room)
+      (rule_of_layer f labels (S.If c body) (Stmt-F.If c body) (S.rolls-If c body))
 
-pub if_none_obeys : (f : CFunction) (labels : ℕ) (c : Expr) → is_condition (shape_of (widths_in f) c) ≡ true → Obeys f labels (S.If c [])
-if_none_obeys f labels c is after = if_is f labels c [] after 255 ∙ ap (λ b. b && true) is
+  pub if_none_obeys : (c : Expr) → is_condition (shape_of (widths_in f) c) ≡ true → Obeys f labels (S.If c [])
+  if_none_obeys c is after = if_is c [] after 255 ∙ ap (λ b. b && true) is
 
-pub if_goto_obeys : (f : CFunction) (labels : ℕ) (c : Expr) (n : ℕ) → is_condition (shape_of (widths_in f) c) ≡ true → 0 < n → n < labels → Obeys f labels (S.If c (S.Goto n ∷ []))
-if_goto_obeys f labels c n is from to after =
-    if_is f labels c (S.Goto n ∷ []) after 255
-    ∙ ap (λ b. b && ((rule_of f labels (S.Goto n)).holds false false 254 && true)) is
-    ∙ ap (λ b. b && true) (goto_holds f labels n from to false 254)
+  pub if_goto_obeys : (c : Expr) (n : ℕ)
+      → is_condition (shape_of (widths_in f) c) ≡ true
+      → 0 < n
+      → n < labels
+      → Obeys f labels (S.If c (S.Goto n ∷ []))
+  if_goto_obeys c n is from to after =
+      if_is c (S.Goto n ∷ []) after 255
+      ∙ ap (λ b. b && ((rule_of f labels (S.Goto n)).holds false false 254 && true)) is
+      ∙ ap (λ b. b && true) (goto_holds n from to false 254)
 
 -- ---- mentions
 
@@ -100,29 +119,36 @@ abbrev pub at_label : Next → ℕ → Next
 at_label n label = record { variable = n.variable; callee = n.callee; label = label }
 
 -- the line of the next label
-pub label_met : (n : Next) (label : ℕ) → mentioned [] (Some (at_label n label)) (LabelLine label) ≡ Some (at_label n (suc label))
+pub label_met : (n : Next) (label : ℕ)
+    → mentioned [] (Some (at_label n label)) (LabelLine label) ≡ Some (at_label n (suc label))
 label_met n label =
     let t : (label == label) ≡ true = grind (arith, nat_tests) in
     ap (λ b. with_label (at_label n label) (cond b (Some (suc label)) None)) t
 
 -- ---- both
 
--- Statements that obey their rules and mention only parameters.
-pub record AreQuiet (f : CFunction) (labels : ℕ) (ss : List Stmt) : Type 0 where
-  pub obey : AllObey f labels ss
-  pub mentions : AllBelow (length f.params) (in_body ss)
+module _ (f : CFunction) (labels : ℕ) where
+  -- Statements that obey their rules and mention only parameters.
+  pub record AreQuiet (ss : List Stmt) : Type 0 where
+    pub obey : AllObey f labels ss
+    pub mentions : AllBelow (length f.params) (in_body ss)
 
-pub quiet_none : (f : CFunction) (labels : ℕ) → AreQuiet f labels []
-quiet_none f labels = record { obey = tt; mentions = tt }
+  pub quiet_none : AreQuiet []
+  quiet_none = record { obey = tt; mentions = tt }
 
-pub quiet_append : (f : CFunction) (labels : ℕ) (xs ys : List Stmt) → AreQuiet f labels xs → AreQuiet f labels ys → AreQuiet f labels (xs ++ ys)
-quiet_append f labels xs ys h g = record {
-  obey = obey_append f labels xs ys h.obey g.obey;
-  mentions = subst (AllBelow (length f.params)) (sym (in_append xs ys)) (below_append (length f.params) (in_body xs) (in_body ys) h.mentions g.mentions);
-}
+  pub quiet_append : (xs ys : List Stmt) → AreQuiet xs → AreQuiet ys → AreQuiet (xs ++ ys)
+  quiet_append xs ys h g = record {
+    obey = obey_append f labels xs ys h.obey g.obey;
+    mentions = subst (AllBelow (length f.params)) (sym (in_append xs ys))
+        (below_append (length f.params) (in_body xs) (in_body ys) h.mentions g.mentions);
+  }
 
-pub quiet_one : (f : CFunction) (labels : ℕ) (s : Stmt) (xs : List Mention) → Obeys f labels s → in_stmt s ≡ xs → AllBelow (length f.params) xs → AreQuiet f labels (s ∷ [])
-quiet_one f labels s xs obeys is below = record {
-  obey = (obeys, tt);
-  mentions = below_append (length f.params) (in_stmt s) [] (subst (AllBelow (length f.params)) (sym is) below) tt;
-}
+  pub quiet_one : (s : Stmt) (xs : List Mention)
+      → Obeys f labels s
+      → in_stmt s ≡ xs
+      → AllBelow (length f.params) xs
+      → AreQuiet (s ∷ [])
+  quiet_one s xs obeys is below = record {
+    obey = (obeys, tt);
+    mentions = below_append (length f.params) (in_stmt s) [] (subst (AllBelow (length f.params)) (sym is) below) tt;
+  }

@@ -103,14 +103,20 @@ params_right (a ∷ atoms) long order =
 
 -- ---- their widths
 
-width_at : (l : Listing) (atoms : List Atom) (n : ℕ) (v : Varnode) (o : Option tree.Local) → AreNarrow atoms → slice_get (ranges_of l atoms) n ≡ Some v → variable_width (slice_get (params atoms) n) o ≡ v.size
+width_at : (l : Listing) (atoms : List Atom) (n : ℕ) (v : Varnode) (o : Option tree.Local)
+    → AreNarrow atoms
+    → slice_get (ranges_of l atoms) n ≡ Some v
+    → variable_width (slice_get (params atoms) n) o ≡ v.size
 width_at l [] n v o all e = absurd (cc)
 width_at l (a ∷ atoms) zero v o all e =
     let r : range_of l a ≡ v = cc in
     nearest_is a.size (all.0.1).0 (all.0.1).1 ∙ sym (range_size l a.storage a.size) ∙ ap (λ (w : Varnode). w.size) r
 width_at l (a ∷ atoms) (suc n) v o all e = width_at l atoms n v o all.1 e
 
-setting : (l : Listing) (blocks : List flow_block.Block) (atoms : List Atom) → AreNarrow atoms → length atoms ≤ 2 ^ 32 → Setting l (ranges_of l atoms) (plain_function l blocks atoms)
+setting : (l : Listing) (blocks : List flow_block.Block) (atoms : List Atom)
+    → AreNarrow atoms
+    → length atoms ≤ 2 ^ 32
+    → Setting l (ranges_of l atoms) (plain_function l blocks atoms)
 setting l blocks atoms narrow few =
     let ranges = ranges_of l atoms in
     record {
@@ -118,7 +124,12 @@ setting l blocks atoms narrow few =
       parameters = λ v h.
           let e = found ranges v h in
           record {
-            within = omega (arith, slice_get_within ranges (variable_of ranges v) v e, ranges_length l atoms, params_length atoms);
+            within = omega (
+              arith,
+              slice_get_within ranges (variable_of ranges v) v e,
+              ranges_length l atoms,
+              params_length atoms,
+            );
             width = width_at l atoms (variable_of ranges v) v _ narrow e;
           };
       gives = refl;
@@ -128,11 +139,19 @@ setting l blocks atoms narrow few =
 
 -- Where the atoms stand in their order, at numbers of 64 bits, are no more than numbers of 32 bits, and the name has the
 -- form of one.
-pub plain_valid : (l : Listing) (t : List TableAt) (blocks : List flow_block.Block) (atoms : List Atom) → IsPlainForm l t blocks atoms → InOrder atoms → AreLong atoms → length atoms ≤ 2 ^ 32 → IsTrue (is_name l.func.name) → IsValid (plain_function l blocks atoms)
+pub plain_valid : (l : Listing) (t : List TableAt) (blocks : List flow_block.Block) (atoms : List Atom)
+    → IsPlainForm l t blocks atoms
+    → InOrder atoms
+    → AreLong atoms
+    → length atoms ≤ 2 ^ 32
+    → IsTrue (is_name l.func.name)
+    → IsValid (plain_function l blocks atoms)
 plain_valid l t blocks atoms form order long few named =
     let f = plain_function l blocks atoms in
     let ranges = ranges_of l atoms in
     let set = setting l blocks atoms form.narrow few in
-    laid_valid l.func.name (result_width l) (lowered l blocks atoms) named (params_right atoms long order) (no_locals atoms)
+    laid_valid l.func.name (result_width l) (lowered l blocks atoms) named (params_right atoms long order)
+    (no_locals atoms)
     (omega (arith, form.few, map_length l ranges blocks))
-    (λ labels. blocks_suit l ranges f labels t (starts_of blocks) set blocks (λ q h. form.plain q ((form.flow.each q).0 h)) form.flow.run)
+    (λ labels. blocks_suit l ranges f labels t (starts_of blocks) set blocks
+    (λ q h. form.plain q ((form.flow.each q).0 h)) form.flow.run)

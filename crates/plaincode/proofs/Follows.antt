@@ -30,50 +30,57 @@ use Rattle.blockcode.proofs.Straight.{step_in, still, Stands, arrives, returns_i
 use Rattle.plaincode.specs.Lowered.{statements, body_of, exit_by, exit_of, block_of}
 use Rattle.plaincode.specs.Form.{IsPlain}
 use Rattle.plaincode.proofs.Operands.{over, Sees, Setting}
+use Rattle.plaincode.proofs.Members.{in_front, behind}
 use Rattle.plaincode.proofs.Exits.{Left, Leaving, goes_to, leaves}
 
 -- ---- blocks of the flow
 
--- the block that begins at a place
-pub record Begins (l : Listing) (t : List TableAt) (starts : List Place) (blocks : List flow_block.Block) (n : ℕ) (p : Place) : Type 0 where
-  pub block : flow_block.Block
-  pub others : List Place
-  pub get : slice_get blocks n ≡ Some block
-  pub places : block.places ≡ p ∷ others
-  pub runs : RunsBlock l t starts (p ∷ others) block.exit
+module _ (l : Listing) (t : List TableAt) (starts : List Place) where
+  -- the block that begins at a place
+  pub record Begins (blocks : List flow_block.Block) (n : ℕ) (p : Place) : Type 0 where
+    pub block : flow_block.Block
+    pub others : List Place
+    pub get : slice_get blocks n ≡ Some block
+    pub places : block.places ≡ p ∷ others
+    pub runs : RunsBlock l t starts (p ∷ others) block.exit
 
-begins_first : (l : Listing) (t : List TableAt) (starts : List Place) (b : flow_block.Block) (blocks : List flow_block.Block) (ps : List Place) (p : Place) → b.places ≡ ps → RunsBlock l t starts ps b.exit → slice_get (first_in ps ++ starts_of blocks) 0 ≡ Some p → Begins l t starts (b ∷ blocks) 0 p
-begins_first l t starts b blocks [] p is runs e = absurd runs
-begins_first l t starts b blocks (q ∷ others) p is runs e =
-    let same : q ≡ p = cc in
-    let P : Place → Type 0 = λ x. b.places ≡ x ∷ others in
-    let Q : Place → Type 0 = λ x. RunsBlock l t starts (x ∷ others) b.exit in
-    record { block = b; others = others; get = refl; places = subst P same is; runs = subst Q same runs }
+  begins_first : (b : flow_block.Block) (blocks : List flow_block.Block) (ps : List Place) (p : Place)
+      → b.places ≡ ps
+      → RunsBlock l t starts ps b.exit
+      → slice_get (first_in ps ++ starts_of blocks) 0 ≡ Some p
+      → Begins (b ∷ blocks) 0 p
+  begins_first b blocks [] p is runs e = absurd runs
+  begins_first b blocks (q ∷ others) p is runs e =
+      let same : q ≡ p = cc in
+      let P : Place → Type 0 = λ x. b.places ≡ x ∷ others in
+      let Q : Place → Type 0 = λ x. RunsBlock l t starts (x ∷ others) b.exit in
+      record { block = b; others = others; get = refl; places = subst P same is; runs = subst Q same runs }
 
-begins_later : (l : Listing) (t : List TableAt) (starts : List Place) (b : flow_block.Block) (blocks : List flow_block.Block) (ps : List Place) (n : ℕ) (p : Place) → RunsBlock l t starts ps b.exit → slice_get (first_in ps ++ starts_of blocks) (suc n) ≡ Some p → slice_get (starts_of blocks) n ≡ Some p
-begins_later l t starts b blocks [] n p runs e = absurd runs
-begins_later l t starts b blocks (q ∷ others) n p runs e = e
+  begins_later : (b : flow_block.Block) (blocks : List flow_block.Block) (ps : List Place) (n : ℕ) (p : Place)
+      → RunsBlock l t starts ps b.exit
+      → slice_get (first_in ps ++ starts_of blocks) (suc n) ≡ Some p
+      → slice_get (starts_of blocks) n ≡ Some p
+  begins_later b blocks [] n p runs e = absurd runs
+  begins_later b blocks (q ∷ others) n p runs e = e
 
-pub begins : (l : Listing) (t : List TableAt) (starts : List Place) (blocks : List flow_block.Block) → AllRun l t starts blocks → (n : ℕ) (p : Place) → slice_get (starts_of blocks) n ≡ Some p → Begins l t starts blocks n p
-begins l t starts [] all n p e = absurd (cc)
-begins l t starts (b ∷ blocks) all zero p e =
-    let P : List Place → Type 0 = λ ps. slice_get (first_in ps ++ starts_of blocks) 0 ≡ Some p in
-    begins_first l t starts b blocks b.places p refl all.0 e
-begins l t starts (b ∷ blocks) all (suc n) p e =
-    let next = begins l t starts blocks all.1 n p (begins_later l t starts b blocks b.places n p all.0 e) in
-    record { block = next.block; others = next.others; get = next.get; places = next.places; runs = next.runs }
-
-in_front : (ps qs : List Place) (p : Place) → IsIn p ps → IsIn p (ps ++ qs)
-in_front [] qs p h = absurd h
-in_front (x ∷ ps) qs p (inl e) = inl e
-in_front (x ∷ ps) qs p (inr h) = inr (in_front ps qs p h)
-
-behind : (ps qs : List Place) (p : Place) → IsIn p qs → IsIn p (ps ++ qs)
-behind [] qs p h = h
-behind (x ∷ ps) qs p h = inr (behind ps qs p h)
+  pub begins : (blocks : List flow_block.Block)
+      → AllRun l t starts blocks
+      → (n : ℕ) (p : Place)
+      → slice_get (starts_of blocks) n ≡ Some p
+      → Begins blocks n p
+  begins [] all n p e = absurd (cc)
+  begins (b ∷ blocks) all zero p e =
+      let P : List Place → Type 0 = λ ps. slice_get (first_in ps ++ starts_of blocks) 0 ≡ Some p in
+      begins_first b blocks b.places p refl all.0 e
+  begins (b ∷ blocks) all (suc n) p e =
+      let next = begins blocks all.1 n p (begins_later b blocks b.places n p all.0 e) in
+      record { block = next.block; others = next.others; get = next.get; places = next.places; runs = next.runs }
 
 -- a block's places are among those of all blocks
-pub in_block : (blocks : List flow_block.Block) (n : ℕ) (b : flow_block.Block) (p : Place) → slice_get blocks n ≡ Some b → IsIn p b.places → IsIn p (places_of blocks)
+pub in_block : (blocks : List flow_block.Block) (n : ℕ) (b : flow_block.Block) (p : Place)
+    → slice_get blocks n ≡ Some b
+    → IsIn p b.places
+    → IsIn p (places_of blocks)
 in_block [] n b p e h = absurd (cc)
 in_block (x ∷ blocks) zero b p e h =
     let same : b ≡ x = cc in
@@ -84,130 +91,192 @@ in_block (x ∷ blocks) (suc n) b p e h = behind x.places (places_of blocks) p (
 -- ---- what is related
 
 -- what is given: the flow, the variables, what stands at the reached places, and the code
-pub record Given (l : Listing) (t : List TableAt) (blocks : List flow_block.Block) (ranges : List Varnode) (k : Code) : Type 0 where
+pub record Given (l : Listing) (t : List TableAt) (blocks : List flow_block.Block) (ranges : List Varnode)
+    (k : Code) : Type 0 where
   pub flow : IsFlow l t blocks
   pub setting : Setting l ranges (widths k.variables)
   pub plain : (p : Place) → Reached l t p → IsPlain l ranges (standing l p)
   pub blocks_are : k.blocks ≡ map (block_of l ranges) blocks
 
--- the code stands where the statements of a place begin; n places follow in the block
-record At (l : Listing) (t : List TableAt) (blocks : List flow_block.Block) (ranges : List Varnode) (k : Code) (n : ℕ) (p : Place) (u : CodeState) : Type 0 where
-  block : Block
-  others : List Place
-  exit : flow_exit.Exit
-  runs : RunsBlock l t (starts_of blocks) (p ∷ others) exit
-  plain : (q : Place) → IsIn q (p ∷ others) → IsPlain l ranges (standing l q)
-  here : Stands k block (body_of l ranges (p ∷ others)) u
-  exit_is : block.exit ≡ exit_of l ranges (p ∷ others) exit
-  rank : n ≡ length others
+module _
+    {M : Type 0}
+    (m : Acts M)
+    (l : Listing)
+    (f : Frame)
+    (t : List TableAt)
+    (blocks : List flow_block.Block)
+    (ranges : List Varnode)
+    (k : Code)
+    (look : M → Bytes)
+    (given : Given l t blocks ranges k)
+  where
+    -- the code stands where the statements of a place begin; n places follow in the block
+    record At (n : ℕ) (p : Place) (u : CodeState) : Type 0 where
+      block : Block
+      others : List Place
+      exit : flow_exit.Exit
+      runs : RunsBlock l t (starts_of blocks) (p ∷ others) exit
+      plain : (q : Place) → IsIn q (p ∷ others) → IsPlain l ranges (standing l q)
+      here : Stands k block (body_of l ranges (p ∷ others)) u
+      exit_is : block.exit ≡ exit_of l ranges (p ∷ others) exit
+      rank : n ≡ length others
 
-record Related {M : Type 0} (l : Listing) (t : List TableAt) (blocks : List flow_block.Block) (ranges : List Varnode) (k : Code) (look : M → Bytes) (n : ℕ) (s : State M) (u : CodeState) : Type 0 where
-  sees : Sees l ranges look s u.local
-  at : s.world.over ≡ None → At l t blocks ranges k n s.at u
+    record Related (n : ℕ) (s : State M) (u : CodeState) : Type 0 where
+      sees : Sees l ranges look s u.local
+      at : s.world.over ≡ None → At n s.at u
 
--- at the beginning of a block
-enters_at : (l : Listing) (t : List TableAt) (blocks : List flow_block.Block) (ranges : List Varnode) (k : Code) → Given l t blocks ranges k → (p : Place) (u : CodeState) (b : Begins l t (starts_of blocks) blocks u.block p) → u.position ≡ 0 → At l t blocks ranges k (length b.others) p u
-enters_at l t blocks ranges k given p u b begin =
-    let c : Block = block_of l ranges b.block in
-    let got : slice_get k.blocks u.block ≡ Some c = ap (λ bs. slice_get bs u.block) given.blocks_are ∙ slice_get-map (block_of l ranges) blocks u.block ∙ ap (option_map (block_of l ranges)) b.get in
-    record {
-      block = c;
-      others = b.others;
-      exit = b.block.exit;
-      runs = b.runs;
-      plain = λ q h. given.plain q ((given.flow.each q).0 (in_block blocks u.block b.block q b.get (let P : List Place → Type 0 = λ ps. IsIn q ps in subst P (sym b.places) h)));
-      here = record { block = got; left = λ g. ap (λ z. drop z c.body) begin ∙ ap (body_of l ranges) b.places };
-      exit_is = ap (λ ps. exit_of l ranges ps b.block.exit) b.places;
-      rank = refl;
+    -- at the beginning of a block
+    enters_at : (p : Place) (u : CodeState) (b : Begins l t (starts_of blocks) blocks u.block p)
+        → u.position ≡ 0
+        → At (length b.others) p u
+    enters_at p u b begin =
+        let c : Block = block_of l ranges b.block in
+        let got : slice_get k.blocks u.block ≡ Some c = ap (λ bs. slice_get bs u.block) given.blocks_are
+        ∙ slice_get-map (block_of l ranges) blocks u.block ∙ ap (option_map (block_of l ranges)) b.get in
+        record {
+          block = c;
+          others = b.others;
+          exit = b.block.exit;
+          runs = b.runs;
+          plain = λ q h. given.plain q ((given.flow.each q).0
+              (in_block blocks u.block b.block q b.get
+              (let P : List Place → Type 0 = λ ps. IsIn q ps in subst P (sym b.places) h)));
+          here = record { block = got; left = λ g. ap (λ z. drop z c.body) begin ∙ ap (body_of l ranges) b.places };
+          exit_is = ap (λ ps. exit_of l ranges ps b.block.exit) b.places;
+          rank = refl;
+        }
+
+    -- ---- steps
+
+    abbrev Went : ℕ → State M → CodeState → Type 0
+    Went n s u = GoesRanked (machine m l f) (code_machine l k) Related n s u
+
+    goes_on : (n : ℕ) (s s' : State M) (u u' : CodeState) (j r : ℕ)
+        → step m l f s ≡ s'
+        → after (code_step l k) j u ≡ u'
+        → (0 < j) ⊎ (r < n)
+        → Related r s' u'
+        → Went n s u
+    goes_on n s s' u u' j r e g less rel =
+        let P : State _ → Type 0 = λ x. Related r x (after (code_step l k) j u) in
+        let Q : CodeState → Type 0 = λ x. Related r s' x in
+        inr (0, (j, (r, (less, subst P (sym e) (subst Q (sym g) rel)))))
+
+    stepped : (s : State M) → s.world.over ≡ None → step m l f s ≡ step_at m l f (standing l s.at) s
+    stepped s e = ap (λ o. unless_over o s (step_at m l f (standing l s.at) s)) e
+
+    going : (s : State M) (x : Local) → Sees l ranges look s x → x.world.over ≡ s.world.over
+    going s x sees = ap (λ w. w.over) (sym sees.world)
+
+    -- to the next place of the block
+    next_goes : (n : ℕ) (s : State M) (u : CodeState) (b : Block) (q : Place) (others : List Place)
+        (exit : flow_exit.Exit)
+        → s.world.over ≡ None
+        → Sees l ranges look s u.local
+        → RunsBlock l t (starts_of blocks) (s.at ∷ q ∷ others) exit
+        → ((p : Place) → IsIn p (s.at ∷ q ∷ others) → IsPlain l ranges (standing l p))
+        → Stands k b (body_of l ranges (s.at ∷ q ∷ others)) u
+        → b.exit ≡ exit_of l ranges (s.at ∷ q ∷ others) exit
+        → n ≡ length (q ∷ others)
+        → Went n s u
+    next_goes n s u b q others exit go sees runs plain here exit_is rank =
+        let ws = widths k.variables in
+        let ss = statements l ranges s.at in
+        let s' : State _ = step_at m l f (standing l s.at) s in
+        let u' : CodeState = after (code_step l k) (length ss) u in
+        let there = arrives l k b (body_of l ranges (q ∷ others)) ss u here in
+        let met = goes_to m l f look ranges ws (returns_in b (body_of l ranges (q ∷ others))) given.setting
+        (starts_of blocks) (standing l s.at) q s u.local (plain s.at (inl refl)) runs.0.goes_on runs.0.next go sees in
+        let P : Local → Type 0 = λ x. Sees l ranges look s' x in
+        let sees' : Sees l ranges look s' u'.local = subst P (sym there.local) met.sees in
+        let rel : Related (length others) s' u' = record {
+          sees = sees';
+          at = λ g. let Q : Place → Type 0 = λ p. At (length others) p u' in subst Q (sym (met.at g)) (record {
+            block = b;
+            others = others;
+            exit = exit;
+            runs = runs.1;
+            plain = λ p h. plain p (inr h);
+            here = there.here;
+            exit_is = exit_is;
+            rank = refl;
+          });
+        } in
+        goes_on n s s' u u' (length ss) (length others) (stepped s go) refl (inr (omega (arith, rank))) rel
+
+    -- after the block
+    relates : (s : State M) (u : CodeState) (o : Option End)
+        → s.world.over ≡ o
+        → Left l ranges look (starts_of blocks) s u
+        → (n : ℕ) × Related n s u
+    relates s u None e left =
+        let there = left.at e in
+        let b = begins l t (starts_of blocks) blocks given.flow.run u.block s.at there.1 in
+        (length b.others, record { sees = left.sees; at = λ g. enters_at s.at u b there.0 })
+    relates s u (Some h) e left = (0, record { sees = left.sees; at = λ g. absurd (cc) })
+
+    -- out of the block
+    last_goes : (n : ℕ) (s : State M) (u : CodeState) (b : Block) (exit : flow_exit.Exit)
+        → s.world.over ≡ None
+        → Sees l ranges look s u.local
+        → RunsBlock l t (starts_of blocks) (s.at ∷ []) exit
+        → IsPlain l ranges (standing l s.at)
+        → Stands k b (body_of l ranges (s.at ∷ [])) u
+        → b.exit ≡ exit_of l ranges (s.at ∷ []) exit
+        → Went n s u
+    last_goes n s u b exit go sees runs plain here exit_is =
+        let ws = widths k.variables in
+        let ss = statements l ranges s.at in
+        let s' : State _ = step_at m l f (standing l s.at) s in
+        let u1 : CodeState = after (code_step l k) (length ss) u in
+        let u' : CodeState = code_step l k u1 in
+        let there = arrives l k b [] ss u here in
+        let leaving : Leaving ws (exit_by l ranges (standing l s.at) exit) u1 u' = record {
+          on = λ g. step_in l k u1 b [] g there.here.block (there.here.left g) ∙ ap (λ e. leave ws e u1) exit_is;
+          off = λ h g. still l k u1 h g;
+        } in
+        let left = leaves m l f look ranges ws (returns_in b []) given.setting (starts_of blocks) t (standing l s.at)
+        exit s u.local u1 u' plain runs go sees there.local leaving in
+        let rel = relates s' u' s'.world.over refl left in
+        goes_on n s s' u u' (length ss + 1) rel.0 (stepped s go) (sym (after_more (code_step l k) u (length ss) 1))
+        (inl (omega arith)) rel.1
+
+    by_places : (n : ℕ) (s : State M) (u : CodeState) (b : Block) (others : List Place) (exit : flow_exit.Exit)
+        → s.world.over ≡ None
+        → Sees l ranges look s u.local
+        → RunsBlock l t (starts_of blocks) (s.at ∷ others) exit
+        → ((p : Place) → IsIn p (s.at ∷ others) → IsPlain l ranges (standing l p))
+        → Stands k b (body_of l ranges (s.at ∷ others)) u
+        → b.exit ≡ exit_of l ranges (s.at ∷ others) exit
+        → n ≡ length others
+        → Went n s u
+    by_places n s u b [] exit go sees runs plain here exit_is rank =
+        last_goes n s u b exit go sees runs (plain s.at (inl refl)) here exit_is
+    by_places n s u b (q ∷ others) exit go sees runs plain here exit_is rank =
+        next_goes n s u b q others exit go sees runs plain here exit_is rank
+
+    goes_by : (n : ℕ) (s : State M) (u : CodeState) (o : Option End) → s.world.over ≡ o → Related n s u → Went n s u
+    goes_by n s u None go rel =
+        let a = rel.at go in
+        by_places n s u a.block a.others a.exit go rel.sees a.runs a.plain a.here a.exit_is a.rank
+    goes_by n s u (Some h) go rel =
+        inl (
+          ap (λ o. unless_over o s (step_at m l f (standing l s.at) s)) go,
+          still l k u h
+              (going s u.local rel.sees ∙ go),
+        )
+
+    simulates : RankedSimulates (machine m l f) (code_machine l k) Related
+    simulates = record {
+      same = λ n s u rel. ap shown rel.sees.world;
+      goes = λ n s u rel. goes_by n s u s.world.over refl rel;
     }
 
--- ---- steps
-
-abbrev Went : {M : Type 0} → Acts M → Listing → Frame → List TableAt → List flow_block.Block → List Varnode → Code → (M → Bytes) → ℕ → State M → CodeState → Type 0
-Went m l f t blocks ranges k look n s u = GoesRanked (machine m l f) (code_machine l k) (Related l t blocks ranges k look) n s u
-
-goes_on : {M : Type 0} (m : Acts M) (l : Listing) (f : Frame) (t : List TableAt) (blocks : List flow_block.Block) (ranges : List Varnode) (k : Code) (look : M → Bytes) (n : ℕ) (s s' : State M) (u u' : CodeState) (j r : ℕ) → step m l f s ≡ s' → after (code_step l k) j u ≡ u' → (0 < j) ⊎ (r < n) → Related l t blocks ranges k look r s' u' → Went m l f t blocks ranges k look n s u
-goes_on m l f t blocks ranges k look n s s' u u' j r e g less rel =
-    let P : State _ → Type 0 = λ x. Related l t blocks ranges k look r x (after (code_step l k) j u) in
-    let Q : CodeState → Type 0 = λ x. Related l t blocks ranges k look r s' x in
-    inr (0, (j, (r, (less, subst P (sym e) (subst Q (sym g) rel)))))
-
-stepped : {M : Type 0} (m : Acts M) (l : Listing) (f : Frame) (s : State M) → s.world.over ≡ None → step m l f s ≡ step_at m l f (standing l s.at) s
-stepped m l f s e = ap (λ o. unless_over o s (step_at m l f (standing l s.at) s)) e
-
-going : {M : Type 0} (l : Listing) (ranges : List Varnode) (look : M → Bytes) (s : State M) (x : Local) → Sees l ranges look s x → x.world.over ≡ s.world.over
-going l ranges look s x sees = ap (λ w. w.over) (sym sees.world)
-
--- to the next place of the block
-next_goes : {M : Type 0} (m : Acts M) (l : Listing) (f : Frame) (t : List TableAt) (blocks : List flow_block.Block) (ranges : List Varnode) (k : Code) (look : M → Bytes) → Given l t blocks ranges k → (n : ℕ) (s : State M) (u : CodeState) (b : Block) (q : Place) (others : List Place) (exit : flow_exit.Exit) → s.world.over ≡ None → Sees l ranges look s u.local → RunsBlock l t (starts_of blocks) (s.at ∷ q ∷ others) exit → ((p : Place) → IsIn p (s.at ∷ q ∷ others) → IsPlain l ranges (standing l p)) → Stands k b (body_of l ranges (s.at ∷ q ∷ others)) u → b.exit ≡ exit_of l ranges (s.at ∷ q ∷ others) exit → n ≡ length (q ∷ others) → Went m l f t blocks ranges k look n s u
-next_goes m l f t blocks ranges k look given n s u b q others exit go sees runs plain here exit_is rank =
-    let ws = widths k.variables in
-    let ss = statements l ranges s.at in
-    let s' : State _ = step_at m l f (standing l s.at) s in
-    let u' : CodeState = after (code_step l k) (length ss) u in
-    let there = arrives l k b (body_of l ranges (q ∷ others)) ss u here in
-    let met = goes_to m l f look ranges ws (returns_in b (body_of l ranges (q ∷ others))) given.setting (standing l s.at) q s u.local (plain s.at (inl refl)) runs.0.goes_on runs.0.next go sees in
-    let P : Local → Type 0 = λ x. Sees l ranges look s' x in
-    let sees' : Sees l ranges look s' u'.local = subst P (sym there.local) met.sees in
-    let rel : Related l t blocks ranges k look (length others) s' u' = record {
-      sees = sees';
-      at = λ g. let Q : Place → Type 0 = λ p. At l t blocks ranges k (length others) p u' in subst Q (sym (met.at g)) (record {
-        block = b;
-        others = others;
-        exit = exit;
-        runs = runs.1;
-        plain = λ p h. plain p (inr h);
-        here = there.here;
-        exit_is = exit_is;
-        rank = refl;
-      });
-    } in
-    goes_on m l f t blocks ranges k look n s s' u u' (length ss) (length others) (stepped m l f s go) refl (inr (omega (arith, rank))) rel
-
--- after the block
-relates : {M : Type 0} (l : Listing) (t : List TableAt) (blocks : List flow_block.Block) (ranges : List Varnode) (k : Code) (look : M → Bytes) → Given l t blocks ranges k → (s : State M) (u : CodeState) (o : Option End) → s.world.over ≡ o → Left l ranges look (starts_of blocks) s u → (n : ℕ) × Related l t blocks ranges k look n s u
-relates l t blocks ranges k look given s u None e left =
-    let there = left.at e in
-    let b = begins l t (starts_of blocks) blocks given.flow.run u.block s.at there.1 in
-    (length b.others, record { sees = left.sees; at = λ g. enters_at l t blocks ranges k given s.at u b there.0 })
-relates l t blocks ranges k look given s u (Some h) e left = (0, record { sees = left.sees; at = λ g. absurd (cc) })
-
--- out of the block
-last_goes : {M : Type 0} (m : Acts M) (l : Listing) (f : Frame) (t : List TableAt) (blocks : List flow_block.Block) (ranges : List Varnode) (k : Code) (look : M → Bytes) → Given l t blocks ranges k → (n : ℕ) (s : State M) (u : CodeState) (b : Block) (exit : flow_exit.Exit) → s.world.over ≡ None → Sees l ranges look s u.local → RunsBlock l t (starts_of blocks) (s.at ∷ []) exit → IsPlain l ranges (standing l s.at) → Stands k b (body_of l ranges (s.at ∷ [])) u → b.exit ≡ exit_of l ranges (s.at ∷ []) exit → Went m l f t blocks ranges k look n s u
-last_goes m l f t blocks ranges k look given n s u b exit go sees runs plain here exit_is =
-    let ws = widths k.variables in
-    let ss = statements l ranges s.at in
-    let s' : State _ = step_at m l f (standing l s.at) s in
-    let u1 : CodeState = after (code_step l k) (length ss) u in
-    let u' : CodeState = code_step l k u1 in
-    let there = arrives l k b [] ss u here in
-    let leaving : Leaving ws (exit_by l ranges (standing l s.at) exit) u1 u' = record {
-      on = λ g. step_in l k u1 b [] g there.here.block (there.here.left g) ∙ ap (λ e. leave ws e u1) exit_is;
-      off = λ h g. still l k u1 h g;
-    } in
-    let left = leaves m l f look ranges ws (returns_in b []) t (starts_of blocks) given.setting (standing l s.at) exit s u.local u1 u' plain runs go sees there.local leaving in
-    let rel = relates l t blocks ranges k look given s' u' s'.world.over refl left in
-    goes_on m l f t blocks ranges k look n s s' u u' (length ss + 1) rel.0 (stepped m l f s go) (sym (after_more (code_step l k) u (length ss) 1)) (inl (omega arith)) rel.1
-
-by_places : {M : Type 0} (m : Acts M) (l : Listing) (f : Frame) (t : List TableAt) (blocks : List flow_block.Block) (ranges : List Varnode) (k : Code) (look : M → Bytes) → Given l t blocks ranges k → (n : ℕ) (s : State M) (u : CodeState) (b : Block) (others : List Place) (exit : flow_exit.Exit) → s.world.over ≡ None → Sees l ranges look s u.local → RunsBlock l t (starts_of blocks) (s.at ∷ others) exit → ((p : Place) → IsIn p (s.at ∷ others) → IsPlain l ranges (standing l p)) → Stands k b (body_of l ranges (s.at ∷ others)) u → b.exit ≡ exit_of l ranges (s.at ∷ others) exit → n ≡ length others → Went m l f t blocks ranges k look n s u
-by_places m l f t blocks ranges k look given n s u b [] exit go sees runs plain here exit_is rank = last_goes m l f t blocks ranges k look given n s u b exit go sees runs (plain s.at (inl refl)) here exit_is
-by_places m l f t blocks ranges k look given n s u b (q ∷ others) exit go sees runs plain here exit_is rank = next_goes m l f t blocks ranges k look given n s u b q others exit go sees runs plain here exit_is rank
-
-goes_by : {M : Type 0} (m : Acts M) (l : Listing) (f : Frame) (t : List TableAt) (blocks : List flow_block.Block) (ranges : List Varnode) (k : Code) (look : M → Bytes) → Given l t blocks ranges k → (n : ℕ) (s : State M) (u : CodeState) (o : Option End) → s.world.over ≡ o → Related l t blocks ranges k look n s u → Went m l f t blocks ranges k look n s u
-goes_by m l f t blocks ranges k look given n s u None go rel =
-    let a = rel.at go in
-    by_places m l f t blocks ranges k look given n s u a.block a.others a.exit go rel.sees a.runs a.plain a.here a.exit_is a.rank
-goes_by m l f t blocks ranges k look given n s u (Some h) go rel =
-    inl (ap (λ o. unless_over o s (step_at m l f (standing l s.at) s)) go, still l k u h (going l ranges look s u.local rel.sees ∙ go))
-
-simulates : {M : Type 0} (m : Acts M) (l : Listing) (f : Frame) (t : List TableAt) (blocks : List flow_block.Block) (ranges : List Varnode) (k : Code) (look : M → Bytes) → Given l t blocks ranges k → RankedSimulates (machine m l f) (code_machine l k) (Related l t blocks ranges k look)
-simulates m l f t blocks ranges k look given = record {
-  same = λ n s u rel. ap shown rel.sees.world;
-  goes = λ n s u rel. goes_by m l f t blocks ranges k look given n s u s.world.over refl rel;
-}
-
--- The two runs show the same from where they see the same and the code stands at the beginning of the place's block.
-pub follows : {M : Type 0} (m : Acts M) (l : Listing) (f : Frame) (t : List TableAt) (blocks : List flow_block.Block) (ranges : List Varnode) (k : Code) (look : M → Bytes) → Given l t blocks ranges k → (s : State M) (u : CodeState) → Left l ranges look (starts_of blocks) s u → TwoWay (seen (machine m l f) s) (seen (code_machine l k) u)
-follows m l f t blocks ranges k look given s u left =
-    let rel = relates l t blocks ranges k look given s u s.world.over refl left in
-    two_way_ranked (machine m l f) (code_machine l k) (Related l t blocks ranges k look) (pcode_grows m l f) (code_grows l k) (simulates m l f t blocks ranges k look given) rel.0 s u rel.1
+    -- The two runs show the same from where they see the same and the code stands at the beginning of the place's block.
+    pub follows : (s : State M) (u : CodeState)
+        → Left l ranges look (starts_of blocks) s u
+        → TwoWay (seen (machine m l f) s) (seen (code_machine l k) u)
+    follows s u left =
+        let rel = relates s u s.world.over refl left in
+        two_way_ranked (machine m l f) (code_machine l k) Related (pcode_grows m l f) (code_grows l k) simulates
+        rel.0 s u rel.1

@@ -36,12 +36,18 @@ record IsAtomAt (l : Listing) (atoms : List Atom) (n : ℕ) (v : Varnode) : Type
   storage : IsLocalStorage atom.storage
   narrow : (0 < atom.size) × (atom.size ≤ 16)
 
-atom_at : (l : Listing) (atoms : List Atom) (n : ℕ) (v : Varnode) → AreNarrow atoms → slice_get (ranges_of l atoms) n ≡ Some v → IsAtomAt l atoms n v
+atom_at : (l : Listing) (atoms : List Atom) (n : ℕ) (v : Varnode)
+    → AreNarrow atoms
+    → slice_get (ranges_of l atoms) n ≡ Some v
+    → IsAtomAt l atoms n v
 atom_at l [] n v all e = absurd (cc)
 atom_at l (a ∷ atoms) zero v all e = record { atom = a; get = refl; range = cc; storage = all.0.0; narrow = all.0.1 }
-atom_at l (a ∷ atoms) (suc n) v all e = let r = atom_at l atoms n v all.1 e in record { atom = r.atom; get = r.get; range = r.range; storage = r.storage; narrow = r.narrow }
+atom_at l (a ∷ atoms) (suc n) v all e = let r = atom_at l atoms n v all.1 e in
+    record { atom = r.atom; get = r.get; range = r.range; storage = r.storage; narrow = r.narrow }
 
-variable_get : (atoms : List Atom) (n : ℕ) (a : Atom) → slice_get atoms n ≡ Some a → slice_get (map variable_for atoms) n ≡ Some (variable_for a)
+variable_get : (atoms : List Atom) (n : ℕ) (a : Atom)
+    → slice_get atoms n ≡ Some a
+    → slice_get (map variable_for atoms) n ≡ Some (variable_for a)
 variable_get atoms n a e = slice_get-map variable_for atoms n ∙ ap (option_map variable_for) e
 
 pub range_size : (l : Listing) (s : ParamStorage) (k : ℕ) → (range_at l s k).size ≡ k
@@ -49,19 +55,29 @@ range_size l (P.Register o) k = refl
 range_size l (P.Unique o) k = refl
 range_size l (P.Stack o) k = refl
 
-widths_are : (l : Listing) (atoms : List Atom) → AreNarrow atoms → (n : ℕ) (v : Varnode) → slice_get (ranges_of l atoms) n ≡ Some v → IsNarrow v → widths (map variable_for atoms) n ≡ v.size
+widths_are : (l : Listing) (atoms : List Atom)
+    → AreNarrow atoms
+    → (n : ℕ) (v : Varnode)
+    → slice_get (ranges_of l atoms) n ≡ Some v
+    → IsNarrow v
+    → widths (map variable_for atoms) n ≡ v.size
 widths_are l atoms all n v e narrow =
     let r = atom_at l atoms n v all e in
-    ap width_in (variable_get atoms n r.atom r.get) ∙ nearest_is (r.atom).size r.narrow.0 r.narrow.1 ∙ sym (range_size l (r.atom).storage (r.atom).size) ∙ ap (λ (w : Varnode). w.size) r.range
+    ap width_in (variable_get atoms n r.atom r.get) ∙ nearest_is (r.atom).size r.narrow.0 r.narrow.1
+    ∙ sym (range_size l (r.atom).storage (r.atom).size) ∙ ap (λ (w : Varnode). w.size) r.range
 
 -- ---- the start
 
-word_is : (l : Listing) (e : Entry) (s : ParamStorage) (k : ℕ) → IsLocalStorage s → word_at l e k s ≡ local_word l (range_at l s k) e.bytes
+word_is : (l : Listing) (e : Entry) (s : ParamStorage) (k : ℕ)
+    → IsLocalStorage s
+    → word_at l e k s ≡ local_word l (range_at l s k) e.bytes
 word_is l e (P.Register o) k h = refl
 word_is l e (P.Unique o) k h = refl
 word_is l e (P.Stack o) k h = absurd h
 
-starts_held : (l : Listing) (e : Entry) (atoms : List Atom) → AreNarrow atoms → Holds l (ranges_of l atoms) e.bytes (first_local l (map variable_for atoms) e).env
+starts_held : (l : Listing) (e : Entry) (atoms : List Atom)
+    → AreNarrow atoms
+    → Holds l (ranges_of l atoms) e.bytes (first_local l (map variable_for atoms) e).env
 starts_held l e atoms all n v is =
     let r = atom_at l atoms n v all is in
     ap (first_word l e) (variable_get atoms n r.atom r.get)
@@ -71,7 +87,9 @@ starts_held l e atoms all n v is =
 
 -- ---- the run of the listing and that of the code
 
-given : (l : Listing) (t : List TableAt) (blocks : List flow_block.Block) (atoms : List Atom) → IsPlainForm l t blocks atoms → Given l t blocks (ranges_of l atoms) (lowered l blocks atoms)
+given : (l : Listing) (t : List TableAt) (blocks : List flow_block.Block) (atoms : List Atom)
+    → IsPlainForm l t blocks atoms
+    → Given l t blocks (ranges_of l atoms) (lowered l blocks atoms)
 given l t blocks atoms form = record {
   flow = form.flow;
   setting = record { table = form.table; widths = widths_are l atoms form.narrow };
@@ -80,7 +98,12 @@ given l t blocks atoms form = record {
 }
 
 -- The run of the code shows what the run of the listing shows, over any memory that holds the entry's bytes.
-pub keeps : {M : Type 0} (m : Acts M) (look : M → Bytes) (l : Listing) (f : Frame) (t : List TableAt) (blocks : List flow_block.Block) (atoms : List Atom) (e : Entry) (w : M) → IsPlainForm l t blocks atoms → IsEntry l e → look w ≡ e.bytes → TwoWay (seen (machine m l f) (start l e w)) (seen_code l (lowered l blocks atoms) e)
+pub keeps : {M : Type 0} (m : Acts M) (look : M → Bytes) (l : Listing) (f : Frame) (t : List TableAt)
+    (blocks : List flow_block.Block) (atoms : List Atom) (e : Entry) (w : M)
+    → IsPlainForm l t blocks atoms
+    → IsEntry l e
+    → look w ≡ e.bytes
+    → TwoWay (seen (machine m l f) (start l e w)) (seen_code l (lowered l blocks atoms) e)
 keeps m look l f t blocks atoms e w form entry is =
     let k = lowered l blocks atoms in
     let left : Left l (ranges_of l atoms) look (starts_of blocks) (start l e w) (start_code l k e) = record {
@@ -91,4 +114,5 @@ keeps m look l f t blocks atoms e w form entry is =
       };
       at = λ g. (refl, entry_found l t blocks form.flow);
     } in
-    follows m l f t blocks (ranges_of l atoms) k look (given l t blocks atoms form) (start l e w) (start_code l k e) left
+    follows m l f t blocks (ranges_of l atoms) k look (given l t blocks atoms form) (start l e w) (start_code l k e)
+    left

@@ -1,3 +1,4 @@
+pub mod Members
 pub mod Words
 pub mod Last
 pub mod Nodes

@@ -35,7 +35,11 @@ same_by a v t =
 same_self : (v : Varnode) → same_range v v ≡ true
 same_self v = grind (arith, nat_tests)
 
-found_at : (t : Bool) (a v : Varnode) (rest : List Varnode) → same_range a v ≡ t → (IsIn v rest → slice_get rest (variable_of rest v) ≡ Some v) → IsIn v (a ∷ rest) → slice_get (a ∷ rest) (cond t 0 (suc (variable_of rest v))) ≡ Some v
+found_at : (t : Bool) (a v : Varnode) (rest : List Varnode)
+    → same_range a v ≡ t
+    → (IsIn v rest → slice_get rest (variable_of rest v) ≡ Some v)
+    → IsIn v (a ∷ rest)
+    → slice_get (a ∷ rest) (cond t 0 (suc (variable_of rest v))) ≡ Some v
 found_at true a v rest is later h = ap (λ x. Some x) (same_by a v is)
 found_at false a v rest is later h = ⊎_elim
     (λ (same : v ≡ a). let s : same_range a v ≡ true = ap (λ x. same_range x v) (sym same) ∙ same_self v in absurd (cc))
@@ -52,7 +56,8 @@ abbrev pub over : {M : Type 0} → (M → Bytes) → World M → World Bytes
 over look w = record { memory = look w.memory; answers = w.answers; events = w.events; over = w.over }
 
 -- The worlds are the same, and the variables hold the ranges' words.
-pub record Sees {M : Type 0} (l : Listing) (ranges : List Varnode) (look : M → Bytes) (s : State M) (x : Local) : Type 0 where
+pub record Sees {M : Type 0} (l : Listing) (ranges : List Varnode) (look : M → Bytes) (s : State M) (x : Local) : Type
+    0 where
   pub world : over look s.world ≡ x.world
   pub holds : Holds l ranges s.local x.env
   pub bytes : AreBytes s.local
@@ -65,34 +70,77 @@ pub record Setting (l : Listing) (ranges : List Varnode) (ws : ℕ → ℕ) : Ty
 -- ---- operands
 
 -- The operand has a word of its size, and its expression has the same.
-pub record Reading {M : Type 0} (m : Acts M) (l : Listing) (ranges : List Varnode) (ws : ℕ → ℕ) (s : State M) (x : Local) (v : Varnode) : Type 0 where
+pub record Reading {M : Type 0} (m : Acts M) (l : Listing) (ranges : List Varnode) (ws : ℕ → ℕ) (s : State M)
+    (x : Local) (v : Varnode) : Type 0 where
   pub word : ℕ
   pub below : word < limit v.size
   pub read : read_varnode m l (kind_of l v.space) v s ≡ Ok word
   pub means : Means ws x.env (operand l ranges v) v.size word
 
-pub variable_means : {M : Type 0} (l : Listing) (ranges : List Varnode) (ws : ℕ → ℕ) (look : M → Bytes) (s : State M) (x : Local) (v : Varnode) → Setting l ranges ws → Sees l ranges look s x → IsNarrow v → IsIn v ranges → Means ws x.env (E.Var (variable_of ranges v)) v.size (local_word l v s.local)
-variable_means l ranges ws look s x v set sees narrow h =
-    let e = found ranges v h in
-    record {
-      width = width_of_var ws (variable_of ranges v) ∙ set.widths (variable_of ranges v) v e narrow;
-      value = value_of_var ws x.env (variable_of ranges v) ∙ sees.holds (variable_of ranges v) v e;
-    }
+module _
+    {M : Type 0}
+    (l : Listing)
+    (ranges : List Varnode)
+    (ws : ℕ → ℕ)
+    (look : M → Bytes)
+    (s : State M)
+    (x : Local)
+    (set : Setting l ranges ws)
+    (sees : Sees l ranges look s x)
+  where
+    pub variable_means : (v : Varnode)
+        → IsNarrow v
+        → IsIn v ranges
+        → Means ws x.env (E.Var (variable_of ranges v)) v.size (local_word l v s.local)
+    variable_means v narrow h =
+        let e = found ranges v h in
+        record {
+          width = width_of_var ws (variable_of ranges v) ∙ set.widths (variable_of ranges v) v e narrow;
+          value = value_of_var ws x.env (variable_of ranges v) ∙ sees.holds (variable_of ranges v) v e;
+        }
 
 -- by the kind of the operand's space
-abbrev ReadsBy : {M : Type 0} → Acts M → Listing → List Varnode → (ℕ → ℕ) → State M → Local → Varnode → SpaceKind → Type 0
-ReadsBy m l ranges ws s x v k = (n : ℕ) × ((n < limit v.size) × ((read_varnode m l k v s ≡ Ok n) × Means ws x.env (operand_by k ranges v) v.size n))
+abbrev ReadsBy : {M : Type 0}
+    → Acts M
+    → Listing
+    → List Varnode
+    → (ℕ → ℕ)
+    → State M
+    → Local
+    → Varnode
+    → SpaceKind
+    → Type 0
+ReadsBy m l ranges ws s x v k = (n : ℕ)
+    × ((n < limit v.size) × ((read_varnode m l k v s ≡ Ok n) × Means ws x.env (operand_by k ranges v) v.size n))
 
-reads_by : {M : Type 0} (m : Acts M) (l : Listing) (ranges : List Varnode) (ws : ℕ → ℕ) (look : M → Bytes) (s : State M) (x : Local) (v : Varnode) (k : SpaceKind) → Setting l ranges ws → Sees l ranges look s x → IsNarrow v → IsOperandBy k ranges v → ReadsBy m l ranges ws s x v k
-reads_by m l ranges ws look s x v Constant set sees narrow h = (v.offset, (h, (refl, constant_means ws x.env v.size v.offset narrow.0 narrow.1 h)))
-reads_by m l ranges ws look s x v Ram set sees narrow h = absurd h
-reads_by m l ranges ws look s x v Register set sees narrow h = (local_word l v s.local, (local_word_below l v s.local sees.bytes, (refl, variable_means l ranges ws look s x v set sees narrow h)))
-reads_by m l ranges ws look s x v Unique set sees narrow h = (local_word l v s.local, (local_word_below l v s.local sees.bytes, (refl, variable_means l ranges ws look s x v set sees narrow h)))
+module _
+    {M : Type 0}
+    (m : Acts M)
+    (l : Listing)
+    (ranges : List Varnode)
+    (ws : ℕ → ℕ)
+    (look : M → Bytes)
+    (s : State M)
+    (x : Local)
+    (set : Setting l ranges ws)
+    (sees : Sees l ranges look s x)
+  where
+    reads_by : (v : Varnode) (k : SpaceKind) → IsNarrow v → IsOperandBy k ranges v → ReadsBy m l ranges ws s x v k
+    reads_by v Constant narrow h = (v.offset, (h, (refl, constant_means ws x.env v.size v.offset narrow.0 narrow.1 h)))
+    reads_by v Ram narrow h = absurd h
+    reads_by v Register narrow h = (
+      local_word l v s.local,
+      (local_word_below l v s.local sees.bytes, (refl, variable_means l ranges ws look s x set sees v narrow h)),
+    )
+    reads_by v Unique narrow h = (
+      local_word l v s.local,
+      (local_word_below l v s.local sees.bytes, (refl, variable_means l ranges ws look s x set sees v narrow h)),
+    )
 
-pub reading : {M : Type 0} (m : Acts M) (l : Listing) (ranges : List Varnode) (ws : ℕ → ℕ) (look : M → Bytes) (s : State M) (x : Local) (v : Varnode) → Setting l ranges ws → Sees l ranges look s x → IsOperand l ranges v → Reading m l ranges ws s x v
-reading m l ranges ws look s x v set sees h =
-    let r = reads_by m l ranges ws look s x v (kind_of l v.space) set sees h.0 h.1 in
-    record { word = r.0; below = r.1.0; read = r.1.1.0; means = r.1.1.1 }
+    pub reading : (v : Varnode) → IsOperand l ranges v → Reading m l ranges ws s x v
+    reading v h =
+        let r = reads_by v (kind_of l v.space) h.0 h.1 in
+        record { word = r.0; below = r.1.0; read = r.1.1.0; means = r.1.1.1 }
 
 -- ---- outputs
 
@@ -100,14 +148,19 @@ reading m l ranges ws look s x v set sees h =
 abbrev pub written : {M : Type 0} → Listing → Varnode → ℕ → State M → State M
 written l z n s = record { at = s.at; local = with_word l z n s.local; world = s.world }
 
-writes_by : {M : Type 0} (m : Acts M) (l : Listing) (ranges : List Varnode) (k : SpaceKind) (z : Varnode) (n : ℕ) (s : State M) → IsOutputBy k ranges z → write_varnode m l k z n s ≡ written l z n s
-writes_by m l ranges Constant z n s h = absurd h
-writes_by m l ranges Ram z n s h = absurd h
-writes_by m l ranges Register z n s h = refl
-writes_by m l ranges Unique z n s h = refl
+module _ {M : Type 0} (m : Acts M) (l : Listing) (ranges : List Varnode) where
+  writes_by : (k : SpaceKind) (z : Varnode) (n : ℕ) (s : State M)
+      → IsOutputBy k ranges z
+      → write_varnode m l k z n s ≡ written l z n s
+  writes_by Constant z n s h = absurd h
+  writes_by Ram z n s h = absurd h
+  writes_by Register z n s h = refl
+  writes_by Unique z n s h = refl
 
-pub writing : {M : Type 0} (m : Acts M) (l : Listing) (ranges : List Varnode) (z : Varnode) (n : ℕ) (s : State M) → IsOutput l ranges z → write_varnode m l (kind_of l z.space) z n s ≡ written l z n s
-writing m l ranges z n s h = writes_by m l ranges (kind_of l z.space) z n s h.1
+  pub writing : (z : Varnode) (n : ℕ) (s : State M)
+      → IsOutput l ranges z
+      → write_varnode m l (kind_of l z.space) z n s ≡ written l z n s
+  writing z n s h = writes_by (kind_of l z.space) z n s h.1
 
 pub output_in : (k : SpaceKind) (ranges : List Varnode) (z : Varnode) → IsOutputBy k ranges z → IsIn z ranges
 output_in Constant ranges z h = absurd h
@@ -115,5 +168,7 @@ output_in Ram ranges z h = absurd h
 output_in Register ranges z h = h
 output_in Unique ranges z h = h
 
-pub output_found : (l : Listing) (ranges : List Varnode) (z : Varnode) → IsOutput l ranges z → slice_get ranges (variable_of ranges z) ≡ Some z
+pub output_found : (l : Listing) (ranges : List Varnode) (z : Varnode)
+    → IsOutput l ranges z
+    → slice_get ranges (variable_of ranges z) ≡ Some z
 output_found l ranges z h = found ranges z (output_in (kind_of l z.space) ranges z h.1)

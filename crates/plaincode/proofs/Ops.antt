@@ -35,78 +35,131 @@ use Rattle.plaincode.proofs.Nodes.{Means, unary_means, binary_means}
 use Rattle.plaincode.proofs.Operands.{over, Sees, Setting, reading, written, writing, output_found}
 
 -- The op's state and the code's go together, and the op has gone on to this place.
-pub record Meets {M : Type 0} (l : Listing) (ranges : List Varnode) (look : M → Bytes) (next : Place) (s : State M) (x : Local) : Type 0 where
+pub record Meets {M : Type 0} (l : Listing) (ranges : List Varnode) (look : M → Bytes) (next : Place) (s : State M)
+    (x : Local) : Type 0 where
   pub sees : Sees l ranges look s x
   pub at : s.world.over ≡ None → s.at ≡ next
 
--- an assignment of an expression that has a value
-assign_runs : (l : Listing) (ws : ℕ → ℕ) (returns : List Stmt → Bool) (v n : ℕ) (e : Expr) (x : Local) → x.world.over ≡ None → value_of ws x.env e ≡ Some n → run_all l ws returns (S.Assign v e ∷ []) x ≡ assigned v n x
-assign_runs l ws returns v n e x go is =
-    ap (λ o. unless_over o x (do_simple l ws (λ c. returns []) (S.Assign v e) x)) go
-    ∙ do_assign l ws (λ c. returns []) v e x
-    ∙ ap (λ o. with_word o x (λ n. assigned v n x)) is
+module _
+    {M : Type 0}
+    (l : Listing)
+    (ranges : List Varnode)
+    (ws : ℕ → ℕ)
+    (returns : List Stmt → Bool)
+    (look : M → Bytes)
+    (set : Setting l ranges ws)
+  where
+    -- an assignment of an expression that has a value
+    assign_runs : (v n : ℕ) (e : Expr) (x : Local)
+        → x.world.over ≡ None
+        → value_of ws x.env e ≡ Some n
+        → run_all l ws returns (S.Assign v e ∷ []) x ≡ assigned v n x
+    assign_runs v n e x go is =
+        ap (λ o. unless_over o x (do_simple l ws (λ c. returns []) (S.Assign v e) x)) go
+        ∙ do_assign l ws (λ c. returns []) v e x
+        ∙ ap (λ o. with_word o x (λ n. assigned v n x)) is
 
--- a word is written to an output, and its variable is assigned the word's expression
-pub assign_meets : {M : Type 0} (l : Listing) (ranges : List Varnode) (ws : ℕ → ℕ) (returns : List Stmt → Bool) (look : M → Bytes) (z : Varnode) (n : ℕ) (e : Expr) (next : Place) (s s' : State M) (x : Local) → Setting l ranges ws → IsOutput l ranges z → n < limit z.size → Means ws x.env e z.size n → s.world.over ≡ None → Sees l ranges look s x → s' ≡ written l z n (moved next s) → Meets l ranges look next s' (run_all l ws returns (assigns ranges (Some z) e) x)
-assign_meets l ranges ws returns look z n e next s s' x set out below means go sees is =
-    let v = variable_of ranges z in
-    let xo : x.world.over ≡ None = ap (λ w. w.over) (sym sees.world) ∙ go in
-    let ran : run_all l ws returns (S.Assign v e ∷ []) x ≡ assigned v n x = assign_runs l ws returns v n e x xo means.value in
-    let there : State _ = written l z n (moved next s) in
-    let met : Meets l ranges look next there (assigned v n x) = record {
-      sees = record {
-        world = sees.world;
-        holds = holds_written l ranges set.table v z (output_found l ranges z out) n below s.local x.env sees.holds;
-        bytes = bytes_written l z n s.local sees.bytes;
-      };
-      at = λ _. refl;
-    } in
-    let P : Local → Type 0 = λ y. Meets l ranges look next there y in
-    let Q : State _ → Type 0 = λ t. Meets l ranges look next t (run_all l ws returns (S.Assign v e ∷ []) x) in
-    subst Q (sym is) (subst P (sym ran) met)
+    -- a word is written to an output, and its variable is assigned the word's expression
+    pub assign_meets : (z : Varnode) (n : ℕ) (e : Expr) (next : Place) (s s' : State M) (x : Local)
+        → IsOutput l ranges z
+        → n < limit z.size
+        → Means ws x.env e z.size n
+        → s.world.over ≡ None
+        → Sees l ranges look s x
+        → s' ≡ written l z n (moved next s)
+        → Meets l ranges look next s' (run_all l ws returns (assigns ranges (Some z) e) x)
+    assign_meets z n e next s s' x out below means go sees is =
+        let v = variable_of ranges z in
+        let xo : x.world.over ≡ None = ap (λ w. w.over) (sym sees.world) ∙ go in
+        let ran : run_all l ws returns (S.Assign v e ∷ []) x ≡ assigned v n x = assign_runs v n e x xo means.value in
+        let there : State _ = written l z n (moved next s) in
+        let met : Meets l ranges look next there (assigned v n x) = record {
+          sees = record {
+            world = sees.world;
+            holds = holds_written l ranges set.table v z (output_found l ranges z out) n below s.local x.env sees.holds;
+            bytes = bytes_written l z n s.local sees.bytes;
+          };
+          at = λ _. refl;
+        } in
+        let P : Local → Type 0 = λ y. Meets l ranges look next there y in
+        let Q : State _ → Type 0 = λ t. Meets l ranges look next t (run_all l ws returns (S.Assign v e ∷ []) x) in
+        subst Q (sym is) (subst P (sym ran) met)
 
 abbrev pub op_of : Opcode → Option Varnode → List Varnode → Op
 op_of code out vs = record { code = code; out = out; inputs = vs }
 
-unary_step : {M : Type 0} (m : Acts M) (l : Listing) (f : Frame) (i : Instruction) (op : Unary) (z v : Varnode) (s : State M) (r : Result ℕ End) (a : ℕ) → read_varnode m l (kind_of l v.space) v s ≡ r → r ≡ Ok a → step_at m l f (Does i (op_of (O.Unary op) (Some z) (v ∷ []))) s ≡ write_varnode m l (kind_of l z.space) z (unary_value op v.size a z.size) (moved (next_place i s.at.index) s)
-unary_step m l f i op z v s r a e g =
-    let next = next_place i s.at.index in
-    ap (λ r. apply m l next (effect_at l f i (op_of (O.Unary op) (Some z) (v ∷ [])) (with_first r (Ok [])) s) s) (e ∙ g)
+module _ {M : Type 0} (m : Acts M) (l : Listing) (f : Frame) where
+  unary_step : (i : Instruction) (op : Unary) (z v : Varnode) (s : State M) (r : Result ℕ End) (a : ℕ)
+      → read_varnode m l (kind_of l v.space) v s ≡ r
+      → r ≡ Ok a
+      → step_at m l f (Does i (op_of (O.Unary op) (Some z) (v ∷ []))) s
+      ≡ write_varnode m l (kind_of l z.space) z (unary_value op v.size a z.size) (moved (next_place i s.at.index) s)
+  unary_step i op z v s r a e g =
+      let next = next_place i s.at.index in
+      ap (λ r. apply m l next (effect_at l f i (op_of (O.Unary op) (Some z) (v ∷ [])) (with_first r (Ok [])) s) s)
+      (e ∙ g)
 
-binary_step : {M : Type 0} (m : Acts M) (l : Listing) (f : Frame) (i : Instruction) (op : Binary) (z v w : Varnode) (s : State M) (a b : ℕ) → read_varnode m l (kind_of l v.space) v s ≡ Ok a → read_varnode m l (kind_of l w.space) w s ≡ Ok b → step_at m l f (Does i (op_of (O.Binary op) (Some z) (v ∷ w ∷ []))) s ≡ write_varnode m l (kind_of l z.space) z (binary_value op v.size a w.size b z.size) (moved (next_place i s.at.index) s)
-binary_step m l f i op z v w s a b e g =
-    let next = next_place i s.at.index in
-    let o = op_of (O.Binary op) (Some z) (v ∷ w ∷ []) in
-    ap (λ r. apply m l next (effect_at l f i o (with_first r (with_first (read_varnode m l (kind_of l w.space) w s) (Ok []))) s) s) e
-    ∙ ap (λ r. apply m l next (effect_at l f i o (with_first (Ok a) (with_first r (Ok []))) s) s) g
+  binary_step : (i : Instruction) (op : Binary) (z v w : Varnode) (s : State M) (a b : ℕ)
+      → read_varnode m l (kind_of l v.space) v s ≡ Ok a
+      → read_varnode m l (kind_of l w.space) w s ≡ Ok b
+      → step_at m l f (Does i (op_of (O.Binary op) (Some z) (v ∷ w ∷ []))) s
+      ≡ write_varnode m l (kind_of l z.space) z (binary_value op v.size a w.size b z.size)
+      (moved (next_place i s.at.index) s)
+  binary_step i op z v w s a b e g =
+      let next = next_place i s.at.index in
+      let o = op_of (O.Binary op) (Some z) (v ∷ w ∷ []) in
+      ap (λ r. apply m l next (effect_at l f i o
+      (with_first r (with_first (read_varnode m l (kind_of l w.space) w s) (Ok []))) s) s) e
+      ∙ ap (λ r. apply m l next (effect_at l f i o (with_first (Ok a) (with_first r (Ok []))) s) s) g
 
--- an op that goes on
-pub op_meets : {M : Type 0} (m : Acts M) (l : Listing) (f : Frame) (look : M → Bytes) (ranges : List Varnode) (ws : ℕ → ℕ) (returns : List Stmt → Bool) → Setting l ranges ws → (i : Instruction) (code : Opcode) (out : Option Varnode) (vs : List Varnode) (s : State M) (x : Local) → IsPlainOp l ranges code out vs → turn_of l code vs ≡ GoesOn → s.world.over ≡ None → Sees l ranges look s x → Meets l ranges look (next_place i s.at.index) (step_at m l f (Does i (op_of code out vs)) s) (run_all l ws returns (op_statements l ranges code out vs) x)
-op_meets m l f look ranges ws returns set i (O.Unary op) (Some z) (v ∷ []) s x h turn go sees =
-    let r = reading m l ranges ws look s x v set sees h.1.0 in
-    let next = next_place i s.at.index in
-    let n = unary_value op v.size r.word z.size in
-    let narrow = h.1.1.0 in
-    assign_meets l ranges ws returns look z n (unary_node op z.size (operand l ranges v)) next s _ x set h.1.1 (unary_word op v.size z.size r.word narrow.0 h.0 r.below)
-    (unary_means op ws x.env v.size z.size r.word (operand l ranges v) h.0 narrow.0 narrow.1 h.1.0.0.1 r.below r.means) go sees
-    (unary_step m l f i op z v s (Ok r.word) r.word r.read refl ∙ writing m l ranges z n (moved next s) h.1.1)
-op_meets m l f look ranges ws returns set i (O.Binary op) (Some z) (v ∷ w ∷ []) s x h turn go sees =
-    let r = reading m l ranges ws look s x v set sees h.1.0.0 in
-    let q = reading m l ranges ws look s x w set sees h.1.0.1 in
-    let next = next_place i s.at.index in
-    let n = binary_value op v.size r.word w.size q.word z.size in
-    let narrow = h.1.1.0 in
-    assign_meets l ranges ws returns look z n (binary_node op (operand l ranges v) (operand l ranges w)) next s _ x set h.1.1 (binary_word op v.size w.size z.size r.word q.word narrow.0 h.0.1 r.below q.below)
-    (binary_means op ws x.env v.size w.size z.size r.word q.word (operand l ranges v) (operand l ranges w) h.0.0 h.0.1 r.means q.means) go sees
-    (binary_step m l f i op z v w s r.word q.word r.read q.read ∙ writing m l ranges z n (moved next s) h.1.1)
-op_meets m l f look ranges ws returns set i O.Branch out vs s x h turn go sees = absurd (cc)
-op_meets m l f look ranges ws returns set i O.CBranch out vs s x h turn go sees = absurd (cc)
-op_meets m l f look ranges ws returns set i O.Return out vs s x h turn go sees = absurd (cc)
-op_meets m l f look ranges ws returns set i (O.Unary op) None vs s x h turn go sees = absurd h
-op_meets m l f look ranges ws returns set i (O.Unary op) (Some z) [] s x h turn go sees = absurd h
-op_meets m l f look ranges ws returns set i (O.Unary op) (Some z) (v ∷ w ∷ vs) s x h turn go sees = absurd h
-op_meets m l f look ranges ws returns set i (O.Binary op) None vs s x h turn go sees = absurd h
-op_meets m l f look ranges ws returns set i (O.Binary op) (Some z) [] s x h turn go sees = absurd h
-op_meets m l f look ranges ws returns set i (O.Binary op) (Some z) (v ∷ []) s x h turn go sees = absurd h
-op_meets m l f look ranges ws returns set i (O.Binary op) (Some z) (v ∷ w ∷ u ∷ vs) s x h turn go sees = absurd h
-op_meets m l f look ranges ws returns set i code out vs s x h turn go sees = absurd h
+module _
+    {M : Type 0}
+    (m : Acts M)
+    (l : Listing)
+    (f : Frame)
+    (look : M → Bytes)
+    (ranges : List Varnode)
+    (ws : ℕ → ℕ)
+    (returns : List Stmt → Bool)
+    (set : Setting l ranges ws)
+  where
+    -- an op that goes on
+    pub op_meets : (i : Instruction) (code : Opcode) (out : Option Varnode) (vs : List Varnode) (s : State M) (x : Local)
+        → IsPlainOp l ranges code out vs
+        → turn_of l code vs ≡ GoesOn
+        → s.world.over ≡ None
+        → Sees l ranges look s x
+        → Meets l ranges look (next_place i s.at.index) (step_at m l f (Does i (op_of code out vs)) s)
+        (run_all l ws returns (op_statements l ranges code out vs) x)
+    op_meets i (O.Unary op) (Some z) (v ∷ []) s x h turn go sees =
+        let r = reading m l ranges ws look s x set sees v h.1.0 in
+        let next = next_place i s.at.index in
+        let n = unary_value op v.size r.word z.size in
+        let narrow = h.1.1.0 in
+        assign_meets l ranges ws returns look set z n (unary_node op z.size (operand l ranges v)) next s _ x h.1.1
+        (unary_word op v.size z.size r.word narrow.0 h.0 r.below)
+        (unary_means ws x.env op v.size z.size r.word (operand l ranges v) h.0 narrow.0 narrow.1 h.1.0.0.1 r.below
+        r.means) go sees
+        (unary_step m l f i op z v s (Ok r.word) r.word r.read refl ∙ writing m l ranges z n (moved next s) h.1.1)
+    op_meets i (O.Binary op) (Some z) (v ∷ w ∷ []) s x h turn go sees =
+        let r = reading m l ranges ws look s x set sees v h.1.0.0 in
+        let q = reading m l ranges ws look s x set sees w h.1.0.1 in
+        let next = next_place i s.at.index in
+        let n = binary_value op v.size r.word w.size q.word z.size in
+        let narrow = h.1.1.0 in
+        assign_meets l ranges ws returns look set z n (binary_node op (operand l ranges v) (operand l ranges w)) next s
+        _ x h.1.1 (binary_word op v.size w.size z.size r.word q.word narrow.0 h.0.1 r.below q.below)
+        (binary_means ws x.env op v.size w.size z.size r.word q.word (operand l ranges v) (operand l ranges w) h.0.0
+        h.0.1 r.means q.means) go sees
+        (binary_step m l f i op z v w s r.word q.word r.read q.read ∙ writing m l ranges z n (moved next s) h.1.1)
+    op_meets i O.Branch out vs s x h turn go sees = absurd (cc)
+    op_meets i O.CBranch out vs s x h turn go sees = absurd (cc)
+    op_meets i O.Return out vs s x h turn go sees = absurd (cc)
+    op_meets i (O.Unary op) None vs s x h turn go sees = absurd h
+    op_meets i (O.Unary op) (Some z) [] s x h turn go sees = absurd h
+    op_meets i (O.Unary op) (Some z) (v ∷ w ∷ vs) s x h turn go sees = absurd h
+    op_meets i (O.Binary op) None vs s x h turn go sees = absurd h
+    op_meets i (O.Binary op) (Some z) [] s x h turn go sees = absurd h
+    op_meets i (O.Binary op) (Some z) (v ∷ []) s x h turn go sees = absurd h
+    op_meets i (O.Binary op) (Some z) (v ∷ w ∷ u ∷ vs) s x h turn go sees = absurd h
+    op_meets i code out vs s x h turn go sees = absurd h

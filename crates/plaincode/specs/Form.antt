@@ -77,10 +77,9 @@ abbrev pub AreNarrow : List Atom → Type 0
 AreNarrow [] = Unit {0}
 AreNarrow (a ∷ rest) = (IsLocalStorage a.storage × ((0 < a.size) × (a.size ≤ 16))) × AreNarrow rest
 
--- What is asked of a listing with its blocks and its atoms: no callee is declared; what stands at each reached place is
--- of the form; and each range that is accessed is an atom, within its space and apart from the others.
+-- What is asked of a listing with its blocks and its atoms: what stands at each reached place is of the form, and each
+-- range that is accessed is an atom, within its space and apart from the others.
 pub record IsPlainForm (l : Listing) (t : List TableAt) (blocks : List Block) (atoms : List Atom) : Type 0 where
-  pub callees : l.callees ≡ []
   pub flow : IsFlow l t blocks
   pub few : length blocks < 2 ^ 32 - 1
   pub table : IsTable l (ranges_of l atoms)

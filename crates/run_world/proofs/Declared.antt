@@ -9,7 +9,7 @@ use Rattle.pcode_model.specs.declared.listing.Space.{Space}
 use Rattle.pcode_model.specs.declared.listing.SpaceKind.{SpaceKind}
 use Rattle.pcode_model.specs.declared.listing.SpaceKind.TheVariants.{Constant, Ram, Register, Unique}
 use Rattle.pcode_model.specs.Spaces.{kind_in, size_in, same_kind, number_of}
-use Rattle.pcode_model.specs.WellFormed.{AreSpaces, IsDeclared, IsFixed, how_many}
+use Rattle.pcode_model.specs.WellFormed.{AreSpaces, IsDeclared, IsFixed, constant_space, how_many}
 
 -- the number of the first space of a kind that is there
 pub number_below : (k : SpaceKind) (ss : List Space) → 1 ≤ how_many k ss → number_of k ss < length ss

@@ -7,7 +7,7 @@ ghost use Rattle.stackvars.specs.Collected.{is_last, rank, without_repeats};
 
 use crate::ranges::collect;
 use bits_core::Memory;
-use pcode_model::{Atom, Atoms, Flow, Listing, ParamStorage};
+use pcode_model::{Atom, Atoms, Flow, Listing, MAX_ATOMS, ParamStorage};
 use sqlite_items::Items;
 use std::alloc::Global;
 
@@ -28,9 +28,6 @@ impl From<Memory> for AtomFault {
         AtomFault::Memory
     }
 }
-
-/// The greatest number of ranges that may be accessed.
-pub const MAX_ATOMS: usize = 1024;
 
 fn rank(atom: &Atom) -> u128
     ensures { result ≡ rank atom.now }

@@ -1,4 +1,4 @@
-//! The text of a trace.
+//! The text of a trace: a line for each event, and one for how the run goes on or ended.
 #![tactic(auto)]
 
 mod text;

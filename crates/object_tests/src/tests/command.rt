@@ -1,10 +1,10 @@
 //! The top call over streams in memory that fail.
 
-use outside::{Bytes, Fails, Files, MemShelf, MemSink, MemSource, Memory, Words};
+use super::made;
+use outside::{Bytes, Fails, Files, MemShelf, MemSink, MemSource, Words};
 use pipeline::decompile_words;
 use std::alloc::Global;
 use std::process::Abort;
-use std::test::Fail;
 
 const LISTING: &[u8] = b"pcode 1
 space ram ram 8 le
@@ -32,18 +32,18 @@ struct Ended {
 }
 
 fn bytes(rt: &impl Abort, alloc: Global, list: &[u8]) -> Bytes {
-    Bytes::copy_of(alloc, list).expect(rt, "memory")
+    made(rt, Bytes::copy_of(alloc, list))
 }
 
 /// The call of this number fails.
 fn failing(rt: &impl Abort, alloc: Global, number: u32) -> Fails {
     let mut fails = Fails::new(alloc);
-    fails.push(number).expect(rt, "memory");
+    made(rt, fails.push(number));
     fails
 }
 
 fn sink(rt: &impl Abort, alloc: Global, room: u32) -> MemSink {
-    MemSink::new(alloc, room, Fails::new(alloc)).expect(rt, "memory")
+    made(rt, MemSink::new(alloc, room, Fails::new(alloc)))
 }
 
 /// Runs the command.
@@ -65,12 +65,12 @@ fn told(
 }
 
 /// A comment of so many bytes, its line feed included, and then the listing.
-fn after_a_comment(alloc: Global, length: usize) -> Result<Bytes, Memory> {
-    let filler = vec![in alloc; b'#'; length]?;
-    let mut text = Bytes::copy_of(alloc, &filler)?;
-    text.append(b"\n")?;
-    text.append(LISTING)?;
-    Ok(text)
+fn after_a_comment(rt: &impl Abort, alloc: Global, length: usize) -> Bytes {
+    let filler = made(rt, vec![in alloc; b'#'; length]);
+    let mut text = made(rt, Bytes::copy_of(alloc, &filler));
+    made(rt, text.append(b"\n"));
+    made(rt, text.append(LISTING));
+    text
 }
 
 // Reads of at most 4,096 bytes: the first is all comment, the third finds the end, and a fourth isn't made.
@@ -79,7 +79,7 @@ fn a_read_that_fails_is_told(rt: HostRuntime) {
     let alloc = rt.alloc();
     let words = Words::new(alloc);
     for number in 0..4 {
-        let text = after_a_comment(alloc, 4096).expect(&rt, "memory");
+        let text = after_a_comment(&rt, alloc, 4096);
         let input = MemSource::new(text, failing(&rt, alloc, number));
         let (out, err) = (sink(&rt, alloc, 65536), sink(&rt, alloc, 99));
         let ended = told(&rt, alloc, &words, input, out, err);
@@ -106,7 +106,7 @@ fn of_listing(rt: &impl Abort, alloc: Global, out: MemSink) -> Ended {
 fn a_write_to_out_that_fails_is_told(rt: HostRuntime) {
     let alloc = rt.alloc();
     for number in 0..2 {
-        let out = MemSink::new(alloc, 65536, failing(&rt, alloc, number)).expect(&rt, "memory");
+        let out = made(&rt, MemSink::new(alloc, 65536, failing(&rt, alloc, number)));
         let ended = of_listing(&rt, alloc, out);
         assert_eq!(rt; ended.status == 4, number == 0, "write {number}");
         assert_eq!(rt;
@@ -128,7 +128,7 @@ fn a_write_to_out_that_fails_is_told(rt: HostRuntime) {
 
 // The words, the input, the read that fails, the status and the line, and `err` with each room up to the line.
 #[test]
-fn a_write_to_err_that_fails_is_told(rt: HostRuntime) -> Result<(), Fail> {
+fn a_write_to_err_that_fails_is_told(rt: HostRuntime) {
     let alloc = rt.alloc();
     let rows: [(&[&str], &[u8], u32, u8, &[u8]); 4] = [
         (&["x"], LISTING, 9, 2, b"pcode2c: bad arguments\n"),
@@ -139,7 +139,7 @@ fn a_write_to_err_that_fails_is_told(rt: HostRuntime) -> Result<(), Fail> {
     for (list, text, number, status, line) in rows {
         let mut words = Words::new(alloc);
         for word in list {
-            words.push(String::from_str(alloc, *word)?)?;
+            made(&rt, words.push(made(&rt, String::from_str(alloc, *word))));
         }
         for room in 0..40u32 {
             let input = MemSource::new(bytes(&rt, alloc, text), failing(&rt, alloc, number));
@@ -152,7 +152,6 @@ fn a_write_to_err_that_fails_is_told(rt: HostRuntime) -> Result<(), Fail> {
             assert!(rt; ended.out.as_slice().is_empty(), "room {room}");
         }
     }
-    Ok(())
 }
 
 // 4,194,304 bytes and one more.
@@ -163,11 +162,23 @@ fn an_input_may_have_so_many_bytes(rt: HostRuntime) {
     let most = 4_194_303 - LISTING.len();
     for (length, status, out, err) in [
         (most, 0, ITS_C, b"".as_slice()),
-        (most + 1, 6, b"".as_slice(), b"pcode2c: input too long\n".as_slice()),
+        (
+            most + 1,
+            6,
+            b"".as_slice(),
+            b"pcode2c: input too long\n".as_slice(),
+        ),
     ] {
-        let text = after_a_comment(alloc, length).expect(&rt, "memory");
+        let text = after_a_comment(&rt, alloc, length);
         let input = MemSource::new(text, Fails::new(alloc));
-        let ended = told(&rt, alloc, &words, input, sink(&rt, alloc, 99), sink(&rt, alloc, 99));
+        let ended = told(
+            &rt,
+            alloc,
+            &words,
+            input,
+            sink(&rt, alloc, 99),
+            sink(&rt, alloc, 99),
+        );
         assert_eq!(rt; ended.status, status);
         assert!(rt; ended.out.as_slice() == out);
         assert!(rt; ended.err.as_slice() == err);

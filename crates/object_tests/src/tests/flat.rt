@@ -1,10 +1,10 @@
 //! The flat code of a function with a loop, an if-else, a goto and a switch.
 
+use super::made;
 use cmeaning::Stmt;
 use cread::read_c;
 use flatcode::step::led_to;
 use flatcode::{Step, flat};
-use std::test::Fail;
 
 const TEXT: &[u8] = b"u32 f_f(u32 p_register_38)
 {
@@ -96,9 +96,9 @@ fn leads(step: &Step) -> bool {
 }
 
 #[test]
-fn flat_steps(rt: HostRuntime) -> Result<(), Fail> {
-    let f = read_c(rt.alloc(), TEXT)?;
-    let code = flat(rt.alloc(), &f)?;
+fn flat_steps(rt: HostRuntime) {
+    let f = read_c(rt.alloc(), TEXT).expect(&rt, "C");
+    let code = made(&rt, flat(rt.alloc(), &f));
     assert_eq!(rt; code.steps.len(), STEPS.len());
     for i in 0..STEPS.len() {
         assert_eq!(rt; of_step(&code.steps[i]), STEPS[i]);
@@ -106,5 +106,4 @@ fn flat_steps(rt: HostRuntime) -> Result<(), Fail> {
     assert_eq!(rt; code.end, STEPS.len());
     assert_eq!(rt; code.position(1), 11);
     assert!(rt; leads(&code.steps[7]));
-    Ok(())
 }

@@ -1,10 +1,10 @@
 //! Maps of bytes, words, and the numbers of names.
 
+use super::made;
 use names::NameTable;
 use pcode_operands::writes::reduced;
 use run_world::words::{word_bytes, word_of};
 use run_world::{ByteMap, Shape};
-use std::test::Fail;
 
 // A space of 16 bytes isn't there, and its accesses still go on at 0.
 const SHORT: Shape = Shape {
@@ -13,16 +13,16 @@ const SHORT: Shape = Shape {
 };
 
 #[test]
-fn accesses_go_on_at_0(rt: HostRuntime) -> Result<(), Fail> {
+fn accesses_go_on_at_0(rt: HostRuntime) {
     let alloc = rt.alloc();
     let mut map = ByteMap::new(alloc);
-    let bytes = word_bytes(alloc, SHORT.big, 4, 0x0102_0304)?;
-    map.write(SHORT, 1, 14, bytes.as_slice())?;
+    let bytes = made(&rt, word_bytes(alloc, SHORT.big, 4, 0x0102_0304));
+    made(&rt, map.write(SHORT, 1, 14, bytes.as_slice()));
     for (offset, byte) in [(14u64, 1u8), (15, 2), (0, 3), (1, 4), (2, 0)] {
         assert_eq!(rt; map.byte(1, offset), byte);
         assert_eq!(rt; map.byte(2, offset), 0);
     }
-    let read = map.read(alloc, SHORT, 1, 14, 4)?;
+    let read = made(&rt, map.read(alloc, SHORT, 1, 14, 4));
     assert_eq!(rt; word_of(true, read.as_slice()), 0x0102_0304);
     assert_eq!(rt; word_of(false, read.as_slice()), 0x0403_0201);
     assert_eq!(rt; map.after(1, 1), Some(14));
@@ -30,7 +30,6 @@ fn accesses_go_on_at_0(rt: HostRuntime) -> Result<(), Fail> {
     assert_eq!(rt; map.after(1, 1), Some(15));
     assert!(rt; map.meets(SHORT, 1, 13, 3));
     assert!(rt; !map.meets(SHORT, 1, 12, 2));
-    Ok(())
 }
 
 #[test]
@@ -46,7 +45,7 @@ fn words_are_reduced(rt: HostRuntime) {
 }
 
 #[test]
-fn names_are_numbered_as_they_come(rt: HostRuntime) -> Result<(), Fail> {
+fn names_are_numbered_as_they_come(rt: HostRuntime) {
     let mut table = NameTable::new(rt.alloc());
     for name in [
         b"ram".as_slice(),
@@ -56,7 +55,7 @@ fn names_are_numbered_as_they_come(rt: HostRuntime) -> Result<(), Fail> {
     ] {
         match table.number(name) {
             Some(_) => {}
-            None => table.push(rt.alloc(), name)?,
+            None => made(&rt, table.push(rt.alloc(), name)),
         }
     }
     assert_eq!(rt; table.number(b"register"), Some(1));
@@ -64,5 +63,4 @@ fn names_are_numbered_as_they_come(rt: HostRuntime) -> Result<(), Fail> {
     table.pop();
     assert_eq!(rt; table.number(b"unique"), None);
     assert_eq!(rt; table.number(b"ram"), Some(0));
-    Ok(())
 }

@@ -1,5 +1,6 @@
 //! Traces that are made by hand: how two compare, and their text.
 
+use super::made;
 use bits_core::{Width, Word};
 use comparison::{Comparison, compare, put_comparison};
 use pcode_model::{
@@ -7,22 +8,22 @@ use pcode_model::{
     Spaces,
 };
 use run_world::{End, Event, Events, Trace, WordList};
-use sqlite_items::Items;
-use std::alloc::{AllocError, Global};
-use std::test::Fail;
+use std::alloc::Global;
+use std::process::Abort;
 use tracetext::put_trace;
 
 // A trace of stores of these bytes, one each.
-fn trace(alloc: Global, stores: &[u8], end: Option<End>) -> Result<Trace, AllocError> {
+fn trace(rt: &impl Abort, alloc: Global, stores: &[u8], end: Option<End>) -> Trace {
     let mut events = Events::new(alloc);
     for b in stores {
-        events.push(Event::Store {
+        let store = Event::Store {
             space: 1,
             offset: 16,
-            bytes: Items::from_slice(alloc, &[*b])?,
-        })?;
+            bytes: made(rt, Bytes::from_slice(alloc, &[*b])),
+        };
+        made(rt, events.push(store));
     }
-    Ok(Trace { events, end })
+    Trace { events, end }
 }
 
 fn returned(value: u128) -> Option<End> {
@@ -30,7 +31,7 @@ fn returned(value: u128) -> Option<End> {
 }
 
 #[test]
-fn compares_traces(rt: HostRuntime) -> Result<(), Fail> {
+fn compares_traces(rt: HostRuntime) {
     let bare = Some(End::Returned(None));
     let outside = Some(End::Outside);
     let divided = Some(End::DivZero);
@@ -56,32 +57,32 @@ fn compares_traces(rt: HostRuntime) -> Result<(), Fail> {
         (b"a", outside, b"a", None, Comparison::Equal),
         (b"b", outside, b"a", divided, Comparison::Apart),
     ] {
-        let p = trace(rt.alloc(), p, p_end).expect(&rt, "memory");
-        let c = trace(rt.alloc(), c, c_end).expect(&rt, "memory");
+        let p = trace(&rt, rt.alloc(), p, p_end);
+        let c = trace(&rt, rt.alloc(), c, c_end);
         assert_eq!(rt; compare(&p, &c), wanted);
     }
     let mut line = Vec::new(rt.alloc());
-    put_comparison(&mut line, Comparison::PInC)?;
+    assert!(rt; put_comparison(&mut line, Comparison::PInC).is_ok());
     assert!(rt; line.as_slice() == b"both: p in c\n".as_slice());
-    Ok(())
 }
 
-fn listing(alloc: Global) -> Result<Listing, AllocError> {
-    let mut spaces = Spaces::new(alloc);
-    spaces.push(Space {
-        name: Name::from_slice(alloc, b"ram")?,
+fn listing(rt: &impl Abort, alloc: Global) -> Listing {
+    let ram = Space {
+        name: made(rt, Name::from_slice(alloc, b"ram")),
         kind: SpaceKind::Ram,
         size: 8,
         big: false,
         word: 1,
-    })?;
-    Ok(Listing {
+    };
+    let mut spaces = Spaces::new(alloc);
+    made(rt, spaces.push(ram));
+    Listing {
         version: 1,
         spaces,
         stack: None,
         protos: Protos::new(alloc),
         func: Function {
-            name: Name::from_slice(alloc, b"f")?,
+            name: made(rt, Name::from_slice(alloc, b"f")),
             address: 0x1000,
             proto: 0,
             returns: true,
@@ -89,38 +90,45 @@ fn listing(alloc: Global) -> Result<Listing, AllocError> {
         callees: Functions::new(alloc),
         fixed: Fixeds::new(alloc),
         code: Instructions::new(alloc),
-    })
+    }
 }
 
-fn words(alloc: Global) -> Result<WordList, AllocError> {
+fn words(rt: &impl Abort, alloc: Global) -> WordList {
     let mut words = WordList::new(alloc);
-    words.push(Word::new(0x2a, Width::BYTE))?;
-    words.push(Word::new(0, Width::BYTE))?;
-    Ok(words)
+    made(rt, words.push(Word::new(0x2a, Width::BYTE)));
+    made(rt, words.push(Word::new(0, Width::BYTE)));
+    words
+}
+
+// A call, another operation, a store and a return.
+fn of_each_kind(rt: &impl Abort, alloc: Global) -> Trace {
+    let call = Event::Call {
+        target: 0x2000,
+        args: words(rt, alloc),
+    };
+    let other = Event::Other {
+        index: 7,
+        args: WordList::new(alloc),
+    };
+    let store = Event::Store {
+        space: 0,
+        offset: 0x80,
+        bytes: made(rt, Bytes::from_slice(alloc, &[0x0a, 0xff])),
+    };
+    let mut events = Events::new(alloc);
+    made(rt, events.push(call));
+    made(rt, events.push(other));
+    made(rt, events.push(store));
+    let end = Some(End::Returned(Some(Word::new(6, Width::BYTE))));
+    Trace { events, end }
 }
 
 #[test]
-fn a_trace_has_a_line_for_each_event(rt: HostRuntime) -> Result<(), Fail> {
+fn a_trace_has_a_line_for_each_event(rt: HostRuntime) {
     let alloc = rt.alloc();
-    let mut events = Events::new(alloc);
-    events.push(Event::Call {
-        target: 0x2000,
-        args: words(alloc)?,
-    })?;
-    events.push(Event::Other {
-        index: 7,
-        args: WordList::new(alloc),
-    })?;
-    events.push(Event::Store {
-        space: 0,
-        offset: 0x80,
-        bytes: Bytes::from_slice(alloc, &[0x0a, 0xff])?,
-    })?;
-    let end = Some(End::Returned(Some(Word::new(6, Width::BYTE))));
-    let trace = Trace { events, end };
+    let trace = of_each_kind(&rt, alloc);
     let mut out = Vec::new(alloc);
-    put_trace(&mut out, &listing(alloc)?, b"p ", &trace)?;
+    assert!(rt; put_trace(&mut out, &listing(&rt, alloc), b"p ", &trace).is_ok());
     let want = b"p call 0x2000 0x2a 0x0\np other 0x7\np store ram:0x80 0aff\np returned 0x6\n";
     assert_eq!(rt; out.as_slice(), want.as_slice());
-    Ok(())
 }

@@ -1,5 +1,6 @@
 //! Trees that are valid and trees that aren't.
 
+use super::made;
 use bits_core::{Width, Word};
 use cmeaning::{
     ArithmeticOp, Arm, Body, CFunction, CalleeDecls, Expr, Local, Param, ParamDecls, Stmt, checked,
@@ -7,8 +8,8 @@ use cmeaning::{
 };
 use pcode_model::ParamStorage;
 use sqlite_items::{Boxed, Items};
-use std::alloc::{AllocError, Global};
-use std::test::Fail;
+use std::alloc::Global;
+use std::process::Abort;
 
 const FOUR: Width = Width { bytes: 4 };
 
@@ -16,10 +17,10 @@ fn number(value: u128) -> Expr {
     Expr::Const(Word::new(value, FOUR))
 }
 
-fn one_more(alloc: Global, v: u32) -> Result<Expr, AllocError> {
-    let left = Boxed::new(alloc, Expr::Var(v))?;
-    let right = Boxed::new(alloc, number(1))?;
-    Ok(Expr::Arithmetic(ArithmeticOp::Add, left, right))
+fn one_more(rt: &impl Abort, alloc: Global, v: u32) -> Expr {
+    let left = made(rt, Boxed::new(alloc, Expr::Var(v)));
+    let right = made(rt, Boxed::new(alloc, number(1)));
+    Expr::Arithmetic(ArithmeticOp::Add, left, right)
 }
 
 fn param(model: bool, storage: ParamStorage) -> Param {
@@ -32,73 +33,81 @@ fn param(model: bool, storage: ParamStorage) -> Param {
 }
 
 // A function of one parameter, variable 0, and so many locals.
-fn function(alloc: Global, locals: u32, body: Body) -> Result<CFunction, AllocError> {
-    let params = ParamDecls::new(alloc).with(param(true, ParamStorage::Register(0x38)))?;
+fn function(rt: &impl Abort, alloc: Global, locals: u32, body: Body) -> CFunction {
+    let local = Local {
+        width: FOUR,
+        signed: false,
+    };
     let mut all = Items::new(alloc);
     for _ in 0..locals {
-        all.push(Local {
-            width: FOUR,
-            signed: false,
-        })?;
+        made(rt, all.push(local));
     }
-    Ok(CFunction {
+    let only = param(true, ParamStorage::Register(0x38));
+    CFunction {
         callees: CalleeDecls::new(alloc),
-        name: Items::from_slice(alloc, b"add1")?,
+        name: made(rt, Items::from_slice(alloc, b"add1")),
         gives: Some(FOUR),
-        params,
+        params: made(rt, ParamDecls::new(alloc).with(only)),
         locals: all,
         body,
-    })
+    }
 }
 
 fn assign(target: u32, value: Expr) -> Stmt {
     Stmt::Assign { target, value }
 }
 
-fn cases(alloc: Global, a: u128, b: u128) -> Result<Stmt, AllocError> {
-    let mut arms = Items::new(alloc);
-    arms.push(Arm {
-        cases: Items::from_slice(alloc, &[a, b])?,
+fn cases(rt: &impl Abort, alloc: Global, a: u128, b: u128) -> Stmt {
+    let arm = Arm {
+        cases: made(rt, Items::from_slice(alloc, &[a, b])),
         body: Items::new(alloc),
-    })?;
-    Ok(Stmt::Switch {
+    };
+    let mut arms = Items::new(alloc);
+    made(rt, arms.push(arm));
+    Stmt::Switch {
         value: Expr::Var(0),
         arms,
-    })
+    }
 }
 
-// The statements before `return p + 1;`.
-fn before(alloc: Global, case: u32) -> Result<Body, AllocError> {
-    let mut body = Items::new(alloc);
+// The statement before `return p + 1;`, if there is one.
+fn first(rt: &impl Abort, alloc: Global, case: u32) -> Option<Stmt> {
     match case {
-        1 => body.push(assign(1, number(0)))?,
-        2 => body.push(assign(2, number(0)))?,
-        3 => body.push(assign(1, Expr::Const(Word::new(0, Width::BYTE))))?,
-        4 => body.push(Stmt::Break)?,
-        5 => body.push(Stmt::Label(1))?,
-        6 => body.push(Stmt::Label(2))?,
-        7 => body.push(Stmt::Goto(1))?,
-        8 => body.push(Stmt::Return(None))?,
-        9 => body.push(Stmt::Extra {
+        1 => Some(assign(1, number(0))),
+        2 => Some(assign(2, number(0))),
+        3 => Some(assign(1, Expr::Const(Word::new(0, Width::BYTE)))),
+        4 => Some(Stmt::Break),
+        5 => Some(Stmt::Label(1)),
+        6 => Some(Stmt::Label(2)),
+        7 => Some(Stmt::Goto(1)),
+        8 => Some(Stmt::Return(None)),
+        9 => Some(Stmt::Extra {
             target: 0,
             offset: 0,
-        })?,
-        10 => body.push(cases(alloc, 1, 2)?)?,
-        11 => body.push(cases(alloc, 1, 1)?)?,
-        12 => body.push(cases(alloc, 1, 1 << 32)?)?,
-        13 => body.push(Stmt::Call {
+        }),
+        10 => Some(cases(rt, alloc, 1, 2)),
+        11 => Some(cases(rt, alloc, 1, 1)),
+        12 => Some(cases(rt, alloc, 1, 1 << 32)),
+        13 => Some(Stmt::Call {
             target: None,
             callee: 0x2000,
             args: Items::new(alloc),
-        })?,
-        _ => {}
+        }),
+        _ => None,
     }
-    body.push(Stmt::Return(Some(one_more(alloc, 0)?)))?;
-    Ok(body)
+}
+
+fn body(rt: &impl Abort, alloc: Global, case: u32) -> Body {
+    let mut body = Items::new(alloc);
+    if let Some(statement) = first(rt, alloc, case) {
+        made(rt, body.push(statement));
+    }
+    made(rt, body.push(Stmt::Return(Some(one_more(rt, alloc, 0)))));
+    body
 }
 
 #[test]
-fn trees_are_valid_by_their_rules(rt: HostRuntime) -> Result<(), Fail> {
+fn trees_are_valid_by_their_rules(rt: HostRuntime) {
     let table = [
         (0, 0, true),
         (0, 1, false),
@@ -118,22 +127,22 @@ fn trees_are_valid_by_their_rules(rt: HostRuntime) -> Result<(), Fail> {
         (13, 0, false),
     ];
     for (case, locals, right) in table {
-        let body = before(rt.alloc(), case)?;
-        let f = function(rt.alloc(), locals, body)?;
+        let body = body(&rt, rt.alloc(), case);
+        let f = function(&rt, rt.alloc(), locals, body);
         assert_eq!(rt; valid(&f), right, "case {case} with {locals} locals");
     }
-    Ok(())
 }
 
 // Two parameters, and `return p + 1;` of the first.
-fn of_two(alloc: Global, first: Param, second: Param) -> Result<CFunction, AllocError> {
-    let mut f = function(alloc, 0, before(alloc, 0)?)?;
-    f.params = ParamDecls::new(alloc).with(first)?.with(second)?;
-    Ok(f)
+fn of_two(rt: &impl Abort, alloc: Global, first: Param, second: Param) -> CFunction {
+    let mut f = function(rt, alloc, 0, body(rt, alloc, 0));
+    let one = made(rt, ParamDecls::new(alloc).with(first));
+    f.params = made(rt, one.with(second));
+    f
 }
 
 #[test]
-fn parameters_are_in_order(rt: HostRuntime) -> Result<(), Fail> {
+fn parameters_are_in_order(rt: HostRuntime) {
     let low = ParamStorage::Register(0);
     let high = ParamStorage::Register(8);
     let unique = ParamStorage::Unique(4);
@@ -164,30 +173,30 @@ fn parameters_are_in_order(rt: HostRuntime) -> Result<(), Fail> {
         ),
     ];
     for (a, first, b, second, right) in table {
-        let f = of_two(rt.alloc(), param(a, first), param(b, second))?;
+        let f = of_two(&rt, rt.alloc(), param(a, first), param(b, second));
         assert_eq!(rt; valid(&f), right);
-        assert_eq!(rt; checked(rt.alloc(), &f)?, right);
+        let same = checked(rt.alloc(), &f).expect(&rt, "memory");
+        assert_eq!(rt; same, right);
     }
-    Ok(())
 }
 
 // `levels` of `if (p) { .. }` round each other, the innermost empty, and then a return.
 #[test]
-fn statements_are_at_most_256_deep(rt: HostRuntime) -> Result<(), Fail> {
+fn statements_are_at_most_256_deep(rt: HostRuntime) {
     for (levels, right) in [(255, true), (256, true), (257, false)] {
         let mut body = Items::new(rt.alloc());
         for _ in 1..levels {
             let mut outer = Items::new(rt.alloc());
-            outer.push(Stmt::If {
+            let inner = Stmt::If {
                 condition: Expr::Var(0),
                 body,
-            })?;
+            };
+            made(&rt, outer.push(inner));
             body = outer;
         }
         let mut whole = Items::new(rt.alloc());
-        whole.push(Stmt::Loop { body })?;
-        let f = function(rt.alloc(), 0, whole)?;
+        made(&rt, whole.push(Stmt::Loop { body }));
+        let f = function(&rt, rt.alloc(), 0, whole);
         assert_eq!(rt; valid(&f), right, "{levels} levels");
     }
-    Ok(())
 }

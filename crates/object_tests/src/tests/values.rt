@@ -1,12 +1,13 @@
 //! The values of expressions of one variable, which holds the argument or was never assigned.
 
+use super::made;
 use bits_core::Word;
 use cmeaning::shape::expr_shape;
 use cmeaning::{CFunction, Expr, Stmt};
 use cread::{CFault, read_c};
 use cvalue::Variables;
-use std::alloc::{AllocError, Global};
-use std::test::Fail;
+use std::alloc::Global;
+use std::process::Abort;
 
 struct Row {
     // The type of the expression.
@@ -143,13 +144,12 @@ const DIVIDES_BY_0: Row = Row {
 };
 
 // A function that gives the expression.
-fn text(alloc: Global, row: &Row) -> Result<Vec<u8>, AllocError> {
+fn text(rt: &impl Abort, alloc: Global, row: &Row) -> Vec<u8> {
     let mut text = Vec::new(alloc);
-    text.extend_from_slice(row.gives)?;
-    text.extend_from_slice(HEAD)?;
-    text.extend_from_slice(row.expression)?;
-    text.extend_from_slice(TAIL)?;
-    Ok(text)
+    for part in [row.gives, HEAD, row.expression, TAIL] {
+        made(rt, text.extend_from_slice(part));
+    }
+    text
 }
 
 // What the function's one statement gives.
@@ -161,37 +161,32 @@ fn given(f: &CFunction) -> Option<&Expr> {
 }
 
 // The value of what a function gives.
-fn value(alloc: Global, f: &CFunction, argument: Option<u128>) -> Result<Option<u128>, Fail> {
-    let mut variables = Variables::new(alloc, f)?;
+fn value(rt: &impl Abort, alloc: Global, f: &CFunction, argument: Option<u128>) -> Option<u128> {
+    let mut variables = made(rt, Variables::new(alloc, f));
     if let Some(n) = argument {
-        let first = variables.f.params.get(0).ok_or("no parameter")?;
+        let first = variables.f.params.get(0).expect(rt, "a parameter");
         variables.assign(0, Word::new(n, first.width));
     }
-    let e = given(f).ok_or("nothing is given")?;
+    let e = given(f).expect(rt, "what is given");
     match expr_shape(variables.f, e) {
-        None => Err("no shape")?,
-        Some(_) => Ok(variables.value(e).map(|w| w.value)),
+        None => panic!(rt; "no shape"),
+        Some(_) => variables.value(e).map(|w| w.value),
     }
 }
 
 #[test]
-fn values(rt: HostRuntime) -> Result<(), Fail> {
+fn values(rt: HostRuntime) {
     for row in &ROWS {
-        let text = text(rt.alloc(), row)?;
-        let f = read_c(rt.alloc(), text.as_slice())?;
-        let found = value(rt.alloc(), &f, row.argument)?;
+        let text = text(&rt, rt.alloc(), row);
+        let f = read_c(rt.alloc(), text.as_slice()).expect(&rt, "C");
+        let found = value(&rt, rt.alloc(), &f, row.argument);
         assert_eq!(rt; found, row.value);
     }
-    Ok(())
 }
 
 #[test]
-fn no_expression_divides_by_0(rt: HostRuntime) -> Result<(), Fail> {
-    let text = text(rt.alloc(), &DIVIDES_BY_0)?;
-    let refused = match read_c(rt.alloc(), text.as_slice()) {
-        Err(CFault::NotC) => true,
-        _ => false,
-    };
-    assert!(rt; refused);
-    Ok(())
+fn no_expression_divides_by_0(rt: HostRuntime) {
+    let text = text(&rt, rt.alloc(), &DIVIDES_BY_0);
+    let read = read_c(rt.alloc(), text.as_slice());
+    assert!(rt; matches!(read, Err(CFault::NotC)));
 }

@@ -4,10 +4,13 @@ use Rattle.cmeaning.specs.Arms.{arms_right}
 use Rattle.cmeaning.proofs.body.+body.Given as goal
 
 abbrev pub invariant-all_hold_in-loop-s : goal.invariant-all_hold_in-loop-s
-invariant-all_hold_in-loop-s l = all_hold l.after_call (map (rule_of l.rules.f.now l.rules.labels) (drop l.s-index l.body)) l.in_loop l.room ≡ all_hold false (map (rule_of l.rules.f.now l.rules.labels) l.body) l.in_loop l.room
+invariant-all_hold_in-loop-s l =
+    all_hold l.after_call (map (rule_of l.rules.f.now l.rules.labels) (drop l.s-index l.body)) l.in_loop l.room
+    ≡ all_hold false (map (rule_of l.rules.f.now l.rules.labels) l.body) l.in_loop l.room
 
 abbrev pub invariant-arms_hold-loop-arm : goal.invariant-arms_hold-loop-arm
-invariant-arms_hold-loop-arm l = arms_right l.rules.f.now l.rules.labels (drop l.arm-index l.arms) l.room ≡ arms_right l.rules.f.now l.rules.labels l.arms l.room
+invariant-arms_hold-loop-arm l = arms_right l.rules.f.now l.rules.labels (drop l.arm-index l.arms) l.room
+    ≡ arms_right l.rules.f.now l.rules.labels l.arms l.room
 
 abbrev pub decreases-all_hold_in : goal.decreases-all_hold_in
 decreases-all_hold_in l = 5 * l.room + 1

@@ -4,8 +4,11 @@ use Rattle.cmeaning.proofs.cases.add_new.Goals as goal
 
 pub returns-in-Ok-false : goal.returns-in-Ok-false
 returns-in-Ok-false c known holds =
-    let before = c.loop-x.invariant known holds in
-    (value_known c.loop-x.seen known c.args.values.now c.loop-x.x-index c.loop-x-test.true before.0 before.1 (sym c.in-Ok-false.field-0-test ∙ c.in-Ok-false.ensures.added), λ t. absurd (no t))
+    let before = c.loop-x.invariant known holds in (
+      value_known c.loop-x.seen known c.args.values.now c.loop-x.x-index c.loop-x-test.true before.0 before.1
+          (sym c.in-Ok-false.field-0-test ∙ c.in-Ok-false.ensures.added),
+      λ t. absurd (no t),
+    )
   where
     no : false ≡ true → ⊥
     no h = cc
@@ -13,7 +16,8 @@ returns-in-Ok-false c known holds =
 pub loop-x-preserved : goal.loop-x-preserved
 loop-x-preserved c known holds =
     let before = c.loop-x.invariant known holds in
-    value_added c.loop-x.seen c.insert.new.self known c.args.values.now c.loop-x.x-index c.loop-x-test.true before.0 before.1 (sym c.in-Ok-true.field-0-test ∙ c.in-Ok-true.ensures.added) c.in-Ok-true.ensures.updates
+    value_added c.loop-x.seen c.insert.new.self known c.args.values.now c.loop-x.x-index c.loop-x-test.true before.0
+    before.1 (sym c.in-Ok-true.field-0-test ∙ c.in-Ok-true.ensures.added) c.in-Ok-true.ensures.updates
 
 pub returns : goal.returns
 returns c known holds =

@@ -1,19 +1,21 @@
-use Rattle.std.proofs.Common.{◌≡◌, length, arith, subst, sym}
-use Rattle.std.proofs.lemmas.Bool.Decides.{nat_tests}
-use Rattle.entrytext.specs.Meaning.{reading}
+use Rattle.std.proofs.Common.{subst}
+use Rattle.line_reader.specs.Reading.{concluded, progress}
+use Rattle.entrytext.specs.declared.partial_entry.PartialEntry.{PartialEntry}
+use Rattle.entrytext.specs.Meaning.{fault_at, finished, step}
 use Rattle.entrytext.specs.Reader.{IsFaultOf}
-use Rattle.entrytext.specs.declared.fault.EntryFault.{EntryFault}
-use Rattle.entrytext.proofs.Failing.{fails_here}
-use Rattle.entrytext.proofs.Whole.{lies_at_end}
+use Rattle.entrytext.proofs.Whole.{result_lies}
 use Rattle.entrytext.proofs.reader.read_entry.Goals as goal
 
-pub returns-clause-lies : goal.returns-clause-lies
-returns-clause-lies c =
-    let none : length c.loop-rest.rest.now ≡ 0 = grind (arith, nat_tests) in
-    lies_at_end c.args.listing.now c.requires.formed c.args.bytes.now c.loop-rest.rest.now c.loop-rest.number c.loop-rest.said c.finish.result c.loop-rest.invariant.same none c.finish.ensures.good
+pub returns-in-Ok-read_lines-clause-lies : goal.returns-in-Ok-read_lines-clause-lies
+returns-in-Ok-read_lines-clause-lies c =
+    result_lies c.args.listing.now c.requires.formed c.args.bytes.now _ _ _ c.finish.result
+    c.new-entry.ensures c.in-Ok-read_lines.ensures.whole c.finish.ensures.good
 
-pub returns-in-Err-step-clause-bad : goal.returns-in-Err-step-clause-bad
-returns-in-Err-step-clause-bad c =
-    let whole = reading c.args.listing.now c.args.bytes.now in
-    subst (λ (f : EntryFault). IsFaultOf whole f) (sym c.at.ensures)
-    (fails_here c.args.listing.now whole _ _ c.loop-rest.number c.loop-rest.said c.step.new.self _ c.in-Err-step.fault c.loop-rest.invariant.same c.split_line.ensures.lines c.in-Err-step.ensures)
+pub returns-clause-bad : goal.returns-clause-bad
+returns-clause-bad c =
+    let step_of = step c.args.listing.now in
+    let bytes = c.args.bytes.now in
+    let P : PartialEntry → Type 0 =
+    λ b. IsFaultOf (concluded fault_at finished (progress step_of b bytes)) c.stop_fault.result in
+    subst P c.new-entry.ensures
+    (c.stop_fault.ensures (progress step_of c.new-entry.result bytes) c.in-Err-read_lines.ensures.stopped)

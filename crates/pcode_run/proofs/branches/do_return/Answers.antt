@@ -11,9 +11,12 @@ use Rattle.pcode_run.proofs.branches.do_return.Goals as goal
 pub read_varnode-requires-clause-used : goal.read_varnode-requires-clause-used
 read_varnode-requires-clause-used c =
     let P : Varnode → Type 0 = λ v. IsUsed c.args.context.now.listing.now v in
-    subst P (sym c.input.ensures) (only_input c.args.context.now.listing.now c.args.op.now c.requires.obeys c.requires.context.can.formed.spaces O.Return c.requires.kind refl refl).first
+    subst P (sym c.input.ensures) (only_input c.args.context.now.listing.now c.args.op.now c.requires.obeys c.requires.context.formed.spaces O.Return c.requires.kind refl refl).first
+
+pub own_proto-requires : goal.own_proto-requires
+own_proto-requires c = c.requires.context.formed.func.proto
 
 pub word_given-requires : goal.word_given-requires
 word_given-requires c =
     let P : Proto → Type 0 = λ p. IfSome p.gives (IsLocal c.args.context.now.listing.now) in
-    subst P (sym c.own_proto.ensures) (own_runs c.args.context.now.listing.now c.requires.context.can).gives
+    subst P (sym c.own_proto.ensures) (own_runs c.args.context.now.listing.now c.requires.context.formed).gives

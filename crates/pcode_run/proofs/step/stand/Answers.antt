@@ -4,10 +4,10 @@ use Rattle.pcode_run.proofs.Standing.{does_at, few_ops, op_obeys}
 use Rattle.pcode_run.proofs.step.stand.Goals as goal
 
 pub carry_out-requires-clause-few : goal.carry_out-requires-clause-few
-carry_out-requires-clause-few c = few_ops c.args.context.now.listing.now c.args.state.now.at.address c.args.instruction.now c.requires.context.can c.requires.here
+carry_out-requires-clause-few c = few_ops c.args.context.now.listing.now c.args.state.now.at.address c.args.instruction.now c.requires.context.formed c.requires.here
 
 pub carry_out-requires-clause-obeys : goal.carry_out-requires-clause-obeys
-carry_out-requires-clause-obeys c = op_obeys c.args.context.now.listing.now c.args.state.now.at.address c.args.state.now.at.index c.args.instruction.now c.in-Some.op.now c.requires.context.can c.requires.here (sym c.in-Some.ensures.value)
+carry_out-requires-clause-obeys c = op_obeys c.args.context.now.listing.now c.args.state.now.at.address c.args.state.now.at.index c.args.instruction.now c.in-Some.op.now c.requires.context.formed c.requires.context.checked c.requires.here (sym c.in-Some.ensures.value)
 
 pub carry_out-requires-clause-owns : goal.carry_out-requires-clause-owns
 carry_out-requires-clause-owns c = λ pointer own.

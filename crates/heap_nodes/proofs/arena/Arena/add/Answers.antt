@@ -17,5 +17,7 @@ returns-clause-ok g c =
       at,
       values,
       number ∙ sym (length_values os) ∙ ap (λ r. length r.values) c.self.view_is,
-      ap (λ (ps : List Ptr). slice_get ps c.len-number.result) at ∙ last_there c.args.self.now.places c.place-place.result.ptr c.len-number.result (number ∙ sym (length_places os) ∙ ap (λ r. length r.places) c.self.view_is),
+      ap (λ (ps : List Ptr). slice_get ps c.len-number.result) at
+          ∙ last_there c.args.self.now.places c.place-place.result.ptr c.len-number.result
+          (number ∙ sym (length_places os) ∙ ap (λ r. length r.places) c.self.view_is),
     )

@@ -7,7 +7,8 @@ pub node-requires : goal.node-requires
 node-requires g c =
     let os = c.self.inside.owners.items in let at = c.args.at in
     subst (λ xs. IsSome (value_at at.place.ptr xs)) (sym c.deref.ensures.value)
-    (found_there at.place.ptr at.number os c.self.invariant.0 (subst (λ r. slice_get r.places at.number ≡ Some at.place.ptr) (sym c.self.view_is) c.requires))
+    (found_there at.place.ptr at.number os c.self.invariant.0
+    (subst (λ r. slice_get r.places at.number ≡ Some at.place.ptr) (sym c.self.view_is) c.requires))
 
 pub returns : goal.returns
 returns g c =

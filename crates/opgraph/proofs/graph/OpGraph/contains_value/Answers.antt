@@ -9,5 +9,13 @@ returns-then-contains_op c =
     (λ h. there.0 (subst IsTrue c.is_some.ensures h), λ h. subst IsTrue (sym c.is_some.ensures) (there.1 h))
 
 pub returns-else-contains_op : goal.returns-else-contains_op
-returns-else-contains_op c =
-    (λ h. absurd (true≢false (sym h)), λ h. absurd (true≢false (sym (subst IsTrue c.if-contains_op.false (c.contains_op.ensures.1 (has_op (op_at c.args.self.now c.args.v.0) h))))))
+returns-else-contains_op c = (
+  λ h.
+      absurd (true≢false (sym h)),
+  λ h.
+      absurd
+      (true≢false
+      (sym
+      (subst IsTrue c.if-contains_op.false
+      (c.contains_op.ensures.1 (has_op (op_at c.args.self.now c.args.v.0) h))))),
+)

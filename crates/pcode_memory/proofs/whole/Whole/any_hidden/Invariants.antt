@@ -1,0 +1,14 @@
+use Rattle.std.proofs.Common.{◌≡◌, ◌≤◌, ◌-◌}
+use Rattle.pcode_model.specs.Memory.{is_hidden}
+use Rattle.pcode_model.specs.Spaces.{any_at}
+use Rattle.run_world.specs.Setting.{size}
+use Rattle.pcode_memory.specs.Context.{whole_of}
+use Rattle.pcode_memory.proofs.whole.Whole.any_hidden.Given as goal
+
+abbrev pub invariant-loop : goal.invariant-loop
+invariant-loop l = record {
+  inside : l.here ≤ l.shape.last;
+  none :
+    any_at (size l.shape) (is_hidden l.context.listing.now (whole_of l.self) l.space) l.here (l.count - l.counter)
+    ≡ any_at (size l.shape) (is_hidden l.context.listing.now (whole_of l.self) l.space) l.address l.count;
+}
