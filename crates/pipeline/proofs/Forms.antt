@@ -44,7 +44,6 @@ use Rattle.pipeline.specs.PlainForm.{IsPlainForm}
 use Rattle.pipeline.specs.Verdict.{Accepts, IsCause, MayPrint, Stops}
 use Rattle.pipeline.proofs.Formed.{formed_is, gives_is, uncut}
 use Rattle.pipeline.proofs.Keeps as keeps
-use Rattle.pipeline.proofs.Names.{name_is}
 
 all_in_space : (l : Listing) (vs : List Varnode) → ((v : Varnode) → IsIn v vs → Inside l v) → AllInSpace vs
 all_in_space l [] h = tt
@@ -79,7 +78,7 @@ module _
   lowers = record {
     valid = plain_valid l [] blocks atoms form are.listed.in_order
         (atoms_long l [] atoms are_atoms (λ v acc. (accessed_inside l built (formed_is l read good) v acc).low))
-        (omega (arith, are.few)) (name_is l.func.name read.named.func);
+        (omega (arith, are.few)) read.named.func;
     fits = plain_fits l [] blocks atoms form;
     agrees = keeps.agrees l (frame_of l no_variables) [] blocks atoms form;
     form = record { name = refl; gives = gives_is l read good;

@@ -1,8 +1,18 @@
-use Rattle.std.proofs.Common.{◌∙◌, ◌++◌, List, ℕ, ap}
+use Rattle.std.proofs.Common.{◌∙◌, ◌++◌, List, ℕ, ap, arith}
 use Rattle.side_by_side.specs.Judged.{both_text}
 use Rattle.run_world.specs.Meaning.{trace_of}
+use Rattle.pcode_run.proofs.Owning.{empty_lies, empty_ordered}
 use Rattle.side_by_side.proofs.Running.{shown_is}
 use Rattle.side_by_side.proofs.judging.show.Goals as goal
+
+pub run_p-requires-clause-ordered : goal.run_p-requires-clause-ordered
+run_p-requires-clause-ordered c = empty_ordered c.args.parsed.now.listing c.empty-frame.result c.empty-frame.ensures
+
+pub run_p-requires-clause-owns : goal.run_p-requires-clause-owns
+run_p-requires-clause-owns c = empty_lies c.args.parsed.now.listing c.empty-frame.result c.empty-frame.ensures
+
+pub run_c-requires-clause-few : goal.run_c-requires-clause-few
+run_c-requires-clause-few c = let few = c.requires.formed.limited.spaces in omega (arith, few)
 
 pub returns : goal.returns
 returns c =
