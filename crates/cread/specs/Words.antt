@@ -33,6 +33,10 @@ after [] bs = Some bs
 after (w ∷ ws) [] = None
 after (w ∷ ws) (b ∷ bs) = if w == b then after ws bs else None
 
+-- something up to a word
+abbrev pub ended : {A : Type 0} → List ℕ → A × List ℕ → Option (A × List ℕ)
+ended word x = after word x.1 >>= λ rest. Some (x.0, rest)
+
 abbrev pub or_else : List ℕ → Option (List ℕ) → List ℕ
 or_else bs None = bs
 or_else bs (Some rest) = rest
@@ -58,7 +62,8 @@ name_at bs = (take (run_of is_letter_or_digit bs) bs, drop (run_of is_letter_or_
 -- the number that digits at the front add to n, modulo 2 ^ 128
 unfoldable pub number_from : ℕ → ℕ → List ℕ → ℕ × List ℕ
 number_from radix n [] = (n, [])
-number_from radix n (b ∷ bs) = if is_digit b radix then number_from radix ((n * radix + digit_value b) % 2 ^ 128) bs else (n, b ∷ bs)
+number_from radix n (b ∷ bs) = if is_digit b radix then number_from radix ((n * radix + digit_value b) % 2 ^ 128) bs
+    else (n, b ∷ bs)
 
 unfoldable pub decimal_at : List ℕ → ℕ × List ℕ
 decimal_at bs = number_from 10 0 bs

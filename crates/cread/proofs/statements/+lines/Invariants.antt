@@ -28,6 +28,9 @@ decreases-arm l = 10 * l.levels + 3
 abbrev pub decreases-arms : goal.decreases-arms
 decreases-arms l = 10 * l.levels + 4
 
+abbrev pub decreases-all_arms : goal.decreases-all_arms
+decreases-all_arms l = 10 * l.levels + 5
+
 abbrev pub decreases-branch : goal.decreases-branch
 decreases-branch l = 10 * l.levels + 5
 
@@ -41,7 +44,7 @@ abbrev pub decreases-until : goal.decreases-until
 decreases-until l = 10 * l.levels + 5
 
 abbrev pub decreases-switch : goal.decreases-switch
-decreases-switch l = 10 * l.levels + 5
+decreases-switch l = 10 * l.levels + 6
 
 abbrev pub decreases-behind_word : goal.decreases-behind_word
-decreases-behind_word l = 10 * l.levels + 6
+decreases-behind_word l = 10 * l.levels + 7
