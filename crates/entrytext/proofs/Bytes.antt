@@ -34,7 +34,8 @@ two_small : (high low : ℕ) (one two : Bool) (more : Option (List ℕ))
     → is_digit high 16 ≡ one
     → is_digit low 16 ≡ two
     → IfSome more (AllByRecursion IsSmall)
-    → IfSome (if one && two then option_map (λ bytes. (digit_value high * 16 + digit_value low) ∷ bytes) more else None)
+    → IfSome
+    (if one && two then option_map (λ bytes. (digit_value high * 16 + digit_value low) ∷ bytes) more else None)
     AreSomeSmall
 two_small high low true true more h g rest = small_more _ more (pair_small _ _ h g) rest
 two_small high low true false more h g rest = tt

@@ -171,7 +171,8 @@ module _ (l : Listing) where
         let is_third : IsGood l third =
         either (bytes_eq word (codes "end")) end state (end_is parts) (state_is word parts) in
         let second : Form = if bytes_eq word (codes "ans") then answer else third in
-        let is_second : IsGood l second = either (bytes_eq word (codes "ans")) answer third (answer_is parts) is_third in
+        let is_second : IsGood l second =
+        either (bytes_eq word (codes "ans")) answer third (answer_is parts) is_third in
         either (bytes_eq word (codes "entry")) (entry_form parts) second (entry_is parts) is_second
 
     -- each line that has a form has some bytes, each below 256, of a space that its word allows
@@ -210,8 +211,11 @@ module _ (l : Listing) where
 
       pub hidden_wide : (b : BytesLine) → f ≡ form.Hidden b → IfSome b.space (λ n. size_of l n ≤ 2 ^ 64)
       hidden_wide b e =
-          let line : IsLine (λ n. n ≡ first_ram l) b = good _ e in some_wide b.space (first_ram_real b.space line.space)
+          let line : IsLine (λ n. n ≡ first_ram l) b = good _ e in
+          some_wide b.space (first_ram_real b.space line.space)
 
-      pub part_wide : (p : Part) (b : BytesLine) → f ≡ form.Answered p b → IfSome b.space (λ n. size_of l n ≤ 2 ^ 64)
+      pub part_wide : (p : Part) (b : BytesLine)
+          → f ≡ form.Answered p b
+          → IfSome b.space (λ n. size_of l n ≤ 2 ^ 64)
       part_wide p b e =
           let line : IsLine (IsOfPart l p) b = good _ e in some_wide b.space (part_real p b.space line.space)

@@ -129,7 +129,9 @@ module _ (l : Listing) where
     last_kept p None is good = tt
     last_kept p (Some a) is good = part_kept p a is good
 
-  pub last_all : (o : Option Answer) → IfSome o (AnswerLiesIn l) → AllByRecursion (AnswerLiesIn l) (option_to_list o)
+  pub last_all : (o : Option Answer)
+      → IfSome o (AnswerLiesIn l)
+      → AllByRecursion (AnswerLiesIn l) (option_to_list o)
   last_all None good = tt
   last_all (Some a) good = (good, tt)
 

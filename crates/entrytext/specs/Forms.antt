@@ -18,7 +18,8 @@ use Rattle.entrytext.specs.declared.form.Part.TheVariants as part
 -- the number of the first ram space of a name, among spaces that are numbered from k on
 abbrev pub ram_from : ℕ → Line → List Space → Option ℕ
 ram_from k name [] = None
-ram_from k name (s ∷ spaces) = if same_kind Ram s.kind && bytes_eq s.name name then Some k else ram_from (suc k) name spaces
+ram_from k name (s ∷ spaces) =
+    if same_kind Ram s.kind && bytes_eq s.name name then Some k else ram_from (suc k) name spaces
 
 abbrev pub ram_named : Line → List Space → Option ℕ
 ram_named name spaces = ram_from 0 name spaces
@@ -64,7 +65,8 @@ line_of space _ = None
 
 -- `SPACE:HEX` and PAIRS
 abbrev pub named_by : List Space → List Line → Line → Option BytesLine
-named_by spaces (name ∷ offset ∷ []) pairs = if is_name name then line_made (ram_named name spaces) (hexadecimal_of offset) (bytes_of pairs) else None
+named_by spaces (name ∷ offset ∷ []) pairs =
+    if is_name name then line_made (ram_named name spaces) (hexadecimal_of offset) (bytes_of pairs) else None
 named_by spaces _ pairs = None
 
 -- `SPACE:HEX PAIRS`; 58 is the colon
@@ -86,7 +88,8 @@ part_made p (Some line) = form.Answered p line
 
 -- `areg HEX PAIRS`, `amem SPACE:HEX PAIRS` and `ahid HEX PAIRS`
 abbrev pub part_form : Listing → Line → List Line → Form
-part_form l word parts = if bytes_eq word (codes "areg") then part_made part.Registers (line_of (register_space l) parts)
+part_form l word parts =
+    if bytes_eq word (codes "areg") then part_made part.Registers (line_of (register_space l) parts)
     else (if bytes_eq word (codes "amem") then part_made part.Memory (named_line_of l.spaces parts)
     else (if bytes_eq word (codes "ahid") then part_made part.Hidden (line_of (first_ram l) parts) else form.Nothing))
 

@@ -34,7 +34,8 @@ number (Some n) = n
 -- bytes of a space from an offset on
 abbrev pub bytes_from : ℕ → ℕ → List ℕ → List Byte
 bytes_from space offset [] = []
-bytes_from space offset (b ∷ bytes) = record { space = space; offset = offset; value = b } ∷ bytes_from space (suc offset) bytes
+bytes_from space offset (b ∷ bytes) =
+    record { space = space; offset = offset; value = b } ∷ bytes_from space (suc offset) bytes
 
 abbrev pub bytes_in : BytesLine → List Byte
 bytes_in b = bytes_from (number b.space) b.offset b.bytes
@@ -49,7 +50,10 @@ after s form.Nothing = s
 after s form.Entry = record s { begun = true }
 after s (form.State b) = record s { state = s.state ++ bytes_in b }
 after s (form.Hidden b) = record s { hidden = s.hidden ++ bytes_in b }
-after s (form.Answer word) = record s { done = s.done ++ option_to_list s.last; last = Some (record { word = word; registers = []; memory = []; hidden = [] }) }
+after s (form.Answer word) = record s {
+  done = s.done ++ option_to_list s.last;
+  last = Some (record { word = word; registers = []; memory = []; hidden = [] });
+}
 after s (form.Answered p b) = record s { last = option_map (with_part p (bytes_in b)) s.last }
 after s form.End = record s { ended = true }
 

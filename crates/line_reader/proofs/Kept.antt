@@ -34,7 +34,8 @@ module _ {State Why : Type 0} (step : State → Line → Step State Why) (P : St
       by_step on (Fails why) e = subst OfGoing (sym (stays step n why lines)) tt
 
   -- if the end of a text makes Q of P, then Q holds of all that is read
-  pub read_keeps : {Value Fault : Type 0} (fault_at : ℕ → Why → Fault) (finished : ℕ → State → Read Value Fault)
+  pub read_keeps : {Value Fault : Type 0} (fault_at : ℕ → Why → Fault)
+      (finished : ℕ → State → Read Value Fault)
       (Q : Value → Type 0)
       → ((n : ℕ) (s : State) (v : Value) → P s → finished n s ≡ Good v → Q v)
       → (start : State)

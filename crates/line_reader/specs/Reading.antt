@@ -36,7 +36,10 @@ pub data Read (Value Fault : Type 0) : Type 0 where
   Bad : Fault → Read Value Fault
 
 -- where the text ends it says what the state does, n being one more than the number of its lines
-abbrev pub concluded : {State Why Value Fault : Type 0} → (ℕ → Why → Fault) → (ℕ → State → Read Value Fault)
-    → Progress State Why → Read Value Fault
+abbrev pub concluded : {State Why Value Fault : Type 0}
+    → (ℕ → Why → Fault)
+    → (ℕ → State → Read Value Fault)
+    → Progress State Why
+    → Read Value Fault
 concluded fault_at finished (Going n state) = finished n state
 concluded fault_at finished (Stopped n why) = Bad (fault_at n why)

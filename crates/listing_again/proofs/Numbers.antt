@@ -67,7 +67,11 @@ digits_all : (radix : ℕ) (ds : Line) → list_all (λ b. is_digit b radix) ds 
 digits_all radix [] h = tt
 digits_all radix (d ∷ ds) h = (ltb-true _ _ (left_true _ _ h), digits_all radix ds (right_true _ _ h))
 
-number_is : (radix most : ℕ) (ds : Line) → 0 < length ds → length ds ≤ most → AllDigits radix ds → number_of radix most ds ≡ Some (digits_value radix ds)
+number_is : (radix most : ℕ) (ds : Line)
+    → 0 < length ds
+    → length ds ≤ most
+    → AllDigits radix ds
+    → number_of radix most ds ≡ Some (digits_value radix ds)
 number_is radix most ds some few all =
     let test = and_from _ _ (within 1 (length ds) some) (and_from _ _ (within (length ds) most few) (all_digits radix ds all)) in
     ap (λ (t : Bool). if t then Some (digits_value radix ds) else None) test
@@ -75,7 +79,8 @@ number_is radix most ds some few all =
 number_small : (radix most : ℕ) (ds : Line) → 1 ≤ radix → IfSome (number_of radix most ds) (λ n. n < radix ^ most)
 number_small radix most ds one = by_test _ refl
   where
-    by_test : (t : Bool) → (nat_le 1 (length ds) && (nat_le (length ds) most && list_all (λ b. is_digit b radix) ds)) ≡ t
+    by_test : (t : Bool)
+        → (nat_le 1 (length ds) && (nat_le (length ds) most && list_all (λ b. is_digit b radix) ds)) ≡ t
         → IfSome (if t then Some (digits_value radix ds) else None) (λ n. n < radix ^ most)
     by_test false e = tt
     by_test true e =
@@ -94,7 +99,8 @@ power_step m = grind arith
 length_onto : (k m n : ℕ) (acc : Line) → 0 < m → n < 16 ^ m → length (digits_onto k 16 false n acc) ≤ m + length acc
 length_onto zero m n acc some small = omega arith
 length_onto (suc k) zero n acc some small = absurd (omega arith)
-length_onto (suc k) (suc m) n acc some small = by_end (length_onto k m (n / 16) (digit_glyph false (n % 16) ∷ acc)) (n / 16 == 0) refl
+length_onto (suc k) (suc m) n acc some small =
+    by_end (length_onto k m (n / 16) (digit_glyph false (n % 16) ∷ acc)) (n / 16 == 0) refl
   where
     first : Line
     first = digit_glyph false (n % 16) ∷ acc
@@ -109,7 +115,9 @@ length_onto (suc k) (suc m) n acc some small = by_end (length_onto k m (n / 16) 
     some_left other = grind (arith, none_left)
 
     by_end : (0 < m → n / 16 < 16 ^ m → length (digits_onto k 16 false (n / 16) first) ≤ m + length first)
-        → (t : Bool) → (n / 16 == 0) ≡ t → length (if t then first else digits_onto k 16 false (n / 16) first) ≤ suc m + length acc
+        → (t : Bool)
+          → (n / 16 == 0) ≡ t
+          → length (if t then first else digits_onto k 16 false (n / 16) first) ≤ suc m + length acc
     by_end next true e = omega arith
     by_end next false e =
         let more : n / 16 < 16 ^ m = omega (arith, power_step m, small) in
@@ -161,7 +169,8 @@ pub decimal_back : (n : ℕ) → n < 10 ^ 5 → decimal_of (decimal n) ≡ Some 
 decimal_back n small =
     let numeral = decimal_is_IsNumeral n (omega arith) in
     ap (λ (t : Bool). if t then None else number_of 10 5 (decimal n)) (no_leading n small)
-    ∙ number_is 10 5 (decimal n) numeral.0.0 (length-decimal-le 5 n (omega arith) small (omega arith)) numeral.0.1 ∙ ap Some numeral.1
+    ∙ number_is 10 5 (decimal n) numeral.0.0 (length-decimal-le 5 n (omega arith) small (omega arith)) numeral.0.1
+      ∙ ap Some numeral.1
 
 pub decimal_small : (part : Line) → IfSome (decimal_of part) (λ n. n < 10 ^ 5)
 decimal_small part = by_zero (has_leading_zero part)
@@ -210,12 +219,17 @@ pairs_small [] = tt
 pairs_small (a ∷ []) = tt
 pairs_small (a ∷ b ∷ part) = by_digits (is_digit a 16) (is_digit b 16) refl refl (pairs_of part) (pairs_small part)
   where
-    by_more : digit_value a * 16 + digit_value b < 256 → (more : Option (List ℕ)) → IfSome more AreBytes → IfSome (option_map (λ (bytes : List ℕ). (digit_value a * 16 + digit_value b) ∷ bytes) more) AreBytes
+    by_more : digit_value a * 16 + digit_value b < 256
+        → (more : Option (List ℕ))
+        → IfSome more AreBytes
+        → IfSome (option_map (λ (bytes : List ℕ). (digit_value a * 16 + digit_value b) ∷ bytes) more) AreBytes
     by_more small None h = tt
     by_more small (Some bytes) h = (small, h)
 
     by_digits : (t u : Bool) → is_digit a 16 ≡ t → is_digit b 16 ≡ u → (more : Option (List ℕ)) → IfSome more AreBytes
-        → IfSome (if t && u then option_map (λ (bytes : List ℕ). (digit_value a * 16 + digit_value b) ∷ bytes) more else None) AreBytes
+        → IfSome
+          (if t && u then option_map (λ (bytes : List ℕ). (digit_value a * 16 + digit_value b) ∷ bytes) more else None)
+          AreBytes
     by_digits true true p q more h = by_more (omega (arith, digit_small a p, digit_small b q)) more h
     by_digits true false p q more h = tt
     by_digits false u p q more h = tt
@@ -223,17 +237,25 @@ pairs_small (a ∷ b ∷ part) = by_digits (is_digit a 16) (is_digit b 16) refl 
 pub bytes_small : (part : Line) → IfSome (bytes_of part) (λ bytes. (0 < length bytes) × AreBytes bytes)
 bytes_small [] = tt
 bytes_small (a ∷ []) = tt
-bytes_small (a ∷ b ∷ part) = both (pairs_of (a ∷ b ∷ part)) (pairs_small (a ∷ b ∷ part)) (some (is_digit a 16 && is_digit b 16))
+bytes_small (a ∷ b ∷ part) =
+    both (pairs_of (a ∷ b ∷ part)) (pairs_small (a ∷ b ∷ part)) (some (is_digit a 16 && is_digit b 16))
   where
-    grown : (more : Option (List ℕ)) → IfSome (option_map (λ (bytes : List ℕ). (digit_value a * 16 + digit_value b) ∷ bytes) more) (λ bytes. 0 < length bytes)
+    grown : (more : Option (List ℕ))
+        → IfSome (option_map (λ (bytes : List ℕ). (digit_value a * 16 + digit_value b) ∷ bytes) more) (λ bytes. 0 < length bytes)
     grown None = tt
     grown (Some bytes) = omega arith
 
-    some : (t : Bool) → IfSome (if t then option_map (λ (bytes : List ℕ). (digit_value a * 16 + digit_value b) ∷ bytes) (pairs_of part) else None) (λ bytes. 0 < length bytes)
+    some : (t : Bool)
+        → IfSome
+            (if t then option_map (λ (bytes : List ℕ). (digit_value a * 16 + digit_value b) ∷ bytes) (pairs_of part)
+               else None) (λ bytes. 0 < length bytes)
     some true = grown (pairs_of part)
     some false = tt
 
-    both : (o : Option (List ℕ)) → IfSome o AreBytes → IfSome o (λ bytes. 0 < length bytes) → IfSome o (λ bytes. (0 < length bytes) × AreBytes bytes)
+    both : (o : Option (List ℕ))
+        → IfSome o AreBytes
+        → IfSome o (λ bytes. 0 < length bytes)
+        → IfSome o (λ bytes. (0 < length bytes) × AreBytes bytes)
     both None h g = tt
     both (Some bytes) h g = (g, h)
 
@@ -242,4 +264,5 @@ glyph_part d small = (digit_token _ (omega (arith, glyph_value d small))).0
 
 pub pairs_part : (bytes : List ℕ) → AreBytes bytes → IsPart (pairs bytes)
 pairs_part [] h = tt
-pairs_part (b ∷ bytes) h = (glyph_part (b / 16) (omega (arith, h.0)), (glyph_part (b % 16) (omega arith), pairs_part bytes h.1))
+pairs_part (b ∷ bytes) h =
+    (glyph_part (b / 16) (omega (arith, h.0)), (glyph_part (b % 16) (omega arith), pairs_part bytes h.1))

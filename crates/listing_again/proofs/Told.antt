@@ -14,7 +14,7 @@ use Rattle.pcode_model.specs.declared.listing.Proto.{Proto}
 use Rattle.pcode_model.specs.declared.opcode.Opcode.{Opcode}
 use Rattle.pcode_model.specs.declared.opcode.Opcode.TheVariants as opcode
 use Rattle.pcode_model.specs.Spaces.{same_kind}
-use Rattle.pcodetext.specs.declared.said.Said.{Said}
+use Rattle.pcodetext.specs.declared.partial_listing.PartialListing.{PartialListing}
 use Rattle.pcodetext.specs.declared.form.BytesLine.{BytesLine}
 use Rattle.pcodetext.specs.declared.form.Form.{Form}
 use Rattle.pcodetext.specs.declared.form.Form.TheVariants as form
@@ -84,15 +84,22 @@ IsTold two spaces protos form.Nothing = Unit {0}
 
 -- ---- operations
 
-named_is : {A : Type 0} (f : A → Line) (word : Line) (xs : List A) → IfSome (opcodes.named_by f word xs) (λ a. f a ≡ word)
+named_is : {A : Type 0} (f : A → Line) (word : Line) (xs : List A)
+    → IfSome (opcodes.named_by f word xs) (λ a. f a ≡ word)
 named_is f word [] = tt
 named_is f word (x ∷ xs) = by_word (bytes_eq word (f x)) refl (opcodes.named_by f word xs) (named_is f word xs)
   where
-    by_word : (t : Bool) → bytes_eq word (f x) ≡ t → (o : Option _) → IfSome o (λ a. f a ≡ word) → IfSome (if t then Some x else o) (λ a. f a ≡ word)
+    by_word : (t : Bool)
+        → bytes_eq word (f x) ≡ t
+        → (o : Option _)
+        → IfSome o (λ a. f a ≡ word)
+        → IfSome (if t then Some x else o) (λ a. f a ≡ word)
     by_word true e o h = sym ((bytes_eq-Decides word (f x)).0 e)
     by_word false e o h = h
 
-mapped : {A : Type 0} (f : A → Line) (word : Line) (g : A → Opcode) → ((a : A) → word_of (g a) ≡ f a) → (o : Option A) → IfSome o (λ a. f a ≡ word) → IfSome (option_map g o) (λ c. word_of c ≡ word)
+mapped : {A : Type 0} (f : A → Line) (word : Line) (g : A → Opcode) → ((a : A) → word_of (g a) ≡ f a) → (o : Option A)
+    → IfSome o (λ a. f a ≡ word)
+    → IfSome (option_map g o) (λ c. word_of c ≡ word)
 mapped f word g same None h = tt
 mapped f word g same (Some a) h = same a ∙ h
 
@@ -113,20 +120,31 @@ float_is (a ∷ b ∷ c ∷ d ∷ []) = tt
 float_is (a ∷ b ∷ c ∷ d ∷ e ∷ []) = tt
 float_is (a ∷ b ∷ c ∷ d ∷ e ∷ f ∷ more) = by_front (bytes_eq (a ∷ b ∷ c ∷ d ∷ e ∷ f ∷ []) (codes "FLOAT_")) refl
   where
-    by_front : (t : Bool) → bytes_eq (a ∷ b ∷ c ∷ d ∷ e ∷ f ∷ []) (codes "FLOAT_") ≡ t → IfSome (if t then Some more else None) (λ rest. codes "FLOAT_" ++ rest ≡ a ∷ b ∷ c ∷ d ∷ e ∷ f ∷ more)
-    by_front true is = sym (ap (λ (front : Line). front ++ more) ((bytes_eq-Decides (a ∷ b ∷ c ∷ d ∷ e ∷ f ∷ []) (codes "FLOAT_")).0 is))
+    by_front : (t : Bool)
+        → bytes_eq (a ∷ b ∷ c ∷ d ∷ e ∷ f ∷ []) (codes "FLOAT_") ≡ t
+        → IfSome (if t then Some more else None) (λ rest. codes "FLOAT_" ++ rest ≡ a ∷ b ∷ c ∷ d ∷ e ∷ f ∷ more)
+    by_front true is =
+        sym
+          (ap (λ (front : Line). front ++ more) ((bytes_eq-Decides (a ∷ b ∷ c ∷ d ∷ e ∷ f ∷ []) (codes "FLOAT_")).0 is))
     by_front false is = tt
 
 foreign_is : (word : Line) → IfSome (foreign_of word) (λ c. word_of c ≡ word)
-foreign_is word = either (λ c. word_of c ≡ word) _ _ (mapped (λ more. codes "FLOAT_" ++ more) word opcode.Float (λ more. refl) _ (float_is word))
-    (either (λ c. word_of c ≡ word) _ _ (mapped conversion_word word opcode.FloatConversion (λ op. refl) _ (named_is conversion_word word conversions))
-    (either (λ c. word_of c ≡ word) _ _ (mapped analysis_word word opcode.Analysis (λ op. refl) _ (named_is analysis_word word analyses))
+foreign_is word =
+    either (λ c. word_of c ≡ word) _ _
+      (mapped (λ more. codes "FLOAT_" ++ more) word opcode.Float (λ more. refl) _ (float_is word))
+    (either (λ c. word_of c ≡ word) _ _
+       (mapped conversion_word word opcode.FloatConversion (λ op. refl) _ (named_is conversion_word word conversions))
+    (either (λ c. word_of c ≡ word) _ _
+       (mapped analysis_word word opcode.Analysis (λ op. refl) _ (named_is analysis_word word analyses))
     (mapped left_out_word word opcode.LeftOut (λ op. refl) _ (named_is left_out_word word left_outs))))
 
 opcode_is : (word : Line) → IfSome (opcode_of word) (λ c. word_of c ≡ word)
-opcode_is word = either (λ c. word_of c ≡ word) _ _ (mapped unary_word word opcode.Unary (λ op. refl) _ (named_is unary_word word unaries))
+opcode_is word =
+    either (λ c. word_of c ≡ word) _ _
+      (mapped unary_word word opcode.Unary (λ op. refl) _ (named_is unary_word word unaries))
     (either (λ c. word_of c ≡ word) _ _ (mapped binary_word word opcode.Binary (λ op. refl) _ (binary_is word))
-    (either (λ c. word_of c ≡ word) _ _ (mapped divide_word word opcode.Divide (λ op. refl) _ (named_is divide_word word divides))
+    (either (λ c. word_of c ≡ word) _ _
+       (mapped divide_word word opcode.Divide (λ op. refl) _ (named_is divide_word word divides))
     (either (λ c. word_of c ≡ word) _ _ (named_is word_of word controls) (foreign_is word))))
 
 word_is : (word : Line) → is_name word ≡ true → IfSome (opcode_of word) IsWord
@@ -138,45 +156,64 @@ word_is word is = by_code (opcode_of word) refl (opcode_is word)
 
 -- ---- ranges, one a part
 
-ranges_are : (spaces : List Space) (parts : List Line) → IfSome (ranges_of spaces parts) (AllByRecursion (IsRange spaces))
+ranges_are : (spaces : List Space) (parts : List Line)
+    → IfSome (ranges_of spaces parts) (AllByRecursion (IsRange spaces))
 ranges_are spaces [] = tt
-ranges_are spaces (part ∷ parts) = joined (range_of spaces part) (ranges_of spaces parts) (range_is spaces part) (ranges_are spaces parts)
+ranges_are spaces (part ∷ parts) =
+    joined (range_of spaces part) (ranges_of spaces parts) (range_is spaces part) (ranges_are spaces parts)
   where
-    joined : (o : Option Written) (more : Option (List Written)) → IfSome o (IsRange spaces) → IfSome more (AllByRecursion (IsRange spaces)) → IfSome (with_first o more) (AllByRecursion (IsRange spaces))
+    joined : (o : Option Written) (more : Option (List Written))
+        → IfSome o (IsRange spaces)
+        → IfSome more (AllByRecursion (IsRange spaces))
+        → IfSome (with_first o more) (AllByRecursion (IsRange spaces))
     joined None more h g = tt
     joined (Some w) None h g = tt
     joined (Some w) (Some ws) h g = (h, g)
 
-until_is : (word : Line) (spaces : List Space) (parts : List Line) → IfSome (ranges_until word spaces parts) (λ found. AllByRecursion (IsRange spaces) found.0)
+until_is : (word : Line) (spaces : List Space) (parts : List Line)
+    → IfSome (ranges_until word spaces parts) (λ found. AllByRecursion (IsRange spaces) found.0)
 until_is word spaces [] = tt
-until_is word spaces (part ∷ parts) = by_word (bytes_eq part word) (range_of spaces part) (ranges_until word spaces parts) (range_is spaces part) (until_is word spaces parts)
+until_is word spaces (part ∷ parts) =
+    by_word (bytes_eq part word) (range_of spaces part) (ranges_until word spaces parts) (range_is spaces part)
+      (until_is word spaces parts)
   where
-    joined : (o : Option Written) (more : Option (List Written × List Line)) → IfSome o (IsRange spaces) → IfSome more (λ found. AllByRecursion (IsRange spaces) found.0)
+    joined : (o : Option Written) (more : Option (List Written × List Line))
+        → IfSome o (IsRange spaces)
+        → IfSome more (λ found. AllByRecursion (IsRange spaces) found.0)
         → IfSome (before o more) (λ found. AllByRecursion (IsRange spaces) found.0)
     joined None more h g = tt
     joined (Some w) None h g = tt
     joined (Some w) (Some found) h g = (h, g)
 
-    by_word : (t : Bool) (o : Option Written) (more : Option (List Written × List Line)) → IfSome o (IsRange spaces) → IfSome more (λ found. AllByRecursion (IsRange spaces) found.0)
+    by_word : (t : Bool) (o : Option Written) (more : Option (List Written × List Line))
+        → IfSome o (IsRange spaces)
+        → IfSome more (λ found. AllByRecursion (IsRange spaces) found.0)
         → IfSome (if t then Some ([], parts) else before o more) (λ found. AllByRecursion (IsRange spaces) found.0)
     by_word true o more h g = tt
     by_word false o more h g = joined o more h g
 
-or_none_is : (spaces : List Space) (part : Line) → IfSome (range_or_none spaces part) (λ gives. IfSome gives (IsRange spaces))
+or_none_is : (spaces : List Space) (part : Line)
+    → IfSome (range_or_none spaces part) (λ gives. IfSome gives (IsRange spaces))
 or_none_is spaces part = by_word (bytes_eq part (codes "none")) (range_of spaces part) (range_is spaces part)
   where
-    by_word : (t : Bool) (o : Option Written) → IfSome o (IsRange spaces) → IfSome (if t then Some None else option_map Some o) (λ gives. IfSome gives (IsRange spaces))
+    by_word : (t : Bool) (o : Option Written)
+        → IfSome o (IsRange spaces)
+        → IfSome (if t then Some None else option_map Some o) (λ gives. IfSome gives (IsRange spaces))
     by_word true o h = tt
     by_word false None h = tt
     by_word false (Some w) h = h
 
 -- ---- forms
 
-when : (two : Bool) (spaces : List Space) (protos : List Proto) (t : Bool) (f g : Form) → (t ≡ true → IsTold two spaces protos f) → IsTold two spaces protos g → IsTold two spaces protos (if t then f else g)
+when : (two : Bool) (spaces : List Space) (protos : List Proto) (t : Bool) (f g : Form)
+    → (t ≡ true → IsTold two spaces protos f)
+    → IsTold two spaces protos g
+    → IsTold two spaces protos (if t then f else g)
 when two spaces protos true f g h k = h refl
 when two spaces protos false f g h k = k
 
-pcode_told : (two : Bool) (spaces : List Space) (protos : List Proto) (parts : List Line) → IsTold two spaces protos (pcode_form parts)
+pcode_told : (two : Bool) (spaces : List Space) (protos : List Proto) (parts : List Line)
+    → IsTold two spaces protos (pcode_form parts)
 pcode_told two spaces protos [] = tt
 pcode_told two spaces protos (a ∷ []) = made (decimal_of a) (decimal_small a)
   where
@@ -200,8 +237,12 @@ word_told false (a ∷ []) = tt
 word_told true (a ∷ b ∷ parts) = tt
 word_told false (a ∷ b ∷ parts) = tt
 
-space_made_told : (two : Bool) (spaces : List Space) (protos : List Proto) (name : Line) (kind : Option SpaceKind) (size : Option ℕ) (big : Option Bool) (word : Option ℕ)
-    → IfSome kind (λ k. same_kind Constant k ≡ false) → IfSome size (λ n. n < 10 ^ 5) → IfSome word (λ n. (n < 10 ^ 5) × (two ≡ false → n ≡ 1))
+space_made_told :
+    (two : Bool) (spaces : List Space) (protos : List Proto) (name : Line) (kind : Option SpaceKind) (size : Option ℕ)
+      (big : Option Bool) (word : Option ℕ)
+    → IfSome kind (λ k. same_kind Constant k ≡ false)
+      → IfSome size (λ n. n < 10 ^ 5)
+      → IfSome word (λ n. (n < 10 ^ 5) × (two ≡ false → n ≡ 1))
     → IsTold two spaces protos (space_made name kind size big word)
 space_made_told two spaces protos name None size big word h g k = tt
 space_made_told two spaces protos name (Some kind) None big word h g k = tt
@@ -210,14 +251,18 @@ space_made_told two spaces protos name (Some kind) (Some size) (Some big) None h
 space_made_told two spaces protos name (Some kind) (Some size) (Some big) (Some word) h g k =
     when two spaces protos (is_name name) _ _ (λ e. record { name = e; kind = h; size = g; word = k.0; one = k.1 }) tt
 
-space_told : (two : Bool) (spaces : List Space) (protos : List Proto) (parts : List Line) → IsTold two spaces protos (space_form two parts)
+space_told : (two : Bool) (spaces : List Space) (protos : List Proto) (parts : List Line)
+    → IsTold two spaces protos (space_form two parts)
 space_told two spaces protos [] = tt
 space_told two spaces protos (a ∷ []) = tt
 space_told two spaces protos (a ∷ b ∷ []) = tt
 space_told two spaces protos (a ∷ b ∷ c ∷ []) = tt
-space_told two spaces protos (a ∷ b ∷ c ∷ d ∷ parts) = space_made_told two spaces protos a (kind_of b) (decimal_of c) (order_of d) (word_by two parts) (kind_is b) (decimal_small c) (word_told two parts)
+space_told two spaces protos (a ∷ b ∷ c ∷ d ∷ parts) =
+    space_made_told two spaces protos a (kind_of b) (decimal_of c) (order_of d) (word_by two parts) (kind_is b)
+      (decimal_small c) (word_told two parts)
 
-stack_told : (two : Bool) (spaces : List Space) (protos : List Proto) (parts : List Line) → IsTold two spaces protos (stack_form spaces parts)
+stack_told : (two : Bool) (spaces : List Space) (protos : List Proto) (parts : List Line)
+    → IsTold two spaces protos (stack_form spaces parts)
 stack_told two spaces protos [] = tt
 stack_told two spaces protos (a ∷ []) = made (range_of spaces a) (range_is spaces a)
   where
@@ -226,64 +271,102 @@ stack_told two spaces protos (a ∷ []) = made (range_of spaces a) (range_is spa
     made (Some w) h = h
 stack_told two spaces protos (a ∷ b ∷ parts) = tt
 
-proto_made_told : (two : Bool) (spaces : List Space) (protos : List Proto) (name : Line) (args : List Written) (gives : Option (Option Written)) (pop : Option ℕ) (keep : Option (List Written))
-    → is_name name ≡ true → AllByRecursion (IsRange spaces) args → IfSome gives (λ g. IfSome g (IsRange spaces)) → IfSome pop (λ n. n < 16 ^ 16) → IfSome keep (AllByRecursion (IsRange spaces))
+proto_made_told :
+    (two : Bool) (spaces : List Space) (protos : List Proto) (name : Line) (args : List Written)
+      (gives : Option (Option Written)) (pop : Option ℕ) (keep : Option (List Written))
+    → is_name name ≡ true
+      → AllByRecursion (IsRange spaces) args
+      → IfSome gives (λ g. IfSome g (IsRange spaces))
+      → IfSome pop (λ n. n < 16 ^ 16)
+      → IfSome keep (AllByRecursion (IsRange spaces))
     → IsTold two spaces protos (proto_made name args gives pop keep)
 proto_made_told two spaces protos name args None pop keep n a g p k = tt
 proto_made_told two spaces protos name args (Some gives) None keep n a g p k = tt
 proto_made_told two spaces protos name args (Some gives) (Some pop) None n a g p k = tt
-proto_made_told two spaces protos name args (Some gives) (Some pop) (Some keep) n a g p k = record { name = n; args = a; gives = g; pop = p; keep = k }
+proto_made_told two spaces protos name args (Some gives) (Some pop) (Some keep) n a g p k = record {
+  name = n;
+  args = a;
+  gives = g;
+  pop = p;
+  keep = k }
 
-proto_rest_told : (two : Bool) (spaces : List Space) (protos : List Proto) (name : Line) (args : List Written) (parts : List Line) → is_name name ≡ true → AllByRecursion (IsRange spaces) args
+proto_rest_told : (two : Bool) (spaces : List Space) (protos : List Proto) (name : Line) (args : List Written) (parts : List Line)
+    → is_name name ≡ true
+    → AllByRecursion (IsRange spaces) args
     → IsTold two spaces protos (proto_rest spaces name args parts)
 proto_rest_told two spaces protos name args [] n h = tt
 proto_rest_told two spaces protos name args (a ∷ []) n h = tt
 proto_rest_told two spaces protos name args (a ∷ b ∷ []) n h = tt
 proto_rest_told two spaces protos name args (a ∷ b ∷ c ∷ []) n h = tt
-proto_rest_told two spaces protos name args (a ∷ b ∷ c ∷ d ∷ parts) n h = when two spaces protos (bytes_eq b (codes "pop") && bytes_eq d (codes "keep")) _ _
-    (λ e. proto_made_told two spaces protos name args _ _ _ n h (or_none_is spaces a) (hexadecimal_small c) (ranges_are spaces parts)) tt
+proto_rest_told two spaces protos name args (a ∷ b ∷ c ∷ d ∷ parts) n h =
+    when two spaces protos (bytes_eq b (codes "pop") && bytes_eq d (codes "keep")) _ _
+    (λ e. proto_made_told two spaces protos name args _ _ _ n h (or_none_is spaces a) (hexadecimal_small c) (ranges_are spaces parts))
+      tt
 
-proto_told : (two : Bool) (spaces : List Space) (protos : List Proto) (parts : List Line) → IsTold two spaces protos (proto_form spaces parts)
+proto_told : (two : Bool) (spaces : List Space) (protos : List Proto) (parts : List Line)
+    → IsTold two spaces protos (proto_form spaces parts)
 proto_told two spaces protos [] = tt
 proto_told two spaces protos (a ∷ []) = tt
 proto_told two spaces protos (a ∷ b ∷ parts) = when two spaces protos (is_name a && bytes_eq b (codes "args")) _ _
-    (λ e. args_told (left_true _ _ e) (ranges_until (codes "result") spaces parts) (until_is (codes "result") spaces parts)) tt
+    (λ e. args_told (left_true _ _ e) (ranges_until (codes "result") spaces parts) (until_is (codes "result") spaces parts))
+      tt
   where
-    args_told : is_name a ≡ true → (o : Option (List Written × List Line)) → IfSome o (λ found. AllByRecursion (IsRange spaces) found.0) → IsTold two spaces protos (proto_args spaces a o)
+    args_told : is_name a ≡ true
+        → (o : Option (List Written × List Line))
+        → IfSome o (λ found. AllByRecursion (IsRange spaces) found.0)
+        → IsTold two spaces protos (proto_args spaces a o)
     args_told n None h = tt
     args_told n (Some found) h = proto_rest_told two spaces protos a found.0 found.1 n h
 
-function_told : (spaces : List Space) (protos : List Proto) (name proto : Line) (place : Option (Named × ℕ)) (returns : Option Bool) → IfSome place (λ p. IsSpelled spaces p.0 × (p.1 < 16 ^ 16))
+function_told : (spaces : List Space) (protos : List Proto) (name proto : Line) (place : Option (Named × ℕ)) (returns : Option Bool)
+    → IfSome place (λ p. IsSpelled spaces p.0 × (p.1 < 16 ^ 16))
     → IfSome (function_made protos name proto place returns) (λ l. IsFunctionTold spaces protos l × (Some l.returns ≡ returns))
 function_told spaces protos name proto None returns h = tt
 function_told spaces protos name proto (Some place) None h = tt
 function_told spaces protos name proto (Some place) (Some returns) h = by_names (is_name name && is_name proto) refl
   where
     by_names : (t : Bool) → (is_name name && is_name proto) ≡ t
-        → IfSome (if t then Some (record { name = name; space = place.0; address = place.1; proto = place_in proto (map proto_name protos); returns = returns }) else None) (λ l. IsFunctionTold spaces protos l × (Some l.returns ≡ Some returns))
-    by_names true e = (record { name = left_true _ _ e; space = h.0; address = h.1; proto = called protos proto (right_true _ _ e) }, refl)
+        → IfSome
+          (if t then Some
+             (record {
+                name = name;
+                space = place.0;
+                address = place.1;
+                proto = place_in proto (map proto_name protos);
+                returns = returns }) else None) (λ l. IsFunctionTold spaces protos l × (Some l.returns ≡ Some returns))
+    by_names true e =
+        (record { name = left_true _ _ e; space = h.0; address = h.1; proto = called protos proto (right_true _ _ e) },
+         refl)
     by_names false e = tt
 
-func_told : (two : Bool) (spaces : List Space) (protos : List Proto) (parts : List Line) → IsTold two spaces protos (func_form spaces protos parts)
+func_told : (two : Bool) (spaces : List Space) (protos : List Proto) (parts : List Line)
+    → IsTold two spaces protos (func_form spaces protos parts)
 func_told two spaces protos [] = tt
 func_told two spaces protos (a ∷ []) = tt
 func_told two spaces protos (a ∷ b ∷ []) = tt
-func_told two spaces protos (a ∷ b ∷ c ∷ []) = made (function_made protos a c (place_of spaces b) (Some true)) (function_told spaces protos a c (place_of spaces b) (Some true) (place_is spaces b))
+func_told two spaces protos (a ∷ b ∷ c ∷ []) =
+    made (function_made protos a c (place_of spaces b) (Some true))
+      (function_told spaces protos a c (place_of spaces b) (Some true) (place_is spaces b))
   where
     same : (r : Bool) → Some r ≡ Some true → r ≡ true
     same r e = cc
 
-    made : (o : Option FunctionLine) → IfSome o (λ l. IsFunctionTold spaces protos l × (Some l.returns ≡ Some true)) → IsTold two spaces protos (func_made o)
+    made : (o : Option FunctionLine)
+        → IfSome o (λ l. IsFunctionTold spaces protos l × (Some l.returns ≡ Some true))
+        → IsTold two spaces protos (func_made o)
     made None h = tt
     made (Some l) h = (h.0, same l.returns h.1)
 func_told two spaces protos (a ∷ b ∷ c ∷ d ∷ parts) = tt
 
-callee_told : (two : Bool) (spaces : List Space) (protos : List Proto) (parts : List Line) → IsTold two spaces protos (callee_form two spaces protos parts)
+callee_told : (two : Bool) (spaces : List Space) (protos : List Proto) (parts : List Line)
+    → IsTold two spaces protos (callee_form two spaces protos parts)
 callee_told two spaces protos [] = tt
 callee_told two spaces protos (a ∷ []) = tt
 callee_told two spaces protos (a ∷ b ∷ []) = tt
 callee_told two spaces protos (a ∷ b ∷ c ∷ parts) =
-    made (returns_by two parts) (returns_told two parts) (function_made protos a c (place_of spaces b) (returns_by two parts)) (function_told spaces protos a c (place_of spaces b) (returns_by two parts) (place_is spaces b))
+    made (returns_by two parts) (returns_told two parts)
+      (function_made protos a c (place_of spaces b) (returns_by two parts))
+      (function_told spaces protos a c (place_of spaces b) (returns_by two parts) (place_is spaces b))
   where
     returns_told : (t : Bool) (ps : List Line) → t ≡ false → IfSome (returns_by t ps) (λ r. r ≡ true)
     returns_told t [] e = refl
@@ -307,74 +390,101 @@ callee_told two spaces protos (a ∷ b ∷ c ∷ parts) =
         some : (b : Bool) → Some r ≡ Some b → b ≡ true → r ≡ true
         some b e h = cc
 
-    made : (returns : Option Bool) → (two ≡ false → IfSome returns (λ r. r ≡ true)) → (o : Option FunctionLine) → IfSome o (λ l. IsFunctionTold spaces protos l × (Some l.returns ≡ returns)) → IsTold two spaces protos (callee_made o)
+    made : (returns : Option Bool)
+        → (two ≡ false → IfSome returns (λ r. r ≡ true))
+        → (o : Option FunctionLine)
+        → IfSome o (λ l. IsFunctionTold spaces protos l × (Some l.returns ≡ returns))
+        → IsTold two spaces protos (callee_made o)
     made returns r None h = tt
     made returns r (Some l) h = (h.0, λ e. same returns l.returns h.1 (r e))
 
-bytes_told : (two : Bool) (spaces : List Space) (protos : List Proto) (parts : List Line) → IsTold two spaces protos (bytes_form spaces parts)
+bytes_told : (two : Bool) (spaces : List Space) (protos : List Proto) (parts : List Line)
+    → IsTold two spaces protos (bytes_form spaces parts)
 bytes_told two spaces protos [] = tt
 bytes_told two spaces protos (a ∷ []) = tt
 bytes_told two spaces protos (a ∷ b ∷ []) = made (place_of spaces a) (bytes_of b) (place_is spaces a) (bytes_small b)
   where
-    made : (place : Option (Named × ℕ)) (bytes : Option (List ℕ)) → IfSome place (λ p. IsSpelled spaces p.0 × (p.1 < 16 ^ 16)) → IfSome bytes (λ b. (0 < length b) × AreBytes b) → IsTold two spaces protos (bytes_made place bytes)
+    made : (place : Option (Named × ℕ)) (bytes : Option (List ℕ))
+        → IfSome place (λ p. IsSpelled spaces p.0 × (p.1 < 16 ^ 16))
+        → IfSome bytes (λ b. (0 < length b) × AreBytes b)
+        → IsTold two spaces protos (bytes_made place bytes)
     made None bytes h g = tt
     made (Some p) None h g = tt
     made (Some p) (Some b) h g = record { space = h.0; offset = h.1; some = g.0; bytes = g.1 }
 bytes_told two spaces protos (a ∷ b ∷ c ∷ parts) = tt
 
-at_told : (two : Bool) (spaces : List Space) (protos : List Proto) (parts : List Line) → IsTold two spaces protos (at_form parts)
+at_told : (two : Bool) (spaces : List Space) (protos : List Proto) (parts : List Line)
+    → IsTold two spaces protos (at_form parts)
 at_told two spaces protos [] = tt
 at_told two spaces protos (a ∷ []) = tt
 at_told two spaces protos (a ∷ b ∷ []) = made (hexadecimal_of a) (decimal_of b) (hexadecimal_small a) (decimal_small b)
   where
-    made : (o p : Option ℕ) → IfSome o (λ n. n < 16 ^ 16) → IfSome p (λ n. n < 10 ^ 5) → IsTold two spaces protos (at_made o p)
+    made : (o p : Option ℕ)
+        → IfSome o (λ n. n < 16 ^ 16)
+        → IfSome p (λ n. n < 10 ^ 5)
+        → IsTold two spaces protos (at_made o p)
     made None p h g = tt
     made (Some a) None h g = tt
     made (Some a) (Some b) h g = (h, g)
 at_told two spaces protos (a ∷ b ∷ c ∷ parts) = tt
 
-op_made_told : (two : Bool) (spaces : List Space) (protos : List Proto) (out : Option Written) (code : Line) (inputs : Option (List Written)) → IfSome out (IsRange spaces) → IfSome inputs (AllByRecursion (IsRange spaces))
+op_made_told : (two : Bool) (spaces : List Space) (protos : List Proto) (out : Option Written) (code : Line) (inputs : Option (List Written))
+    → IfSome out (IsRange spaces)
+    → IfSome inputs (AllByRecursion (IsRange spaces))
     → IsTold two spaces protos (op_made out code inputs)
 op_made_told two spaces protos out code None h g = tt
-op_made_told two spaces protos out code (Some inputs) h g = when two spaces protos (is_name code) _ _ (λ e. record { out = h; code = word_is code e; inputs = g }) tt
+op_made_told two spaces protos out code (Some inputs) h g =
+    when two spaces protos (is_name code) _ _ (λ e. record { out = h; code = word_is code e; inputs = g }) tt
 
-op_told : (two : Bool) (spaces : List Space) (protos : List Proto) (parts : List Line) → IsTold two spaces protos (op_form spaces parts)
+op_told : (two : Bool) (spaces : List Space) (protos : List Proto) (parts : List Line)
+    → IsTold two spaces protos (op_form spaces parts)
 op_told two spaces protos [] = tt
 op_told two spaces protos (a ∷ []) = tt
-op_told two spaces protos (blank ∷ first ∷ parts) = when two spaces protos (length blank == 0) _ _ (λ e. by_parts parts) tt
+op_told two spaces protos (blank ∷ first ∷ parts) =
+    when two spaces protos (length blank == 0) _ _ (λ e. by_parts parts) tt
   where
-    assigned : (o : Option Written) (ps : List Line) → IfSome o (IsRange spaces) → IsTold two spaces protos (op_assigned spaces o ps)
+    assigned : (o : Option Written) (ps : List Line)
+        → IfSome o (IsRange spaces)
+        → IsTold two spaces protos (op_assigned spaces o ps)
     assigned None ps h = tt
     assigned (Some w) [] h = tt
-    assigned (Some w) (p ∷ ps) h = op_made_told two spaces protos (Some w) p (ranges_of spaces ps) h (ranges_are spaces ps)
+    assigned (Some w) (p ∷ ps) h =
+        op_made_told two spaces protos (Some w) p (ranges_of spaces ps) h (ranges_are spaces ps)
 
     by_parts : (ps : List Line) → IsTold two spaces protos (op_by spaces first ps)
     by_parts [] = op_made_told two spaces protos None first (ranges_of spaces []) tt (ranges_are spaces [])
-    by_parts (p ∷ ps) = when two spaces protos (bytes_eq p (codes "=")) _ _ (λ e. assigned (range_of spaces first) ps (range_is spaces first))
+    by_parts (p ∷ ps) =
+        when two spaces protos (bytes_eq p (codes "=")) _ _ (λ e. assigned (range_of spaces first) ps (range_is spaces first))
         (op_made_told two spaces protos None first (ranges_of spaces (p ∷ ps)) tt (ranges_are spaces (p ∷ ps)))
 
-end_told : (two : Bool) (spaces : List Space) (protos : List Proto) (parts : List Line) → IsTold two spaces protos (end_form parts)
+end_told : (two : Bool) (spaces : List Space) (protos : List Proto) (parts : List Line)
+    → IsTold two spaces protos (end_form parts)
 end_told two spaces protos [] = tt
 end_told two spaces protos (p ∷ parts) = tt
 
-head_told : (s : Said) (word : Line) (parts : List Line) → IsTold (is_two s.version) s.spaces s.protos (head_form s word parts)
+head_told : (s : PartialListing) (word : Line) (parts : List Line)
+    → IsTold (is_two s.version) s.spaces s.protos (head_form s word parts)
 head_told s word parts =
     let two : Bool = is_two s.version in
     let spaces : List Space = s.spaces in
     let protos : List Proto = s.protos in
-    when two spaces protos (bytes_eq word (codes "pcode")) _ _ (λ e. pcode_told two spaces protos parts) (when two spaces protos (bytes_eq word (codes "space")) _ _ (λ e. space_told two spaces protos parts)
-    (when two spaces protos (bytes_eq word (codes "stack")) _ _ (λ e. stack_told two spaces protos parts) (when two spaces protos (bytes_eq word (codes "proto")) _ _ (λ e. proto_told two spaces protos parts)
+    when two spaces protos (bytes_eq word (codes "pcode")) _ _ (λ e. pcode_told two spaces protos parts)
+      (when two spaces protos (bytes_eq word (codes "space")) _ _ (λ e. space_told two spaces protos parts)
+    (when two spaces protos (bytes_eq word (codes "stack")) _ _ (λ e. stack_told two spaces protos parts)
+       (when two spaces protos (bytes_eq word (codes "proto")) _ _ (λ e. proto_told two spaces protos parts)
     (when two spaces protos (bytes_eq word (codes "func")) _ _ (λ e. func_told two spaces protos parts) (when two spaces protos (bytes_eq word (codes "end")) _ _ (λ e. end_told two spaces protos parts) tt)))))
 
-by_told : (s : Said) (parts : List Line) → IsTold (is_two s.version) s.spaces s.protos (form_by s parts)
+by_told : (s : PartialListing) (parts : List Line) → IsTold (is_two s.version) s.spaces s.protos (form_by s parts)
 by_told s [] = tt
 by_told s (word ∷ parts) =
     let two : Bool = is_two s.version in
     let spaces : List Space = s.spaces in
     let protos : List Proto = s.protos in
-    when two spaces protos (length word == 0) _ _ (λ e. op_told two spaces protos parts) (when two spaces protos (bytes_eq word (codes "at")) _ _ (λ e. at_told two spaces protos parts)
-    (when two spaces protos (bytes_eq word (codes "bytes")) _ _ (λ e. bytes_told two spaces protos parts) (when two spaces protos (bytes_eq word (codes "callee")) _ _ (λ e. callee_told two spaces protos parts)
+    when two spaces protos (length word == 0) _ _ (λ e. op_told two spaces protos parts)
+      (when two spaces protos (bytes_eq word (codes "at")) _ _ (λ e. at_told two spaces protos parts)
+    (when two spaces protos (bytes_eq word (codes "bytes")) _ _ (λ e. bytes_told two spaces protos parts)
+       (when two spaces protos (bytes_eq word (codes "callee")) _ _ (λ e. callee_told two spaces protos parts)
     (head_told s word parts))))
 
-pub told : (s : Said) (line : Line) → IsTold (is_two s.version) s.spaces s.protos (form_of s line)
+pub told : (s : PartialListing) (line : Line) → IsTold (is_two s.version) s.spaces s.protos (form_of s line)
 told s line = by_told s (parts_of 32 line)

@@ -9,8 +9,8 @@ use Rattle.pcode_model.specs.declared.listing.Op.{Op}
 use Rattle.pcode_model.specs.Flow.{AreApart}
 use Rattle.pcode_model.specs.Rules.{HasFewOps}
 use Rattle.pcodetext.specs.Faults.{is_behind, of_some}
-use Rattle.pcodetext.specs.Formed.{total_ops}
-use Rattle.pcodetext.proofs.Passing.{all_snoc, right_false}
+use Rattle.pcode_model.specs.WellFormed.{total_ops}
+use Rattle.pcodetext.proofs.Passing.{all_snoc, length_snoc, right_false}
 
 apart_snoc : (xs : List Instruction) (x y : Instruction) → AreApart (xs ++ x ∷ []) → x.address + x.length ≤ y.address → 0 < y.length → AreApart ((xs ++ x ∷ []) ++ y ∷ [])
 apart_snoc [] x y h le pos = (h, (le, pos))
@@ -36,10 +36,6 @@ total_more (x ∷ xs) y = let next = total_more xs y in omega (arith, next)
 pub few_ops : (xs : List Instruction) → total_ops xs < 2 ^ 32 → HasFewOps xs
 few_ops [] h = tt
 few_ops (x ∷ xs) h = let small : length x.ops < 2 ^ 32 = omega arith in let rest : total_ops xs < 2 ^ 32 = omega arith in (small, few_ops xs rest)
-
-length_snoc : (xs : List Op) (y : Op) → length (xs ++ y ∷ []) ≡ length xs + 1
-length_snoc [] y = refl
-length_snoc (x ∷ xs) y = let next = length_snoc xs y in omega (arith, next)
 
 pub total_op : (done : List Instruction) (x : Instruction) (op : Op) → total_ops (done ++ record x { ops = x.ops ++ op ∷ [] } ∷ []) ≡ total_ops (done ++ x ∷ []) + 1
 total_op done x op =

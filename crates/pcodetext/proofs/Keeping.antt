@@ -4,15 +4,12 @@ use Rattle.std.specs.Prelude.{◌==◌, ◌&&◌, ◌||◌, not, Option, Some, N
 use Rattle.std.specs.List.{AllByRecursion, list_any}
 use Rattle.std.specs.Option.{is_none, is_some, option_map, option_to_list}
 use Rattle.std.proofs.lemmas.Bool.{not-false, eqb-true}
-use Rattle.listing_lines.specs.Tokens.{is_name}
-use Rattle.pcode_model.specs.declared.listing.Function.{Function}
 use Rattle.pcode_model.specs.declared.listing.Instruction.{Instruction}
 use Rattle.pcode_model.specs.declared.listing.Op.{Op}
-use Rattle.pcode_model.specs.declared.listing.Proto.{Proto}
 use Rattle.pcode_model.specs.declared.listing.Space.{Space}
 use Rattle.pcode_model.specs.declared.opcode.Opcode.{Opcode}
-use Rattle.pcode_model.specs.WellFormed.{HasOps, IsFixed, IsFunction, IsOp, IsProto, IsRegister}
-use Rattle.pcodetext.specs.declared.said.Said.{Said}
+use Rattle.pcode_model.specs.WellFormed.{AreSpaces, HasKnownOps, HasOps, IsKnownOp, IsOp, IsStackPointer, total_ops}
+use Rattle.pcodetext.specs.declared.partial_listing.PartialListing.{PartialListing}
 use Rattle.pcodetext.specs.declared.form.AtLine.{AtLine}
 use Rattle.pcodetext.specs.declared.form.BytesLine.{BytesLine}
 use Rattle.pcodetext.specs.declared.form.Form.{Form}
@@ -22,368 +19,286 @@ use Rattle.pcodetext.specs.declared.form.OpLine.{OpLine}
 use Rattle.pcodetext.specs.declared.form.ProtoLine.{ProtoLine}
 use Rattle.pcodetext.specs.declared.form.SpaceLine.{SpaceLine}
 use Rattle.pcodetext.specs.declared.form.Written.{Written}
-use Rattle.pcodetext.specs.Formed.{HasKnownOps, IsKnownOp, IsNamedFunction, IsNamedProto, IsNamedSpace, total_ops}
 use Rattle.pcodetext.specs.Faults.{faults, first_fault, is_empty, of_some}
+use Rattle.pcodetext.specs.Forms.{is_two}
 use Rattle.pcodetext.specs.Meaning.{after, varnode, with_op}
-use Rattle.pcodetext.proofs.FormIs.{IsForm, IsFunctionLine, IsWritten}
-use Rattle.pcodetext.proofs.Formed.{AreDeclared, IsFormed, complete_is, declared_is, fixed_by, function_is, inputs_are, inputs_known, output_is, output_known, proto_is, register_is, spaces_more}
+use Rattle.pcodetext.specs.Tables.{proto_name, space_name}
+use Rattle.pcodetext.proofs.Distinct.{others}
+use Rattle.pcodetext.proofs.FormIs.{IsForm, IsWritten, known_of}
+use Rattle.pcodetext.proofs.Formed.{IsFormed, KeepCode}
+use Rattle.pcodetext.proofs.Functions.{functions_more, functions_of_version, keep_callee, keep_func, no_functions}
 use Rattle.pcodetext.proofs.Instructions.{apart_more, apart_same, ops_op, total_more, total_op}
-use Rattle.pcodetext.proofs.Passing.{AllFalse, all_false, all_map, all_snoc, if_none, le_false, left_false, never, nil_is, right_false, zero_false, some_map}
+use Rattle.pcodetext.proofs.Passing.{AllFalse, all_false, all_snoc, if_none, le_false, left_false, length_snoc, never, right_false, zero_false}
+use Rattle.pcodetext.proofs.Prototypes.{keep_proto, no_protos, proto_of}
+use Rattle.pcodetext.proofs.Ranges.{inputs_are, inputs_known, output_is, output_known, stack_is}
+use Rattle.pcodetext.proofs.ReadOnly.{keep_fixed, no_fixed}
+use Rattle.pcodetext.proofs.Spaces.{keep_space, spaces_of_version}
 
 pub no_length : (n : ℕ) → not (n == 0) ≡ false → n ≡ 0
 no_length n h = eqb-true n 0 (not-false _ h)
 
-length_snoc : {A : Type 0} (xs : List A) (y : A) → length (xs ++ y ∷ []) ≡ length xs + 1
-length_snoc [] y = refl
-length_snoc (x ∷ xs) y = let more = length_snoc xs y in omega (arith, more)
-
 some_length : {A : Type 0} (xs : List A) (y : A) → length (xs ++ y ∷ []) ≡ 0 → ⊥
 some_length xs y h = let one = length_snoc xs y in omega (arith, one, h)
 
--- ---- what is declared
+not_both : {A : Type 0} (o : Option A) → is_none o ≡ false → is_some o ≡ false → ⊥
+not_both None e g = never e
+not_both (Some x) e g = never g
 
-module _ (spaces : List Space) (protos : List Proto) (func : Option Function) (callees : List Function) where
-  space_declared : (new : Space) → IsNamedSpace new → length spaces < 9 → AreDeclared spaces protos func callees → AreDeclared (spaces ++ new ∷ []) protos func callees
-  space_declared new is few d = record {
-    spaces_named = all_snoc IsNamedSpace spaces new d.spaces_named is;
-    protos_named = d.protos_named;
-    func_named = d.func_named;
-    callees_named = d.callees_named;
-    spaces_few = let one = length_snoc spaces new in omega (arith, one, few);
-    protos_few = d.protos_few;
-    callees_few = d.callees_few;
-  }
+-- where there is a function, there is a prototype
+pub has_protos : (s : PartialListing) → IsFormed s → is_none s.func ≡ false → length s.protos ≡ 0 → ⊥
+has_protos s f some z = not_both s.func some (f.no_func z)
 
-  proto_declared : (new : Proto) → IsNamedProto new → length protos < 64 → AreDeclared spaces protos func callees → AreDeclared spaces (protos ++ new ∷ []) func callees
-  proto_declared new is few d = record {
-    spaces_named = d.spaces_named;
-    protos_named = all_snoc IsNamedProto protos new d.protos_named is;
-    func_named = d.func_named;
-    callees_named = d.callees_named;
-    spaces_few = d.spaces_few;
-    protos_few = let one = length_snoc protos new in omega (arith, one, few);
-    callees_few = d.callees_few;
-  }
+-- ---- the version
 
-  func_declared : (new : Function) → IsNamedFunction new → AreDeclared spaces protos func callees → AreDeclared spaces protos (Some new) callees
-  func_declared new is d = record {
-    spaces_named = d.spaces_named;
-    protos_named = d.protos_named;
-    func_named = is;
-    callees_named = d.callees_named;
-    spaces_few = d.spaces_few;
-    protos_few = d.protos_few;
-    callees_few = d.callees_few;
-  }
+is_one : (n : ℕ) (a b : Bool) → (n == 1) ≡ a → (n == 2) ≡ b → not (a || b) ≡ false → (n ≡ 1) ⊎ (n ≡ 2)
+is_one n true b p q e = inl (eqb-true n 1 p)
+is_one n false true p q e = inr (eqb-true n 2 q)
+is_one n false false p q e = absurd (never e)
 
-  callee_declared : (new : Function) → IsNamedFunction new → length callees < 1024 → AreDeclared spaces protos func callees → AreDeclared spaces protos func (callees ++ new ∷ [])
-  callee_declared new is few d = record {
-    spaces_named = d.spaces_named;
-    protos_named = d.protos_named;
-    func_named = d.func_named;
-    callees_named = all_snoc IsNamedFunction callees new d.callees_named is;
-    spaces_few = d.spaces_few;
-    protos_few = d.protos_few;
-    callees_few = let one = length_snoc callees new in omega (arith, one, few);
-  }
+version_is : (v : Option ℕ) (n : ℕ) → (is_none v && not (n == 1 || n == 2)) ≡ false → is_some v ≡ false → (n ≡ 1) ⊎ (n ≡ 2)
+version_is None n e g = is_one n (n == 1) (n == 2) refl refl e
+version_is (Some v) n e g = absurd (never g)
+
+not_two : (v : Option ℕ) → is_some v ≡ false → is_two v ≡ false
+not_two None e = refl
+not_two (Some v) e = absurd (never e)
+
+pcode_kept : (s : PartialListing) (n : ℕ) → IsFormed s → first_fault (faults s (form.Pcode n)) ≡ None → IsFormed (after s (form.Pcode n))
+pcode_kept s n f h =
+    let p : AllFalse (faults s (form.Pcode n)) = all_false (faults s (form.Pcode n)) h in
+    let none : is_two s.version ≡ false = not_two s.version p.1.0 in
+    record {
+      version = version_is s.version n p.0 p.1.0;
+      spaces = spaces_of_version (is_two s.version) (n == 2) s.spaces none f.spaces;
+      stack = f.stack;
+      protos = f.protos;
+      functions = functions_of_version (is_two s.version) (n == 2) s.spaces (length s.protos) s.func s.callees none f.functions;
+      fixed = f.fixed;
+      code = f.code;
+      no_func = f.no_func;
+      early = λ z. let e = f.early z in record { callees = e.callees; fixed = e.fixed; done = e.done; last = e.last };
+    }
+
+-- ---- spaces, the stack pointer and prototypes
 
 no_code : (P : Instruction → Type 0) (done : List Instruction) (last : Option Instruction) → done ≡ [] → is_some last ≡ false → AllByRecursion P (done ++ option_to_list last)
 no_code P done None e h = subst (λ (is : List Instruction). AllByRecursion P (is ++ [])) (sym e) tt
 no_code P done (Some i) e h = absurd (never h)
 
--- ---- one line more
-
-pcode_kept : (s : Said) (n : ℕ) → IsFormed s → first_fault (faults s (form.Pcode n)) ≡ None → IsFormed (after s (form.Pcode n))
-pcode_kept s n f h =
-    let p : AllFalse (faults s (form.Pcode n)) = all_false (faults s (form.Pcode n)) h in
-    record {
-      version = version_is (s.version) p.0 p.1.0;
-      spaces = f.spaces;
-      early = λ e. let g = f.early e in record { func = g.func; callees = g.callees; fixed = g.fixed; done = g.done; last = g.last };
-      complete = f.complete;
-      stack = f.stack;
-      protos = f.protos;
-      func = f.func;
-      callees = f.callees;
-      fixed = f.fixed;
-      code = f.code;
-      first = f.first;
-      ops = f.ops;
-      total = f.total;
-      few = f.few;
-      closed = f.closed;
-      declared = f.declared;
-      known = f.known;
-    }
-  where
-    is_one : (a b : Bool) → (n == 1) ≡ a → (n == 2) ≡ b → not (a || b) ≡ false → (n ≡ 1) ⊎ (n ≡ 2)
-    is_one true b p q e = inl (eqb-true n 1 p)
-    is_one false true p q e = inr (eqb-true n 2 q)
-    is_one false false p q e = absurd (never e)
-
-    version_is : (v : Option ℕ) → (is_none v && not (n == 1 || n == 2)) ≡ false → is_some v ≡ false → (n ≡ 1) ⊎ (n ≡ 2)
-    version_is None e g = is_one (n == 1) (n == 2) refl refl e
-    version_is (Some v) e g = absurd (never g)
-
-space_kept : (s : Said) (l : SpaceLine) → IsFormed s → IsForm (length s.spaces, length s.protos) (form.Space l) → first_fault (faults s (form.Space l)) ≡ None → IsFormed (after s (form.Space l))
-space_kept s l f kind h =
+space_kept : (s : PartialListing) (l : SpaceLine) → IsFormed s → IsForm (known_of s) (form.Space l) → first_fault (faults s (form.Space l)) ≡ None → IsFormed (after s (form.Space l))
+space_kept s l f is h =
     let p : AllFalse (faults s (form.Space l)) = all_false (faults s (form.Space l)) h in
     let none : length s.protos ≡ 0 = no_length _ (right_false _ _ p.0) in
-    let no_stack : is_some s.stack ≡ false = right_false _ _ (left_false _ _ p.0) in
-    let e = f.early none in
-    let spaces : List Space = s.spaces ++ record { name = l.name; kind = l.kind; size = l.size; big = l.big; word = l.word } ∷ [] in
+    let no_func : is_some s.func ≡ false = f.no_func none in
+    let e = f.early no_func in
+    let spaces : List Space = (after s (form.Space l)).spaces in
     record {
       version = f.version;
-      spaces = spaces_more s.spaces _ f.spaces (declared_is l kind.0 p.1.1.1.0);
-      early = λ z. record { func = e.func; callees = e.callees; fixed = e.fixed; done = e.done; last = e.last };
-      complete = λ some. absurd (omega (arith, none, some));
-      stack = if_none (IsRegister spaces) s.stack no_stack;
-      protos = subst (AllByRecursion (IsProto spaces s.stack)) (sym (nil_is s.protos none)) tt;
-      func = if_none (IsFunction spaces (length s.protos)) s.func e.func;
-      callees = subst (AllByRecursion (IsFunction spaces (length s.protos))) (sym e.callees) tt;
-      fixed = subst (AllByRecursion (IsFixed spaces)) (sym e.fixed) tt;
-      code = f.code;
-      first = f.first;
-      ops = f.ops;
-      total = f.total;
-      few = f.few;
-      closed = f.closed;
-      declared = space_declared s.spaces s.protos s.func s.callees _ kind.1 (le_false _ _ p.1.1.0) f.declared;
-      known = no_code (HasKnownOps spaces) s.done s.last e.done e.last;
+      spaces = keep_space (is_two s.version) s.spaces l f.spaces is.0 is.1.0 is.1.1 (left_false _ _ p.1.0) (others space_name l.name s.spaces (right_false _ _ p.1.0)) (le_false _ _ p.1.1.0) p.1.1.1.0 p.1.1.1.1.0;
+      stack = if_none (IsStackPointer spaces) s.stack (right_false _ _ (left_false _ _ p.0));
+      protos = no_protos spaces s.stack s.protos none;
+      functions = no_functions (is_two s.version) spaces (length s.protos) s.func s.callees no_func e.callees;
+      fixed = no_fixed spaces s.fixed e.fixed;
+      code = record {
+        apart = f.code.apart;
+        first = f.code.first;
+        formed = f.code.formed;
+        known = no_code (HasKnownOps spaces) s.done s.last e.done e.last;
+        total = f.code.total;
+        few = f.code.few;
+        closed = f.code.closed;
+      };
+      no_func = f.no_func;
+      early = λ z. record { callees = e.callees; fixed = e.fixed; done = e.done; last = e.last };
     }
 
-stack_kept : (s : Said) (w : Written) → IsFormed s → first_fault (faults s (form.Stack w)) ≡ None → IsFormed (after s (form.Stack w))
+stack_kept : (s : PartialListing) (w : Written) → IsFormed s → first_fault (faults s (form.Stack w)) ≡ None → IsFormed (after s (form.Stack w))
 stack_kept s w f h =
     let p : AllFalse (faults s (form.Stack w)) = all_false (faults s (form.Stack w)) h in
     let none : length s.protos ≡ 0 = no_length _ (right_false _ _ p.0) in
-    let e = f.early none in
-    let wide : 1 < w.size = le_false _ _ (left_false _ _ p.1.1.1.0) in
     record {
       version = f.version;
       spaces = f.spaces;
-      early = λ z. record { func = e.func; callees = e.callees; fixed = e.fixed; done = e.done; last = e.last };
-      complete = f.complete;
-      stack = register_is s.spaces w (not-false _ p.1.1.0) (omega arith) p.1.1.1.1.0;
-      protos = subst (AllByRecursion (IsProto s.spaces (Some (varnode w)))) (sym (nil_is s.protos none)) tt;
-      func = f.func;
-      callees = f.callees;
+      stack = stack_is s.spaces w p.1.1.0 p.1.1.1.0 p.1.1.1.1.0;
+      protos = no_protos s.spaces (Some (varnode w)) s.protos none;
+      functions = f.functions;
       fixed = f.fixed;
       code = f.code;
-      first = f.first;
-      ops = f.ops;
-      total = f.total;
-      few = f.few;
-      closed = f.closed;
-      declared = f.declared;
-      known = f.known;
+      no_func = f.no_func;
+      early = λ z. let e = f.early z in record { callees = e.callees; fixed = e.fixed; done = e.done; last = e.last };
     }
 
--- one prototype more
-function_more : (spaces : List Space) (n m : ℕ) → n ≤ m → (g : Function) → IsFunction spaces n g → IsFunction spaces m g
-function_more spaces n m le g h = record { proto = omega (arith, h.proto, le); inside = h.inside }
-
-proto_kept : (s : Said) (l : ProtoLine) → IsFormed s → is_name l.name ≡ true → first_fault (faults s (form.Proto l)) ≡ None → IsFormed (after s (form.Proto l))
+proto_kept : (s : PartialListing) (l : ProtoLine) → IsFormed s → IsForm (known_of s) (form.Proto l) → first_fault (faults s (form.Proto l)) ≡ None → IsFormed (after s (form.Proto l))
 proto_kept s l f named h =
     let p : AllFalse (faults s (form.Proto l)) = all_false (faults s (form.Proto l)) h in
-    let new = proto_is s l p.0 p.1.1.0 p.1.1.1.1.1.0 p.1.1.1.1.1.1.0 p.1.1.1.1.1.1.1.0 in
-    let protos : List Proto = (after s (form.Proto l)).protos in
-    let more : length s.protos ≤ length protos = le_snoc s.protos _ in
+    let no_func : is_some s.func ≡ false = right_false _ _ p.1.0 in
+    let e = f.early no_func in
+    let one = length_snoc s.protos (proto_of l) in
+    let more : length s.protos ≤ length (s.protos ++ proto_of l ∷ []) = omega (arith, one) in
     record {
       version = f.version;
       spaces = f.spaces;
-      early = λ z. absurd (some_length s.protos _ z);
-      complete = λ some. complete_is s.spaces (not-false _ (left_false _ _ p.1.0));
       stack = f.stack;
-      protos = all_snoc (IsProto s.spaces s.stack) s.protos _ f.protos new;
-      func = some_map (IsFunction s.spaces (length s.protos)) (IsFunction s.spaces (length protos)) (function_more s.spaces _ _ more) s.func f.func;
-      callees = all_map (IsFunction s.spaces (length s.protos)) (IsFunction s.spaces (length protos)) (function_more s.spaces _ _ more) s.callees f.callees;
+      protos = keep_proto s l f.spaces.formed f.protos named p.0 (not-false _ (left_false _ _ p.1.0)) p.1.1.0 (others proto_name l.name s.protos p.1.1.1.0) (le_false _ _ p.1.1.1.1.0) p.1.1.1.1.1.0 p.1.1.1.1.1.1.0 p.1.1.1.1.1.1.1.0;
+      functions = functions_more (is_two s.version) s.spaces (length s.protos) _ s.func s.callees more f.functions;
       fixed = f.fixed;
       code = f.code;
-      first = f.first;
-      ops = f.ops;
-      total = f.total;
-      few = f.few;
-      closed = f.closed;
-      declared = proto_declared s.spaces s.protos s.func s.callees _ named (le_false _ _ p.1.1.1.1.0) f.declared;
-      known = f.known;
+      no_func = λ z. absurd (some_length s.protos _ z);
+      early = λ z. record { callees = e.callees; fixed = e.fixed; done = e.done; last = e.last };
     }
-  where
-    le_snoc : (ps : List Proto) (p : Proto) → length ps ≤ length (ps ++ p ∷ [])
-    le_snoc ps p = let one = length_snoc ps p in omega (arith, one)
 
-func_kept : (s : Said) (l : FunctionLine) → IsFormed s → IsFunctionLine (length s.protos) l → first_fault (faults s (form.Func l)) ≡ None → IsFormed (after s (form.Func l))
-func_kept s l f names h =
+-- ---- functions and read-only bytes
+
+func_kept : (s : PartialListing) (l : FunctionLine) → IsFormed s → IsForm (known_of s) (form.Func l) → first_fault (faults s (form.Func l)) ≡ None → IsFormed (after s (form.Func l))
+func_kept s l f is h =
     let p : AllFalse (faults s (form.Func l)) = all_false (faults s (form.Func l)) h in
     let some : 0 < length s.protos = zero_false _ (left_false _ _ p.0) in
     record {
       version = f.version;
       spaces = f.spaces;
-      early = λ z. absurd (omega (arith, z, some));
-      complete = f.complete;
       stack = f.stack;
       protos = f.protos;
-      func = function_is s.spaces (length s.protos) l names.0 (left_false _ _ p.1.0) p.1.1.1.0;
-      callees = f.callees;
+      functions = keep_func (is_two s.version) s l (f.early (right_false _ _ p.0)).callees is.0 is.1 (left_false _ _ p.1.0) p.1.1.1.0;
       fixed = f.fixed;
       code = f.code;
-      first = f.first;
-      ops = f.ops;
-      total = f.total;
-      few = f.few;
-      closed = f.closed;
-      declared = func_declared s.spaces s.protos s.func s.callees _ names.1 f.declared;
-      known = f.known;
+      no_func = λ z. absurd (omega (arith, z, some));
+      early = λ z. absurd (never z);
     }
 
--- where there is a function, there is a prototype
-pub has_protos : (s : Said) → IsFormed s → is_none s.func ≡ false → length s.protos ≡ 0 → ⊥
-has_protos s f some z = there s.func some (f.early z).func
-  where
-    there : (o : Option Function) → is_none o ≡ false → is_some o ≡ false → ⊥
-    there None e g = never e
-    there (Some x) e g = never g
-
-callee_kept : (s : Said) (l : FunctionLine) → IsFormed s → IsFunctionLine (length s.protos) l → first_fault (faults s (form.Callee l)) ≡ None → IsFormed (after s (form.Callee l))
-callee_kept s l f names h =
+callee_kept : (s : PartialListing) (l : FunctionLine) → IsFormed s → IsForm (known_of s) (form.Callee l) → first_fault (faults s (form.Callee l)) ≡ None → IsFormed (after s (form.Callee l))
+callee_kept s l f is h =
     let p : AllFalse (faults s (form.Callee l)) = all_false (faults s (form.Callee l)) h in
+    let opened : is_none s.func ≡ false = left_false _ _ (left_false _ _ p.0) in
     record {
       version = f.version;
       spaces = f.spaces;
-      early = λ z. absurd (has_protos s f (left_false _ _ (left_false _ _ p.0)) z);
-      complete = f.complete;
       stack = f.stack;
       protos = f.protos;
-      func = f.func;
-      callees = all_snoc (IsFunction s.spaces (length s.protos)) s.callees _ f.callees (function_is s.spaces (length s.protos) l names.0 (left_false _ _ p.1.0) (right_false _ _ p.1.1.1.0));
+      functions = keep_callee (is_two s.version) s l f.functions is.0 is.1 (left_false _ _ p.1.0) p.1.1.0 (le_false _ _ (left_false _ _ p.1.1.1.0)) (right_false _ _ p.1.1.1.0);
       fixed = f.fixed;
       code = f.code;
-      first = f.first;
-      ops = f.ops;
-      total = f.total;
-      few = f.few;
-      closed = f.closed;
-      declared = callee_declared s.spaces s.protos s.func s.callees _ names.1 (le_false _ _ (left_false _ _ p.1.1.1.0)) f.declared;
-      known = f.known;
+      no_func = f.no_func;
+      early = λ z. absurd (not_both s.func opened z);
     }
 
-bytes_kept : (s : Said) (l : BytesLine) → IsFormed s → first_fault (faults s (form.Bytes l)) ≡ None → IsFormed (after s (form.Bytes l))
-bytes_kept s l f h =
+bytes_kept : (s : PartialListing) (l : BytesLine) → IsFormed s → IsForm (known_of s) (form.Bytes l) → first_fault (faults s (form.Bytes l)) ≡ None → IsFormed (after s (form.Bytes l))
+bytes_kept s l f some h =
     let p : AllFalse (faults s (form.Bytes l)) = all_false (faults s (form.Bytes l)) h in
+    let opened : is_none s.func ≡ false = left_false _ _ p.0 in
     record {
       version = f.version;
       spaces = f.spaces;
-      early = λ z. absurd (has_protos s f (left_false _ _ p.0) z);
-      complete = f.complete;
       stack = f.stack;
       protos = f.protos;
-      func = f.func;
-      callees = f.callees;
-      fixed = all_snoc (IsFixed s.spaces) s.fixed _ f.fixed (fixed_by s.spaces l.space l.offset l.bytes p.1.1.1.1.0 (not-false _ p.1.1.1.1.1.0) p.1.1.1.1.1.1.0);
+      functions = f.functions;
+      fixed = keep_fixed s.spaces s.fixed l f.fixed some p.1.0 p.1.1.1.0 p.1.1.1.1.0 (not-false _ p.1.1.1.1.1.0) p.1.1.1.1.1.1.0;
       code = f.code;
-      first = f.first;
-      ops = f.ops;
-      total = f.total;
-      few = f.few;
-      closed = f.closed;
-      declared = f.declared;
-      known = f.known;
+      no_func = f.no_func;
+      early = λ z. absurd (not_both s.func opened z);
     }
 
-at_kept : (s : Said) (l : AtLine) → IsFormed s → first_fault (faults s (form.At l)) ≡ None → IsFormed (after s (form.At l))
+-- ---- the code
+
+at_kept : (s : PartialListing) (l : AtLine) → IsFormed s → first_fault (faults s (form.At l)) ≡ None → IsFormed (after s (form.At l))
 at_kept s l f h =
     let p : AllFalse (faults s (form.At l)) = all_false (faults s (form.At l)) h in
+    let opened : is_none s.func ≡ false = left_false _ _ p.0 in
     let i : Instruction = record { address = l.address; length = l.length; ops = [] } in
     let code : List Instruction = s.done ++ option_to_list s.last in
-    let same : total_ops (code ++ i ∷ []) ≡ s.ops = total_more code i ∙ plus_none (total_ops code) ∙ f.total in
+    let same : total_ops (code ++ i ∷ []) ≡ s.ops = total_more code i ∙ plus_none (total_ops code) ∙ f.code.total in
     record {
       version = f.version;
       spaces = f.spaces;
-      early = λ z. absurd (has_protos s f (left_false _ _ p.0) z);
-      complete = f.complete;
       stack = f.stack;
       protos = f.protos;
-      func = f.func;
-      callees = f.callees;
+      functions = f.functions;
       fixed = f.fixed;
-      code = apart_more s.done s.last i f.code f.first p.1.0 (zero_false _ p.1.1.0);
-      first = λ e. absurd (never e);
-      ops = all_snoc HasOps code i f.ops tt;
-      total = same;
-      few = f.few;
-      closed = λ e. refl;
-      declared = f.declared;
-      known = all_snoc (HasKnownOps s.spaces) code i f.known tt;
+      code = record {
+        apart = apart_more s.done s.last i f.code.apart f.code.first p.1.0 (zero_false _ p.1.1.0);
+        first = λ e. absurd (never e);
+        formed = all_snoc HasOps code i f.code.formed tt;
+        known = all_snoc (HasKnownOps s.spaces) code i f.code.known tt;
+        total = same;
+        few = f.code.few;
+        closed = λ e. refl;
+      };
+      no_func = f.no_func;
+      early = λ z. absurd (not_both s.func opened z);
     }
   where
     plus_none : (n : ℕ) → n + 0 ≡ n
     plus_none n = omega arith
 
-op_by : (s : Said) (l : OpLine) (code : Option Opcode) (last : Option Instruction) → is_none code ≡ false → is_none last ≡ false → of_some is_empty l.out ≡ false → list_any is_empty l.inputs ≡ false
-    → s.ops < 16384 → IfSome l.out (IsWritten (length s.spaces)) × AllByRecursion (IsWritten (length s.spaces)) l.inputs → IsFormed (record s { last = last }) → IsFormed (record s { last = with_op l code last; ops = s.ops + 1 })
-op_by s l None last known opened out inputs few is f = absurd (never known)
-op_by s l (Some code) None known opened out inputs few is f = absurd (never opened)
-op_by s l (Some code) (Some i) known opened out inputs few is f =
+-- one op more of the last instruction
+op_by : (spaces : List Space) (done : List Instruction) (ops : ℕ) (ended : Bool) (l : OpLine) (code : Option Opcode) (last : Option Instruction) → AreSpaces spaces
+    → is_none code ≡ false → is_none last ≡ false → of_some is_empty l.out ≡ false → list_any is_empty l.inputs ≡ false → ops < 16384
+    → IfSome l.out (IsWritten (length spaces)) × AllByRecursion (IsWritten (length spaces)) l.inputs → KeepCode spaces done last ops ended → KeepCode spaces done (with_op l code last) (ops + 1) ended
+op_by spaces done ops ended l None last are known opened out inputs few is f = absurd (never known)
+op_by spaces done ops ended l (Some code) None are known opened out inputs few is f = absurd (never opened)
+op_by spaces done ops ended l (Some code) (Some i) are known opened out inputs few is f =
     let op : Op = record { code = code; out = option_map varnode l.out; inputs = map varnode l.inputs } in
+    record {
+      apart = apart_same done i (record i { ops = i.ops ++ op ∷ [] }) refl refl f.apart;
+      first = λ e. absurd (never e);
+      formed = ops_op IsOp done i op f.formed (record { out = output_is l.out out; inputs = inputs_are l.inputs inputs });
+      known = ops_op (IsKnownOp spaces) done i op f.known (record { out = output_known spaces are l.out is.0; inputs = inputs_known spaces are l.inputs is.1 });
+      total = total_op done i op ∙ ap (λ n. n + 1) f.total;
+      few = omega arith;
+      closed = λ e. refl;
+    }
+
+op_kept : (s : PartialListing) (l : OpLine) → IsFormed s → IsForm (known_of s) (form.Op l) → first_fault (faults s (form.Op l)) ≡ None → IsFormed (after s (form.Op l))
+op_kept s l f is h =
+    let p : AllFalse (faults s (form.Op l)) = all_false (faults s (form.Op l)) h in
+    let opened : is_none s.last ≡ false = left_false _ _ p.0 in
     record {
       version = f.version;
       spaces = f.spaces;
-      early = λ z. absurd (never (f.early z).last);
-      complete = f.complete;
       stack = f.stack;
       protos = f.protos;
-      func = f.func;
-      callees = f.callees;
+      functions = f.functions;
       fixed = f.fixed;
-      code = apart_same s.done i (record i { ops = i.ops ++ op ∷ [] }) refl refl f.code;
-      first = λ e. absurd (never e);
-      ops = ops_op IsOp s.done i op f.ops (record { out = output_is l.out out; inputs = inputs_are l.inputs inputs });
-      total = total_op s.done i op ∙ ap (λ n. n + 1) f.total;
-      few = omega arith;
-      closed = λ e. refl;
-      declared = f.declared;
-      known = ops_op (IsKnownOp s.spaces) s.done i op f.known (record { out = output_known s.spaces f.spaces l.out is.0; inputs = inputs_known s.spaces f.spaces l.inputs is.1 });
+      code = op_by s.spaces s.done s.ops s.ended l l.code s.last f.spaces.formed (left_false _ _ (left_false _ _ p.1.0)) opened (left_false _ _ p.1.1.1.0) (right_false _ _ p.1.1.1.0) (le_false _ _ p.1.1.0) is f.code;
+      no_func = f.no_func;
+      early = λ z. absurd (not_both s.last opened (f.early z).last);
     }
 
-op_kept : (s : Said) (l : OpLine) → IsFormed s → IsForm (length s.spaces, length s.protos) (form.Op l) → first_fault (faults s (form.Op l)) ≡ None → IsFormed (after s (form.Op l))
-op_kept s l f is h =
-    let p : AllFalse (faults s (form.Op l)) = all_false (faults s (form.Op l)) h in
-    op_by s l l.code s.last (left_false _ _ (left_false _ _ p.1.0)) (left_false _ _ p.0) (left_false _ _ p.1.1.1.0) (right_false _ _ p.1.1.1.0) (le_false _ _ p.1.1.0) is f
-
-end_kept : (s : Said) → IsFormed s → first_fault (faults s form.End) ≡ None → IsFormed (after s form.End)
+end_kept : (s : PartialListing) → IsFormed s → first_fault (faults s form.End) ≡ None → IsFormed (after s form.End)
 end_kept s f h =
     let p : AllFalse (faults s form.End) = all_false (faults s form.End) h in
     record {
       version = f.version;
       spaces = f.spaces;
-      early = λ z. let e = f.early z in record { func = e.func; callees = e.callees; fixed = e.fixed; done = e.done; last = e.last };
-      complete = f.complete;
       stack = f.stack;
       protos = f.protos;
-      func = f.func;
-      callees = f.callees;
+      functions = f.functions;
       fixed = f.fixed;
-      code = f.code;
-      first = f.first;
-      ops = f.ops;
-      total = f.total;
-      few = f.few;
-      closed = λ e. some_is s.last (left_false _ _ p.0);
-      declared = f.declared;
-      known = f.known;
+      code = record {
+        apart = f.code.apart;
+        first = f.code.first;
+        formed = f.code.formed;
+        known = f.code.known;
+        total = f.code.total;
+        few = f.code.few;
+        closed = λ e. some_is s.last (left_false _ _ p.0);
+      };
+      no_func = f.no_func;
+      early = λ z. let e = f.early z in record { callees = e.callees; fixed = e.fixed; done = e.done; last = e.last };
     }
   where
     some_is : (o : Option Instruction) → is_none o ≡ false → is_some o ≡ true
     some_is None e = absurd (never e)
     some_is (Some i) e = refl
 
-pub kept : (s : Said) (l : Form) → IsFormed s → IsForm (length s.spaces, length s.protos) l → first_fault (faults s l) ≡ None → IsFormed (after s l)
+-- a line that keeps to the rules, whatever its form
+pub kept : (s : PartialListing) (l : Form) → IsFormed s → IsForm (known_of s) l → first_fault (faults s l) ≡ None → IsFormed (after s l)
 kept s (form.Pcode n) f g h = pcode_kept s n f h
 kept s (form.Space l) f g h = space_kept s l f g h
 kept s (form.Stack w) f g h = stack_kept s w f h
 kept s (form.Proto l) f g h = proto_kept s l f g h
 kept s (form.Func l) f g h = func_kept s l f g h
 kept s (form.Callee l) f g h = callee_kept s l f g h
-kept s (form.Bytes l) f g h = bytes_kept s l f h
+kept s (form.Bytes l) f g h = bytes_kept s l f g h
 kept s (form.At l) f g h = at_kept s l f h
 kept s (form.Op l) f g h = op_kept s l f g h
 kept s form.End f g h = end_kept s f h

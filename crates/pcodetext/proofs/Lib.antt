@@ -6,6 +6,12 @@ pub mod Failing
 pub mod Passing
 pub mod Instructions
 pub mod FormIs
+pub mod Distinct
+pub mod Spaces
+pub mod Ranges
+pub mod Prototypes
+pub mod Functions
+pub mod ReadOnly
 pub mod Formed
 pub mod Keeping
 pub mod Whole

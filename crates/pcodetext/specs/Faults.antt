@@ -1,5 +1,5 @@
 -- The faults of a line, after lines that have said so.
-use Rattle.std.specs.Prelude.{◌==◌, ◌+◌, ◌&&◌, ◌||◌, not, ℕ, Bool, true, false, List, [], ◌∷◌, map, length, codes, Option, Some, None, if◌then◌else◌, nat_le, nat_lt, slice_get}
+use Rattle.std.specs.Prelude.{◌==◌, ◌+◌, ◌&&◌, ◌||◌, not, ℕ, Bool, true, false, List, [], ◌∷◌, map, length, codes, Option, Some, None, if◌then◌else◌, nat_le, nat_lt}
 use Rattle.std.specs.List.{list_any}
 use Rattle.std.specs.Option.{is_none, is_some}
 use Rattle.std.specs.Str.{bytes_eq}
@@ -11,8 +11,9 @@ use Rattle.pcode_model.specs.declared.listing.Function.{Function}
 use Rattle.pcode_model.specs.declared.listing.Fixed.{Fixed}
 use Rattle.pcode_model.specs.declared.listing.Instruction.{Instruction}
 use Rattle.pcode_model.specs.Ranges.{is_kind, leaves, meets}
-use Rattle.pcode_model.specs.Spaces.{number_of, same_kind}
-use Rattle.pcodetext.specs.declared.said.Said.{Said}
+use Rattle.pcode_model.specs.Spaces.{address_bytes, number_of, same_kind}
+use Rattle.pcode_model.specs.WellFormed.{how_many}
+use Rattle.pcodetext.specs.declared.partial_listing.PartialListing.{PartialListing}
 use Rattle.pcodetext.specs.declared.fault.Why.{Why}
 use Rattle.pcodetext.specs.declared.fault.Why.TheVariants as why
 use Rattle.pcodetext.specs.declared.form.Form.{Form}
@@ -22,7 +23,7 @@ use Rattle.pcodetext.specs.declared.form.Named.{Named}
 use Rattle.pcodetext.specs.declared.form.Named.TheVariants as named
 use Rattle.pcodetext.specs.declared.form.ProtoLine.{ProtoLine}
 use Rattle.pcodetext.specs.declared.form.Written.{Written}
-use Rattle.pcodetext.specs.Tables.{how_many, overlaps, place_in, proto_name, space_name, stands_after}
+use Rattle.pcodetext.specs.Tables.{overlaps, place_in, proto_name, space_name, stands_after}
 
 -- a test of what may be missing
 abbrev pub of_some : {A : Type 0} → (A → Bool) → Option A → Bool
@@ -95,7 +96,7 @@ is_stack named.Unknown = false
 abbrev pub is_far : Written → Bool
 is_far w = is_stack w.space && nat_lt 0xffff w.offset
 
-abbrev pub is_bad_argument : Said → Written → Bool
+abbrev pub is_bad_argument : PartialListing → Written → Bool
 is_bad_argument s w = (has_bad_size w || leaves_space s.spaces w) || (is_stack w.space && is_none s.stack)
 
 abbrev pub meets_stack : Option Varnode → Written → Bool
@@ -106,11 +107,11 @@ abbrev pub meets_result : Option Written → Written → Bool
 meets_result None w = false
 meets_result (Some gives) w = meets w.offset w.size gives.offset gives.size
 
-abbrev pub is_bad_result : Said → Written → Bool
+abbrev pub is_bad_result : PartialListing → Written → Bool
 is_bad_result s w = (has_bad_size w || leaves_space s.spaces w) || meets_stack s.stack w
 
 -- a kept range is no storage, and may be wider than 16 bytes
-abbrev pub is_bad_kept : Said → Option Written → Written → Bool
+abbrev pub is_bad_kept : PartialListing → Option Written → Written → Bool
 is_bad_kept s gives w = (is_empty w || leaves_space s.spaces w) || (meets_stack s.stack w || meets_result gives w)
 
 -- ---- parts of the conditions
@@ -122,19 +123,11 @@ is_complete spaces = (how_many Register spaces == 1 && how_many Unique spaces ==
 abbrev pub is_outside : ℕ → ℕ → ℕ → Bool
 is_outside low high n = nat_lt n low || nat_lt high n
 
-abbrev pub width_in : Option Space → ℕ
-width_in None = 0
-width_in (Some space) = space.size
-
--- the bytes of an offset in the first ram space
-abbrev pub address_size : List Space → ℕ
-address_size spaces = width_in (slice_get spaces (number_of Ram spaces))
-
 -- the name or the address of a function
 abbrev pub is_taken_by : List Space → FunctionLine → Function → Bool
 is_taken_by spaces l f = bytes_eq f.name l.name || (is_first_ram spaces l.space && f.address == l.address)
 
-abbrev pub is_taken : Said → FunctionLine → Bool
+abbrev pub is_taken : PartialListing → FunctionLine → Bool
 is_taken s l = of_some (is_taken_by s.spaces l) s.func || list_any (is_taken_by s.spaces l) s.callees
 
 abbrev pub is_misplaced : List Space → FunctionLine → Bool
@@ -160,18 +153,18 @@ is_foreign spaces l = (list_any (of_other spaces) l.args || of_some (of_other sp
 abbrev pub is_unknown_proto : ProtoLine → Bool
 is_unknown_proto l = (list_any of_no_argument l.args || of_some of_unknown l.gives) || list_any of_unknown l.keep
 
-abbrev pub is_bad_proto : Said → ProtoLine → Bool
+abbrev pub is_bad_proto : PartialListing → ProtoLine → Bool
 is_bad_proto s l = ((nat_lt 16 (length l.args) || nat_lt 64 (length l.keep)) || list_any (is_bad_argument s) l.args)
     || (of_some (is_bad_result s) l.gives || list_any (is_bad_kept s l.gives) l.keep)
 
 -- ---- the faults, each with its test, in the order in which they count
 
 -- `pcode N` is the first line
-abbrev pub pcode_faults : Said → ℕ → List (Bool × Why)
+abbrev pub pcode_faults : PartialListing → ℕ → List (Bool × Why)
 pcode_faults s version = (is_none s.version && not (version == 1 || version == 2), why.Version) ∷ (is_some s.version, why.Order) ∷ []
 
 -- the next lines are those of the spaces
-abbrev pub faults : Said → Form → List (Bool × Why)
+abbrev pub faults : PartialListing → Form → List (Bool × Why)
 faults s form.Nothing = (true, why.Syntax) ∷ []
 faults s (form.Pcode version) = pcode_faults s version
 faults s (form.Space l) = ((is_none s.version || is_some s.stack) || not (length s.protos == 0), why.Order)
@@ -182,7 +175,7 @@ faults s (form.Space l) = ((is_none s.version || is_some s.stack) || not (length
 faults s (form.Stack w) = ((not (is_complete s.spaces) || is_some s.stack) || not (length s.protos == 0), why.Order)
     ∷ (is_unknown w.space, why.Unknown)
     ∷ (not (is_of_kind Register s.spaces w.space), why.Range)
-    ∷ (nat_le w.size 1 || not (w.size == address_size s.spaces), why.Range)
+    ∷ (nat_le w.size 1 || not (w.size == address_bytes s.spaces), why.Range)
     ∷ (leaves_space s.spaces w, why.Range) ∷ []
 faults s (form.Proto l) = (is_foreign s.spaces l, why.Syntax)
     ∷ (not (is_complete s.spaces) || is_some s.func, why.Order)

@@ -7,7 +7,7 @@ use Rattle.pcode_model.specs.declared.listing.Space.{Space}
 use Rattle.pcode_model.specs.declared.listing.SpaceKind.{SpaceKind}
 use Rattle.pcode_model.specs.declared.listing.SpaceKind.TheVariants.{Ram, Register, Unique}
 use Rattle.pcode_model.specs.declared.listing.Proto.{Proto}
-use Rattle.pcodetext.specs.declared.said.Said.{Said}
+use Rattle.pcodetext.specs.declared.partial_listing.PartialListing.{PartialListing}
 use Rattle.pcodetext.specs.declared.form.Form.{Form}
 use Rattle.pcodetext.specs.declared.form.Form.TheVariants as form
 use Rattle.pcodetext.specs.declared.form.FunctionLine.{FunctionLine}
@@ -162,7 +162,7 @@ end_form (part ∷ parts) = form.Nothing
 
 -- ---- a line, by its first part
 
-abbrev pub head_form : Said → Line → List Line → Form
+abbrev pub head_form : PartialListing → Line → List Line → Form
 head_form s word parts = if bytes_eq word (codes "pcode") then pcode_form parts
     else (if bytes_eq word (codes "space") then space_form (is_two s.version) parts
     else (if bytes_eq word (codes "stack") then stack_form s.spaces parts
@@ -170,7 +170,7 @@ head_form s word parts = if bytes_eq word (codes "pcode") then pcode_form parts
     else (if bytes_eq word (codes "func") then func_form s.spaces s.protos parts
     else (if bytes_eq word (codes "end") then end_form parts else form.Nothing)))))
 
-abbrev pub form_by : Said → List Line → Form
+abbrev pub form_by : PartialListing → List Line → Form
 form_by s [] = form.Nothing
 form_by s (word ∷ parts) = if length word == 0 then op_form s.spaces parts
     else (if bytes_eq word (codes "at") then at_form parts
@@ -179,5 +179,5 @@ form_by s (word ∷ parts) = if length word == 0 then op_form s.spaces parts
     else head_form s word parts)))
 
 -- the form of a line after lines that have said so
-abbrev pub form_of : Said → Line → Form
+abbrev pub form_of : PartialListing → Line → Form
 form_of s line = form_by s (parts_of 32 line)

@@ -5,4 +5,3 @@ pub mod Forms
 pub mod Faults
 pub mod Meaning
 pub mod Reader
-pub mod Formed

@@ -9,7 +9,7 @@ use Rattle.pcode_model.specs.declared.listing.Function.{Function}
 use Rattle.pcode_model.specs.declared.listing.Instruction.{Instruction}
 use Rattle.pcode_model.specs.declared.listing.Listing.{Listing}
 use Rattle.pcode_model.specs.declared.opcode.Opcode.{Opcode}
-use Rattle.pcodetext.specs.declared.said.Said.{Said}
+use Rattle.pcodetext.specs.declared.partial_listing.PartialListing.{PartialListing}
 use Rattle.pcodetext.specs.declared.fault.TextFault.{TextFault}
 use Rattle.pcodetext.specs.declared.fault.TextFault.TheVariants as text_fault
 use Rattle.pcodetext.specs.declared.fault.Why.{Why}
@@ -21,7 +21,7 @@ use Rattle.pcodetext.specs.declared.form.Named.{Named}
 use Rattle.pcodetext.specs.declared.form.Named.TheVariants as named
 use Rattle.pcodetext.specs.declared.form.OpLine.{OpLine}
 use Rattle.pcodetext.specs.declared.form.Written.{Written}
-use Rattle.pcodetext.specs.Tables.{constant}
+use Rattle.pcode_model.specs.WellFormed.{constant_space}
 use Rattle.pcodetext.specs.Faults.{faults, first_fault}
 use Rattle.pcodetext.specs.Forms.{form_of}
 
@@ -60,7 +60,7 @@ with_op l None last = last
 with_op l (Some code) None = None
 with_op l (Some code) (Some i) = Some (record i { ops = i.ops ++ record { code = code; out = option_map varnode l.out; inputs = map varnode l.inputs } ∷ [] })
 
-abbrev pub after : Said → Form → Said
+abbrev pub after : PartialListing → Form → PartialListing
 after s form.Nothing = s
 after s (form.Pcode version) = record s { version = Some version }
 after s (form.Space l) = record s { spaces = s.spaces ++ record { name = l.name; kind = l.kind; size = l.size; big = l.big; word = l.word } ∷ [] }
@@ -74,29 +74,29 @@ after s (form.Op l) = record s { last = with_op l l.code s.last; ops = s.ops + 1
 after s form.End = record s { ended = true }
 
 -- before the first line
-abbrev pub start : Said
-start = record { version = None; spaces = constant ∷ []; stack = None; protos = []; func = None; callees = []; fixed = []; done = []; last = None; ops = 0; ended = false }
+abbrev pub start : PartialListing
+start = record { version = None; spaces = constant_space ∷ []; stack = None; protos = []; func = None; callees = []; fixed = []; done = []; last = None; ops = 0; ended = false }
 
 -- ---- a text, line by line
 
 -- a line has a fault, or leads on
 pub data Step : Type 0 where
   Fails : Why → Step
-  Goes : Said → Step
+  Goes : PartialListing → Step
 
 -- an empty line, and one that begins with `#`, which is 35
 abbrev pub is_skipped : Line → Bool
 is_skipped [] = true
 is_skipped (b ∷ line) = b == 35
 
-abbrev pub stepped : Said → Form → Option Why → Step
+abbrev pub stepped : PartialListing → Form → Option Why → Step
 stepped s form (Some why) = Fails why
 stepped s form None = Goes (after s form)
 
-abbrev pub step_by : Said → Form → Step
+abbrev pub step_by : PartialListing → Form → Step
 step_by s form = stepped s form (first_fault (faults s form))
 
-abbrev pub step : Said → Line → Step
+abbrev pub step : PartialListing → Line → Step
 step s line = if is_skipped line then Goes s else step_by s (form_of s line)
 
 -- the fault of the line with the number n
@@ -115,7 +115,7 @@ pub data Read : Type 0 where
 
 -- the number of the next line and what was said, or the first fault
 pub data Progress : Type 0 where
-  Going : ℕ → Said → Progress
+  Going : ℕ → PartialListing → Progress
   Stopped : TextFault → Progress
 
 abbrev pub moved : ℕ → Step → Progress
@@ -130,17 +130,17 @@ abbrev pub advanced : Progress → List Line → Progress
 advanced p [] = p
 advanced p (line ∷ lines) = advanced (advance p line) lines
 
-abbrev pub listing_of : Said → ℕ → Function → Listing
+abbrev pub listing_of : PartialListing → ℕ → Function → Listing
 listing_of s version func = record { version = version; spaces = s.spaces; stack = s.stack; protos = s.protos; func = func; callees = s.callees; fixed = s.fixed; code = s.done ++ option_to_list s.last }
 
 -- where a text has its `end`, it has a version and a function
-abbrev pub whole : Said → ℕ → Option ℕ → Option Function → Read
+abbrev pub whole : PartialListing → ℕ → Option ℕ → Option Function → Read
 whole s n None func = Bad (text_fault.Syntax n)
 whole s n (Some version) None = Bad (text_fault.Syntax n)
 whole s n (Some version) (Some func) = Good (listing_of s version func)
 
 -- where the input ends, n being one more than the number of its lines
-abbrev pub finished : ℕ → Said → Read
+abbrev pub finished : ℕ → PartialListing → Read
 finished n s = if s.ended then whole s n s.version s.func else Bad (text_fault.Syntax n)
 
 abbrev pub concluded : Progress → Read

@@ -1,20 +1,14 @@
 -- What is declared, by its number and by its name.
-use Rattle.std.specs.Prelude.{◌==◌, ◌≡◌, ◌<◌, max, slice_index, ◌+◌, ◌&&◌, suc, ℕ, Bool, false, List, [], ◌∷◌, length, codes, if◌then◌else◌, nat_le}
+use Rattle.std.specs.Prelude.{◌==◌, ◌≡◌, ◌<◌, max, slice_index, ◌+◌, ◌&&◌, suc, ℕ, Bool, List, [], ◌∷◌, length, if◌then◌else◌, nat_le}
 use Rattle.std.specs.List.{list_any}
 use Rattle.std.specs.Str.{bytes_eq}
 use Rattle.listing_lines.specs.Text.{Line}
 use Rattle.pcode_model.specs.declared.listing.Space.{Space}
-use Rattle.pcode_model.specs.declared.listing.SpaceKind.TheVariants as kind
 use Rattle.pcode_model.specs.declared.listing.Proto.{Proto}
 use Rattle.pcode_model.specs.declared.listing.Function.{Function}
 use Rattle.pcode_model.specs.declared.listing.Fixed.{Fixed}
 use Rattle.pcode_model.specs.Ranges.{meets}
 pub use Rattle.names.specs.Names.{place_from, place_in}
-pub use Rattle.pcode_model.specs.WellFormed.{how_many}
-
--- space 0
-abbrev pub constant : Space
-constant = record { name = codes "const"; kind = kind.Constant; size = 8; big = false; word = 1 }
 
 abbrev pub space_name : Space → Line
 space_name s = s.name

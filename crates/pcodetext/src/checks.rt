@@ -5,7 +5,7 @@ ghost use Rattle.std.specs.List.{list_any};
 ghost use Rattle.pcodetext.specs.Faults.{has_bad_size, is_bad_argument, is_bad_kept, is_bad_proto, is_bad_result, is_empty, is_far, is_first_ram, is_foreign, is_no_argument, is_of_kind, is_other, is_stack, is_unknown, is_unknown_proto, leaves_known, leaves_space, meets_result, meets_stack, of_no_argument, of_other, of_some, of_unknown};
 
 use crate::form::{Named, ProtoLine, Written};
-use crate::said::Said;
+use crate::partial_listing::PartialListing;
 use crate::tables::SpaceTable;
 use pcode_model::ranges::{is_kind, leaves, meets, number_of};
 use pcode_model::{SpaceKind, Varnode};
@@ -99,7 +99,7 @@ impl Written {
         self.space.leaves(spaces, self.offset, self.size)
     }
 
-    fn is_bad_argument(self, said: &Said) -> bool
+    fn is_bad_argument(self, said: &PartialListing) -> bool
         ensures { result ≡ is_bad_argument said.now self }
     {
         self.has_bad_size()
@@ -125,7 +125,7 @@ impl Written {
         }
     }
 
-    fn is_bad_kept(self, said: &Said, gives: Option<Written>) -> bool
+    fn is_bad_kept(self, said: &PartialListing, gives: Option<Written>) -> bool
         ensures { result ≡ is_bad_kept said.now gives self }
     {
         self.size == 0
@@ -135,7 +135,7 @@ impl Written {
     }
 }
 
-fn is_bad_result(said: &Said, gives: Option<Written>) -> bool
+fn is_bad_result(said: &PartialListing, gives: Option<Written>) -> bool
     ensures { result ≡ of_some (is_bad_result said.now) gives }
 {
     match gives {
@@ -235,7 +235,7 @@ pub fn any_far(ranges: &[Written]) -> bool
     false
 }
 
-fn any_bad_argument(said: &Said, ranges: &[Written]) -> bool
+fn any_bad_argument(said: &PartialListing, ranges: &[Written]) -> bool
     ensures { result ≡ list_any (is_bad_argument said.now) ranges.now }
 {
     for range in ranges {
@@ -246,7 +246,7 @@ fn any_bad_argument(said: &Said, ranges: &[Written]) -> bool
     false
 }
 
-fn any_bad_kept(said: &Said, gives: Option<Written>, ranges: &[Written]) -> bool
+fn any_bad_kept(said: &PartialListing, gives: Option<Written>, ranges: &[Written]) -> bool
     ensures { result ≡ list_any (is_bad_kept said.now gives) ranges.now }
 {
     for range in ranges {
@@ -276,7 +276,7 @@ pub fn is_unknown_proto(line: &ProtoLine) -> bool
 }
 
 /// Whether a limit on a prototype's ranges is passed.
-pub fn is_bad_proto(said: &Said, line: &ProtoLine) -> bool
+pub fn is_bad_proto(said: &PartialListing, line: &ProtoLine) -> bool
     ensures { result ≡ is_bad_proto said.now line.now }
 {
     line.args.len() > 16

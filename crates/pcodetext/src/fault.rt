@@ -37,7 +37,7 @@ pub enum TextFault {
 /// What is wrong with a line, or want of memory.
 #[derive(Clone, Copy, Debug, PartialEq, Eq)]
 pub enum LineFault {
-    Wrong(Why),
+    Fault(Why),
     Memory,
 }
 

@@ -9,8 +9,8 @@ pub mod fixed;
 pub mod form;
 pub mod forms;
 pub mod opcodes;
+pub mod partial_listing;
 pub mod reader;
-pub mod said;
 pub mod steps;
 pub mod tables;
 pub mod written;
@@ -20,5 +20,5 @@ pub use form::{
     AtLine, BytesLine, Form, FunctionLine, Named, OpLine, ProtoLine, SpaceLine, Written,
 };
 pub use listing_print::print_listing;
+pub use partial_listing::PartialListing;
 pub use reader::read_listing;
-pub use said::Said;

@@ -1,15 +1,15 @@
 //! Reading a text, line by line.
 
 ghost use Rattle.std.specs.Prelude.{◌≡◌, ◌≤◌, ◌-◌, ◌^◌, length, IfErr, IfOk};
-ghost use Rattle.pcodetext.specs.Formed.{IsRead};
+ghost use Rattle.pcode_model.specs.WellFormed.{IsWellFormed};
 ghost use Rattle.pcodetext.specs.Meaning.{fault_at, finished, reading};
 ghost use Rattle.pcodetext.specs.Meaning.Read.{Good};
 ghost use Rattle.pcodetext.specs.Reader.{IsFaultOf, placed};
 
 use crate::fault::{LineFault, TextFault, Why};
-use crate::said::Said;
+use crate::partial_listing::PartialListing;
 use listing_lines::split_line;
-use pcode_model::Listing;
+use pcode_model::{Function, Listing};
 use std::alloc::Global;
 
 /// The listing that a text stands for. Otherwise the first fault of its least faulty line, with the number of that
@@ -17,10 +17,10 @@ use std::alloc::Global;
 pub fn read_listing(alloc: Global, bytes: &[u8]) -> Result<Listing, TextFault>
     requires { length bytes.now ≤ 2 ^ 32 - 2 }
     ensures good { IfOk result (λ listing. reading bytes.now ≡ Good listing) }
-    ensures formed { IfOk result IsRead }
+    ensures formed { IfOk result IsWellFormed }
     ensures bad { IfErr result (IsFaultOf (reading bytes.now)) }
 {
-    let mut said = match Said::new(alloc) {
+    let mut said = match PartialListing::new(alloc) {
         Ok(said) => said,
         Err(_) => return Err(TextFault::Memory),
     };
@@ -38,50 +38,59 @@ pub fn read_listing(alloc: Global, bytes: &[u8]) -> Result<Listing, TextFault>
     finish(said, number)
 }
 
-// The listing, where the text has its `end`; `number` is one more than the number of lines.
-fn finish(said: Said, number: u32) -> Result<Listing, TextFault>
+// The listing, where the text has its `end`; `number` is one more than the number of lines. What can fail is done
+// while the lines are whole.
+fn finish(mut said: PartialListing, number: u32) -> Result<Listing, TextFault>
     ensures good { IfOk result (λ listing. finished number said ≡ Good listing) }
     ensures bad { IfErr result (IsFaultOf (finished number said)) }
 {
-    let Said {
-        version,
-        spaces,
-        stack,
-        protos,
-        func,
-        callees,
-        fixed,
-        done,
-        last,
-        ops: _,
-        ended,
-    } = said;
-    if !ended {
+    let Some(version) = said.version else {
+        return Err(TextFault::Syntax(number));
+    };
+    if !said.ended || said.func.is_none() {
         return Err(TextFault::Syntax(number));
     }
-    let Some(version) = version else {
-        return Err(TextFault::Syntax(number));
-    };
-    let Some(func) = func else {
-        return Err(TextFault::Syntax(number));
-    };
-    let mut code = done;
-    if let Some(last) = last {
-        match code.push(last) {
+    if let Some(last) = said.last.take() {
+        match said.done.push(last) {
             Ok(()) => {}
             Err(_) => return Err(TextFault::Memory),
         }
     }
-    Ok(Listing {
-        version,
-        spaces: spaces.into_items(),
-        stack,
-        protos: protos.into_items(),
-        func,
-        callees: callees.into_items(),
-        fixed: fixed.into_items(),
-        code,
-    })
+    match said.func.take() {
+        Some(func) => Ok(said.into_listing(version, func)),
+        None => Err(TextFault::Syntax(number)),
+    }
+}
+
+impl PartialListing {
+    // The listing of a version and a function, where the last instruction stands among those before it.
+    fn into_listing(self, version: u8, func: Function) -> Listing
+        ensures { result ≡ record { version = version; spaces = self.spaces; stack = self.stack; protos = self.protos; func = func; callees = self.callees; fixed = self.fixed; code = self.done } }
+    {
+        let PartialListing {
+            version: _,
+            spaces,
+            stack,
+            protos,
+            func: _,
+            callees,
+            fixed,
+            done,
+            last: _,
+            ops: _,
+            ended: _,
+        } = self;
+        Listing {
+            version,
+            spaces: spaces.into_items(),
+            stack,
+            protos: protos.into_items(),
+            func,
+            callees: callees.into_items(),
+            fixed: fixed.into_items(),
+            code: done,
+        }
+    }
 }
 
 impl Why {
@@ -106,7 +115,7 @@ impl LineFault {
         ensures { result ≡ placed self number }
     {
         match self {
-            LineFault::Wrong(why) => why.at(number),
+            LineFault::Fault(why) => why.at(number),
             LineFault::Memory => TextFault::Memory,
         }
     }

@@ -2,7 +2,8 @@
 
 ghost use Rattle.std.specs.Prelude.{◌≡◌, IfOk};
 ghost use Rattle.std.specs.List.{list_any};
-ghost use Rattle.pcodetext.specs.Faults.{address_size, is_behind, is_complete, is_late, is_misplaced, is_outside, is_taken, is_taken_by, of_some};
+ghost use Rattle.pcode_model.specs.Spaces.{address_bytes};
+ghost use Rattle.pcodetext.specs.Faults.{is_behind, is_complete, is_late, is_misplaced, is_outside, is_taken, is_taken_by, of_some};
 ghost use Rattle.pcodetext.specs.Meaning.{function_of, is_skipped, start, step, step_by};
 ghost use Rattle.pcodetext.specs.Reader.{Does};
 
@@ -18,19 +19,19 @@ use crate::form::{
     AtLine, BytesLine, Form, FunctionLine, Named, OpLine, ProtoLine, SpaceLine, Written,
 };
 use crate::forms::form;
-use crate::said::Said;
+use crate::partial_listing::PartialListing;
 use crate::tables::{ProtoTable, SpaceTable};
 use pcode_model::ranges::number_of;
 use pcode_model::{Function, Instruction, Op, Proto, Space, SpaceKind};
 use sqlite_items::Items;
 use std::alloc::{AllocError, Global};
 
-impl Said {
+impl PartialListing {
     /// What is said before the first line.
-    pub fn new(alloc: Global) -> Result<Said, AllocError>
+    pub fn new(alloc: Global) -> Result<PartialListing, AllocError>
         ensures { IfOk result (λ said. said ≡ start) }
     {
-        Ok(Said {
+        Ok(PartialListing {
             version: None,
             spaces: SpaceTable::new(alloc)?,
             stack: None,
@@ -63,7 +64,7 @@ impl Said {
             Form::Space(line) => self.space(alloc, line),
             Form::Pcode(version) => self.pcode(version),
             Form::End => self.end(),
-            Form::Nothing => Err(LineFault::Wrong(Why::Syntax)),
+            Form::Nothing => Err(LineFault::Fault(Why::Syntax)),
         }
     }
 
@@ -71,10 +72,10 @@ impl Said {
         ensures { Does (step_by self.old (Form.Pcode version)) self.new result }
     {
         if self.version.is_none() && !(version == 1 || version == 2) {
-            return Err(LineFault::Wrong(Why::Version));
+            return Err(LineFault::Fault(Why::Version));
         }
         if self.version.is_some() {
-            return Err(LineFault::Wrong(Why::Order));
+            return Err(LineFault::Fault(Why::Order));
         }
         self.version = Some(version as u8);
         Ok(())
@@ -84,22 +85,22 @@ impl Said {
         ensures { Does (step_by self.old (Form.Space line)) self.new result }
     {
         if self.version.is_none() || self.stack.is_some() || !self.protos.is_empty() {
-            return Err(LineFault::Wrong(Why::Order));
+            return Err(LineFault::Fault(Why::Order));
         }
         let name = line.name.as_slice();
         if name == b"stack".as_slice() || self.spaces.number(name).is_some() {
-            return Err(LineFault::Wrong(Why::Duplicate));
+            return Err(LineFault::Fault(Why::Duplicate));
         }
         if self.spaces.is_full() {
-            return Err(LineFault::Wrong(Why::Range));
+            return Err(LineFault::Fault(Why::Range));
         }
         if is_outside(1, 8, line.size) || is_outside(1, 8, line.word) {
-            return Err(LineFault::Wrong(Why::Range));
+            return Err(LineFault::Fault(Why::Range));
         }
         if line.word != 1
             && (!SpaceKind::Ram.same(line.kind) || self.spaces.how_many(SpaceKind::Ram) == 0)
         {
-            return Err(LineFault::Wrong(Why::Range));
+            return Err(LineFault::Fault(Why::Range));
         }
         let SpaceLine {
             name,
@@ -123,19 +124,19 @@ impl Said {
         ensures { Does (step_by self.old (Form.Stack range)) self.new result }
     {
         if !is_complete(&self.spaces) || self.stack.is_some() || !self.protos.is_empty() {
-            return Err(LineFault::Wrong(Why::Order));
+            return Err(LineFault::Fault(Why::Order));
         }
         if range.space.is_unknown() {
-            return Err(LineFault::Wrong(Why::Unknown));
+            return Err(LineFault::Fault(Why::Unknown));
         }
         if !range.space.is_of_kind(SpaceKind::Register, &self.spaces) {
-            return Err(LineFault::Wrong(Why::Range));
+            return Err(LineFault::Fault(Why::Range));
         }
-        if range.size <= 1 || range.size != address_size(&self.spaces) {
-            return Err(LineFault::Wrong(Why::Range));
+        if range.size <= 1 || range.size != address_bytes(&self.spaces) {
+            return Err(LineFault::Fault(Why::Range));
         }
         if range.leaves_space(&self.spaces) {
-            return Err(LineFault::Wrong(Why::Range));
+            return Err(LineFault::Fault(Why::Range));
         }
         self.stack = Some(range.varnode());
         Ok(())
@@ -145,28 +146,28 @@ impl Said {
         ensures { Does (step_by self.old (Form.Proto line)) self.new result }
     {
         if is_foreign_proto(&self.spaces, &line) {
-            return Err(LineFault::Wrong(Why::Syntax));
+            return Err(LineFault::Fault(Why::Syntax));
         }
         if !is_complete(&self.spaces) || self.func.is_some() {
-            return Err(LineFault::Wrong(Why::Order));
+            return Err(LineFault::Fault(Why::Order));
         }
         if is_unknown_proto(&line) {
-            return Err(LineFault::Wrong(Why::Unknown));
+            return Err(LineFault::Fault(Why::Unknown));
         }
         if self.protos.number(line.name.as_slice()).is_some() {
-            return Err(LineFault::Wrong(Why::Duplicate));
+            return Err(LineFault::Fault(Why::Duplicate));
         }
         if self.protos.is_full() {
-            return Err(LineFault::Wrong(Why::Range));
+            return Err(LineFault::Fault(Why::Range));
         }
         if line.pop > 0xffff {
-            return Err(LineFault::Wrong(Why::Range));
+            return Err(LineFault::Fault(Why::Range));
         }
         if any_far(line.args.as_slice()) {
-            return Err(LineFault::Wrong(Why::Range));
+            return Err(LineFault::Fault(Why::Range));
         }
         if is_bad_proto(self, &line) {
-            return Err(LineFault::Wrong(Why::Range));
+            return Err(LineFault::Fault(Why::Range));
         }
         let ProtoLine {
             name,
@@ -211,16 +212,16 @@ impl Said {
         ensures { Does (step_by self.old (Form.Func line)) self.new result }
     {
         if self.protos.is_empty() || self.func.is_some() {
-            return Err(LineFault::Wrong(Why::Order));
+            return Err(LineFault::Fault(Why::Order));
         }
         if line.proto.is_none() || line.space.is_unknown() {
-            return Err(LineFault::Wrong(Why::Unknown));
+            return Err(LineFault::Fault(Why::Unknown));
         }
         if self.is_taken(&line) {
-            return Err(LineFault::Wrong(Why::Duplicate));
+            return Err(LineFault::Fault(Why::Duplicate));
         }
         if is_misplaced(&self.spaces, &line) {
-            return Err(LineFault::Wrong(Why::Range));
+            return Err(LineFault::Fault(Why::Range));
         }
         self.func = Some(function(line));
         Ok(())
@@ -230,16 +231,16 @@ impl Said {
         ensures { Does (step_by self.old (Form.Callee line)) self.new result }
     {
         if self.func.is_none() || !self.fixed.is_empty() || self.last.is_some() {
-            return Err(LineFault::Wrong(Why::Order));
+            return Err(LineFault::Fault(Why::Order));
         }
         if line.proto.is_none() || line.space.is_unknown() {
-            return Err(LineFault::Wrong(Why::Unknown));
+            return Err(LineFault::Fault(Why::Unknown));
         }
         if self.is_taken(&line) {
-            return Err(LineFault::Wrong(Why::Duplicate));
+            return Err(LineFault::Fault(Why::Duplicate));
         }
         if self.callees.len() >= 1024 || is_misplaced(&self.spaces, &line) {
-            return Err(LineFault::Wrong(Why::Range));
+            return Err(LineFault::Fault(Why::Range));
         }
         self.callees.push(alloc, function(line))?;
         Ok(())
@@ -249,28 +250,28 @@ impl Said {
         ensures { Does (step_by self.old (Form.Bytes line)) self.new result }
     {
         if self.func.is_none() || self.last.is_some() {
-            return Err(LineFault::Wrong(Why::Order));
+            return Err(LineFault::Fault(Why::Order));
         }
         if is_late(&self.fixed, line.space, line.offset) {
-            return Err(LineFault::Wrong(Why::Order));
+            return Err(LineFault::Fault(Why::Order));
         }
         let Named::Space(space) = line.space else {
-            return Err(LineFault::Wrong(Why::Unknown));
+            return Err(LineFault::Fault(Why::Unknown));
         };
         if self.fixed.overlaps(space, line.offset, line.bytes.len()) {
-            return Err(LineFault::Wrong(Why::Duplicate));
+            return Err(LineFault::Fault(Why::Duplicate));
         }
         if line.bytes.len() > 4096 {
-            return Err(LineFault::Wrong(Why::Range));
+            return Err(LineFault::Fault(Why::Range));
         }
         if !line.space.is_of_kind(SpaceKind::Ram, &self.spaces) {
-            return Err(LineFault::Wrong(Why::Range));
+            return Err(LineFault::Fault(Why::Range));
         }
         if line
             .space
             .leaves(&self.spaces, line.offset, line.bytes.len() as u32)
         {
-            return Err(LineFault::Wrong(Why::Range));
+            return Err(LineFault::Fault(Why::Range));
         }
         let BytesLine {
             space: _,
@@ -285,13 +286,13 @@ impl Said {
         ensures { Does (step_by self.old (Form.At line)) self.new result }
     {
         if self.func.is_none() || self.ended {
-            return Err(LineFault::Wrong(Why::Order));
+            return Err(LineFault::Fault(Why::Order));
         }
         if is_behind(line.address, &self.last) {
-            return Err(LineFault::Wrong(Why::Order));
+            return Err(LineFault::Fault(Why::Order));
         }
         if line.length == 0 {
-            return Err(LineFault::Wrong(Why::Range));
+            return Err(LineFault::Fault(Why::Range));
         }
         let ops = Items::new(alloc);
         if let Some(last) = self.last.take() {
@@ -314,19 +315,19 @@ impl Said {
             inputs: ranges,
         } = line;
         if self.last.is_none() || self.ended {
-            return Err(LineFault::Wrong(Why::Order));
+            return Err(LineFault::Fault(Why::Order));
         }
         let Some(code) = code else {
-            return Err(LineFault::Wrong(Why::Unknown));
+            return Err(LineFault::Fault(Why::Unknown));
         };
         if is_unknown(out) || any_unknown(ranges.as_slice()) {
-            return Err(LineFault::Wrong(Why::Unknown));
+            return Err(LineFault::Fault(Why::Unknown));
         }
         if self.ops >= 16384 {
-            return Err(LineFault::Wrong(Why::Range));
+            return Err(LineFault::Fault(Why::Range));
         }
         if is_empty(out) || any_empty(ranges.as_slice()) {
-            return Err(LineFault::Wrong(Why::Range));
+            return Err(LineFault::Fault(Why::Range));
         }
         let inputs = inputs(alloc, ranges.as_slice())?;
         if let Some(last) = &mut self.last {
@@ -344,7 +345,7 @@ impl Said {
         ensures { Does (step_by self.old Form.End) self.new result }
     {
         if self.last.is_none() || self.ended {
-            return Err(LineFault::Wrong(Why::Order));
+            return Err(LineFault::Fault(Why::Order));
         }
         self.ended = true;
         Ok(())
@@ -375,8 +376,8 @@ fn is_complete(spaces: &SpaceTable) -> bool
 }
 
 // The bytes of an offset in the first ram space.
-fn address_size(spaces: &SpaceTable) -> u32
-    ensures { result ≡ address_size spaces.now }
+fn address_bytes(spaces: &SpaceTable) -> u32
+    ensures { result ≡ address_bytes spaces.now }
 {
     let spaces = spaces.as_slice();
     match spaces.get(number_of(SpaceKind::Ram, spaces)) {

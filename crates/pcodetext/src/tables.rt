@@ -1,7 +1,8 @@
 //! Tables of what is declared: spaces, prototypes and read-only bytes.
 
 ghost use Rattle.std.specs.Prelude.{◌≡◌, ◌∷◌, ◌++◌, [], None, false, nat_le, ◌==◌, length, IfOk, OnOk, map};
-ghost use Rattle.pcodetext.specs.Tables.{constant, how_many, place_in, space_name, proto_name};
+ghost use Rattle.pcode_model.specs.WellFormed.{constant_space, how_many};
+ghost use Rattle.pcodetext.specs.Tables.{place_in, space_name, proto_name};
 
 use names::NameTable;
 use pcode_model::{Proto, Protos, Space, SpaceKind, Spaces};
@@ -31,7 +32,7 @@ impl Model for SpaceTable {
 impl SpaceTable {
     /// The constant space alone.
     pub fn new(alloc: Global) -> Result<SpaceTable, AllocError>
-        ensures { IfOk result (λ t. t ≡ constant ∷ []) }
+        ensures { IfOk result (λ t. t ≡ constant_space ∷ []) }
     {
         let mut spaces = Items::new(alloc);
         spaces.push(Space {

@@ -28,7 +28,8 @@ abbrev pub space_text : Listing → ℕ → List ℕ
 space_text l n = name_in (slice_get l.spaces n)
 
 abbrev pub store_text : Listing → ℕ → ℕ → List ℕ → List ℕ
-store_text l space offset bytes = codes "store " ++ (space_text l space ++ (codes ":0x" ++ (hex offset ++ (codes " " ++ pairs_text bytes))))
+store_text l space offset bytes = codes "store "
+    ++ (space_text l space ++ (codes ":0x" ++ (hex offset ++ (codes " " ++ pairs_text bytes))))
 
 abbrev pub event_text : Listing → Event → List ℕ
 event_text l (Call target args) = codes "call" ++ (number_text target ++ words_text args)

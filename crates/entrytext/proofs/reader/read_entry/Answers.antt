@@ -15,6 +15,7 @@ pub returns-clause-bad : goal.returns-clause-bad
 returns-clause-bad c =
     let step_of = step c.args.listing.now in
     let bytes = c.args.bytes.now in
-    let P : PartialEntry → Type 0 = λ b. IsFaultOf (concluded fault_at finished (progress step_of b bytes)) c.stop_fault.result in
+    let P : PartialEntry → Type 0 =
+    λ b. IsFaultOf (concluded fault_at finished (progress step_of b bytes)) c.stop_fault.result in
     subst P c.new-entry.ensures
     (c.stop_fault.ensures (progress step_of c.new-entry.result bytes) c.in-Err-read_lines.ensures.stopped)

@@ -1,5 +1,5 @@
 use Rattle.std.proofs.Common.{◌≡◌, ◌+◌, ◌≤◌, drop}
-use Rattle.pcodetext.specs.Tables.{how_many}
+use Rattle.pcode_model.specs.WellFormed.{how_many}
 use Rattle.pcodetext.proofs.tables.SpaceTable.how_many.Given as goal
 
 abbrev pub invariant-loop-space : goal.invariant-loop-space

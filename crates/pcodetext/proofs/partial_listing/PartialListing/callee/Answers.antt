@@ -6,7 +6,7 @@ use Rattle.pcodetext.specs.Faults.{is_first_ram, is_taken_by, leaves_known}
 use Rattle.pcodetext.specs.Tables.{has_address, has_name}
 use Rattle.pcodetext.proofs.Passing.{left_false, right_false}
 use Rattle.pcodetext.proofs.Taken.{free_address, free_name}
-use Rattle.pcodetext.proofs.said.Said.callee.Goals as goal
+use Rattle.pcodetext.proofs.partial_listing.PartialListing.callee.Goals as goal
 
 pub push-requires-clause-other_name : goal.push-requires-clause-other_name
 push-requires-clause-other_name c =

@@ -7,7 +7,7 @@ use pcode_model::{Function, Instruction, Instructions, Varnode};
 
 /// What the lines so far have said. A field is empty, None or false where no such line has come yet.
 #[derive(Drop)]
-pub struct Said {
+pub struct PartialListing {
     /// 1 or 2.
     pub version: Option<u8>,
     /// The constant space, and then the declared ones.

@@ -5,7 +5,7 @@ use Rattle.listing_lines.specs.Text.{Line}
 use Rattle.pcodetext.specs.Faults.{is_first_ram}
 use Rattle.pcodetext.specs.Tables.{has_address, has_name}
 use Rattle.pcodetext.proofs.Taken.{taken_is}
-use Rattle.pcodetext.proofs.said.Said.is_callee.Goals as goal
+use Rattle.pcodetext.proofs.partial_listing.PartialListing.is_callee.Goals as goal
 
 pub returns-then-has_name : goal.returns-then-has_name
 returns-then-has_name c =
