@@ -10,7 +10,6 @@ use Rattle.listing_lines.specs.Tokens.{hexadecimal_of, is_name}
 use Rattle.listing_print.specs.Printed.{hexadecimal, op_line, proto_line, range_part, result_part, spaced, storage_part}
 use Rattle.operations.specs.Words.{word_of}
 use Rattle.pcode_model.specs.declared.listing.Op.{Op}
-use Rattle.pcode_model.specs.declared.listing.Proto.{Proto}
 use Rattle.pcode_model.specs.declared.listing.Space.{Space}
 use Rattle.pcode_model.specs.declared.opcode.Opcode.{Opcode}
 use Rattle.pcode_model.specs.WellFormed.{AreSpaces}

@@ -1,5 +1,5 @@
 -- Ranges, places and names are read back from their canonical text.
-use Rattle.std.proofs.Common.{◌≡◌, ◌∙◌, ◌<◌, ◌+◌, ◌%◌, ◌^◌, ℕ, zero, suc, Bool, true, false, List, [], ◌∷◌, ◌++◌, map, ap, sym, refl, arith, subst, append_assoc}
+use Rattle.std.proofs.Common.{◌≡◌, ◌∙◌, ◌<◌, ◌+◌, ◌%◌, ◌^◌, ℕ, suc, Bool, true, false, List, [], ◌∷◌, ◌++◌, map, ap, sym, refl, arith, subst, append_assoc}
 use Rattle.std.proofs.Math.Nat.{mod-mod}
 use Rattle.std.specs.Prelude.{◌==◌, codes, decimal, Option, Some, None, IfSome, if◌then◌else◌, slice_get}
 use Rattle.std.specs.Fmt.{digits}
@@ -20,8 +20,6 @@ use Rattle.pcodetext.specs.declared.form.Named.TheVariants as named
 use Rattle.pcodetext.specs.declared.form.Written.{Written}
 use Rattle.pcode_model.specs.declared.listing.SpaceKind.{SpaceKind}
 use Rattle.pcode_model.specs.declared.listing.SpaceKind.TheVariants.{Register}
-use Rattle.pcode_model.specs.Ranges.{is_kind}
-use Rattle.pcode_model.specs.Spaces.{same_kind}
 use Rattle.pcode_model.specs.WellFormed.{AreSpaces}
 use Rattle.pcodetext.specs.Faults.{is_no_argument, is_of_kind, is_other, is_unknown, of_no_argument, of_other, of_unknown}
 use Rattle.pcodetext.specs.Meaning.{number, reduced, storage_of, varnode}
