@@ -14,7 +14,6 @@ use Rattle.pcode_model.specs.declared.opcode.FloatConversion.TheVariants as conv
 use Rattle.pcode_model.specs.declared.opcode.AnalysisOp.TheVariants as analysis
 use Rattle.pcode_model.specs.declared.opcode.LeftOutOp.TheVariants as left_out
 use Rattle.operations.specs.declared.operation.Operation.{Operation}
-use Rattle.operations.specs.declared.operation.Operation.TheVariants as op
 use Rattle.operations.specs.Operations.{IsCodeOf, code_of, float_of, named_by, opcode_of, operations, or_else}
 use Rattle.operations.specs.Words.{word_of}
 
