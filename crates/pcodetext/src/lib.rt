@@ -30,6 +30,5 @@ pub use fault::{LineFault, TextFault, Why};
 pub use form::{
     AtLine, BytesLine, Form, FunctionLine, Named, OpLine, ProtoLine, SpaceLine, Written,
 };
-pub use listing_print::print_listing;
 pub use partial_listing::PartialListing;
 pub use reader::read_listing;
