@@ -21,11 +21,14 @@ use Rattle.pcodetext.specs.declared.form.OpLine.{OpLine}
 use Rattle.pcodetext.specs.declared.form.ProtoLine.{ProtoLine}
 use Rattle.pcodetext.specs.declared.form.SpaceLine.{SpaceLine}
 use Rattle.pcodetext.specs.declared.form.Written.{Written}
-use Rattle.pcodetext.specs.Faults.{faults, first_fault, is_complete}
+use Rattle.line_reader.specs.Faults.{first_fault}
+use Rattle.pcodetext.specs.Faults.{faults, is_complete}
 use Rattle.pcodetext.specs.Meaning.{after, function_of, number, varnode, with_op}
 use Rattle.pcode_model.specs.WellFormed.{constant_space}
 use Rattle.pcodetext.proofs.Formed.{IsFormed}
-use Rattle.pcodetext.proofs.Passing.{AllFalse, all_false, left_false, never, nil_is, none_is, right_false, zero_false}
+use Rattle.line_reader.proofs.Faults.{AllFalse, all_false}
+use Rattle.std.proofs.lemmas.List.{nil_from_length}
+use Rattle.pcodetext.proofs.Passing.{left_false, never, none_is, right_false, zero_false}
 use Rattle.listing_again.proofs.Growth.{at_grows, bytes_grow, callees_grow, early_lines, end_grows, late_lines, no_ops, op_grows, protos_grow, said_lines, space_grows, up_to_bytes, up_to_callees, up_to_protos}
 use Rattle.listing_again.proofs.Lines.{IsReadAs, version_of}
 use Rattle.listing_again.proofs.Ranged.{op_of}
@@ -93,8 +96,8 @@ before_protos s f z front spaces =
     let none = f.no_func z in
     let e = f.early none in
     up_to_protos front spaces s.protos s.func s.callees s.fixed _ s.ended (none_is s.func none) e.callees e.fixed
-    (no_code s f e.last) (not_ended s f e.last)
-    ∙ ap (λ (ps : List Proto). front ++ map (proto_line spaces) ps) (nil_is s.protos z) ∙ append-nil front
+      (no_code s f e.last) (not_ended s f e.last)
+    ∙ ap (λ (ps : List Proto). front ++ map (proto_line spaces) ps) (nil_from_length s.protos z) ∙ append-nil front
 
 -- ---- line by line
 
@@ -257,7 +260,7 @@ pub callee_kept : (s : PartialListing) (l : FunctionLine)
 callee_kept s l f o h =
     let p : AllFalse (faults s (form.Callee l)) = all_false (faults s (form.Callee l)) h in
     let some = left_false _ _ (left_false _ _ p.0) in
-    let fixed = nil_is s.fixed (no_length _ (right_false _ _ (left_false _ _ p.0))) in
+    let fixed = nil_from_length s.fixed (no_length _ (right_false _ _ (left_false _ _ p.0))) in
     let none = right_false _ _ p.0 in
     let front : List Line = early_lines s.version s.spaces s.stack in
     let code : List Instruction = s.done ++ option_to_list s.last in

@@ -19,20 +19,24 @@ use Rattle.pcodetext.specs.declared.form.Form.{Form}
 use Rattle.pcodetext.specs.declared.form.Form.TheVariants as form
 use Rattle.pcodetext.specs.declared.form.OpLine.{OpLine}
 use Rattle.pcodetext.specs.declared.form.Written.{Written}
-use Rattle.pcodetext.specs.Faults.{faults, first_fault, is_empty, of_some, of_unknown}
+use Rattle.line_reader.specs.Faults.{first_fault}
+use Rattle.pcodetext.specs.Faults.{faults, is_empty, of_some, of_unknown}
 use Rattle.pcodetext.specs.Forms.{form_of, is_two}
-use Rattle.pcodetext.specs.Meaning.{Progress, Step, advance, advanced, after, concluded, function_of, is_skipped, listing_of, moved, number, reading, start, step, step_by, stepped, varnode, whole, with_op}
-use Rattle.pcodetext.specs.Meaning.Progress.{Going, Stopped}
-use Rattle.pcodetext.specs.Meaning.Read.{Good, Bad}
-use Rattle.pcodetext.specs.Meaning.Step.{Fails, Goes}
-use Rattle.pcodetext.proofs.Failing.{stays}
+use Rattle.line_reader.specs.Reading.{Progress, advance, advanced, concluded, moved}
+use Rattle.line_reader.specs.Reading.Progress.{Going}
+use Rattle.line_reader.specs.Reading.Read.{Bad, Good}
+use Rattle.line_reader.specs.Reading.Step.{Goes}
+use Rattle.line_reader.proofs.Faults.{fails_not, goes_same}
+use Rattle.line_reader.proofs.Kept.{bad_not, good_same, read_keeps}
+use Rattle.pcodetext.specs.Meaning.{after, fault_at, finished, function_of, is_skipped, listing_of, number, reading, start, step, step_by, stepped, varnode, whole, with_op}
 use Rattle.pcodetext.proofs.FormIs.{form_is}
 use Rattle.pcodetext.proofs.Formed.{IsFormed}
 use Rattle.pcodetext.proofs.Keeping.{kept}
 use Rattle.pcodetext.proofs.Prototypes.{proto_of}
 use Rattle.pcodetext.proofs.Spaces.{space_of}
-use Rattle.pcodetext.proofs.Whole.{start_formed, goes_same, fails_not, bad_not, good_same}
-use Rattle.pcodetext.proofs.Passing.{AllFalse, all_false, left_false, never, right_false}
+use Rattle.pcodetext.proofs.Whole.{start_formed}
+use Rattle.line_reader.proofs.Faults.{AllFalse, all_false}
+use Rattle.pcodetext.proofs.Passing.{left_false, never, right_false}
 use Rattle.listing_again.proofs.Cuts.{IsLine, all_append, lines_are}
 use Rattle.listing_again.proofs.Growth.{said_lines, text_is}
 use Rattle.listing_again.proofs.Lines.{IsReadAs, at_again, bytes_again, callee_again, end_again, func_again, pcode_again, space_again, stack_again, version_of}
@@ -199,12 +203,12 @@ pub record IsReread (s : PartialListing) : Type 0 where
   pub ordered : IsOrdered s
   pub clean : AllByRecursion IsLine (said_lines s)
   pub number : ℕ
-  pub read : advanced (Going 1 start) (said_lines s) ≡ Going number s
+  pub read : advanced step (Going 1 start) (said_lines s) ≡ Going number s
 
-advanced_more : (p : Progress) (lines : List Line) (line : Line)
-    → advanced p (lines ++ line ∷ []) ≡ advance (advanced p lines) line
+advanced_more : (p : Progress PartialListing Why) (lines : List Line) (line : Line)
+    → advanced step p (lines ++ line ∷ []) ≡ advance step (advanced step p lines) line
 advanced_more p [] line = refl
-advanced_more p (l ∷ lines) line = advanced_more (advance p l) lines line
+advanced_more p (l ∷ lines) line = advanced_more (advance step p l) lines line
 
 line_reread : (s t : PartialListing) (line : Line) → IsReread s → IsFormed t → IsSaidAgain s t line → IsReread t
 line_reread s t line h formed g = record {
@@ -215,9 +219,9 @@ line_reread s t line h formed g = record {
       (all_append IsLine (said_lines s) (line ∷ []) h.clean (g.clean, tt));
   number = h.number + 1;
   read =
-      ap (advanced (Going 1 start)) g.kept.lines
+      ap (advanced step (Going 1 start)) g.kept.lines
       ∙ advanced_more (Going 1 start) (said_lines s) line
-      ∙ ap (λ (p : Progress). advance p line) h.read
+      ∙ ap (λ (p : Progress PartialListing Why). advance step p line) h.read
       ∙ ap (moved h.number) g.said;
 }
 
@@ -238,20 +242,6 @@ step_reread s t line h = by_skip (is_skipped line)
     by_skip true e = subst IsReread (goes_same _ _ e) h
     by_skip false e = by_fault (first_fault (faults s f)) refl e
 
-abbrev OfGoing : Progress → Type 0
-OfGoing (Going n s) = IsReread s
-OfGoing (Stopped fault) = Unit {0}
-
-lines_reread : (lines : List Line) (n : ℕ) (s : PartialListing) → IsReread s → OfGoing (advanced (Going n s) lines)
-lines_reread [] n s h = h
-lines_reread (line ∷ lines) n s h = by_step (λ t g. lines_reread lines (n + 1) t g) (step s line) refl
-  where
-    by_step : ((t : PartialListing) → IsReread t → OfGoing (advanced (Going (n + 1) t) lines)) → (st : Step)
-        → step s line ≡ st
-        → OfGoing (advanced (moved n st) lines)
-    by_step on (Goes t) e = on t (step_reread s t line h e)
-    by_step on (Fails w) e = subst OfGoing (sym (stays _ lines)) tt
-
 start_reread : IsReread start
 start_reread = record {
   formed = start_formed;
@@ -271,27 +261,32 @@ text_again : (s : PartialListing) (version : ℕ) (func : Function)
     → reading (text_of (listing_of s version func)) ≡ Good (listing_of s version func)
 text_again s version func e v f h =
     ap reading (text_is s version func e v f)
-    ∙ ap (λ (ls : List Line). concluded (advanced (Going 1 start) ls)) (lines_are (said_lines s) h.clean)
-    ∙ ap concluded h.read
+      ∙ ap (λ (ls : List Line). concluded fault_at finished (advanced step (Going 1 start) ls))
+        (lines_are (said_lines s) h.clean)
+      ∙ ap (concluded fault_at finished) h.read
     ∙ ap (λ (b : Bool). if b then whole s h.number s.version s.func else Bad (Syntax h.number)) e
     ∙ ap (λ (o : Option ℕ). whole s h.number o s.func) v ∙ ap (whole s h.number (Some version)) f
 
-pub read_again : (bytes : List ℕ) (l : Listing) → reading bytes ≡ Good l → reading (text_of l) ≡ Good l
-read_again bytes l =
-    by_progress (advanced (Going 1 start) (lines_of bytes)) (lines_reread (lines_of bytes) 1 start start_reread)
+end_again : (n : ℕ) (s : PartialListing) (l : Listing)
+    → IsReread s
+    → finished n s ≡ Good l
+    → reading (text_of l) ≡ Good l
+end_again n s l h = by_end s.ended s.version s.func refl refl refl
   where
-    by_end : (s : PartialListing) (n : ℕ) (over : Bool) (version : Option ℕ) (func : Option Function)
+    by_end : (over : Bool) (version : Option ℕ) (func : Option Function)
         → s.ended ≡ over
         → s.version ≡ version
         → s.func ≡ func
-        → IsReread s
-        → (if over then whole s n version func else Bad (Syntax n)) ≡ Good l → reading (text_of l) ≡ Good l
-    by_end s n false version func a b c h e = absurd (bad_not _ _ e)
-    by_end s n true None func a b c h e = absurd (bad_not _ _ e)
-    by_end s n true (Some v) None a b c h e = absurd (bad_not _ _ e)
-    by_end s n true (Some v) (Some g) a b c h e =
+        → (if over then whole s n version func else Bad (Syntax n)) ≡ Good l
+        → reading (text_of l) ≡ Good l
+    by_end false version func a b c e = absurd (bad_not _ _ e)
+    by_end true None func a b c e = absurd (bad_not _ _ e)
+    by_end true (Some v) None a b c e = absurd (bad_not _ _ e)
+    by_end true (Some v) (Some g) a b c e =
         subst (λ (m : Listing). reading (text_of m) ≡ Good m) (good_same _ _ e) (text_again s v g a b c h)
 
-    by_progress : (p : Progress) → OfGoing p → concluded p ≡ Good l → reading (text_of l) ≡ Good l
-    by_progress (Going n s) h e = by_end s n s.ended s.version s.func refl refl refl h e
-    by_progress (Stopped fault) h e = absurd (bad_not _ _ e)
+-- the canonical text of a listing that is read says that listing
+pub read_again : (bytes : List ℕ) (l : Listing) → reading bytes ≡ Good l → reading (text_of l) ≡ Good l
+read_again =
+    read_keeps step IsReread step_reread fault_at finished (λ l. reading (text_of l) ≡ Good l)
+    end_again start start_reread

@@ -19,7 +19,8 @@ use Rattle.pcodetext.specs.declared.form.OpLine.{OpLine}
 use Rattle.pcodetext.specs.declared.form.ProtoLine.{ProtoLine}
 use Rattle.pcodetext.specs.declared.form.SpaceLine.{SpaceLine}
 use Rattle.pcodetext.specs.declared.form.Written.{Written}
-use Rattle.pcodetext.specs.Faults.{faults, first_fault, is_empty, of_some}
+use Rattle.line_reader.specs.Faults.{first_fault}
+use Rattle.pcodetext.specs.Faults.{faults, is_empty, of_some}
 use Rattle.pcodetext.specs.Forms.{is_two}
 use Rattle.pcodetext.specs.Meaning.{after, varnode, with_op}
 use Rattle.pcodetext.specs.Tables.{proto_name, space_name}
@@ -28,7 +29,8 @@ use Rattle.pcodetext.proofs.FormIs.{IsForm, IsWritten, known_of}
 use Rattle.pcodetext.proofs.Formed.{IsFormed, KeepCode}
 use Rattle.pcodetext.proofs.Functions.{functions_more, functions_of_version, keep_callee, keep_func, no_functions}
 use Rattle.pcodetext.proofs.Instructions.{apart_more, apart_same, ops_op, total_more, total_op}
-use Rattle.pcodetext.proofs.Passing.{AllFalse, all_false, all_snoc, if_none, le_false, left_false, length_snoc, never, right_false, zero_false}
+use Rattle.line_reader.proofs.Faults.{AllFalse, all_false}
+use Rattle.pcodetext.proofs.Passing.{all_snoc, if_none, le_false, left_false, length_snoc, never, right_false, zero_false}
 use Rattle.pcodetext.proofs.Prototypes.{keep_proto, no_protos, proto_of}
 use Rattle.pcodetext.proofs.Ranges.{inputs_are, inputs_known, output_is, output_known, stack_is}
 use Rattle.pcodetext.proofs.ReadOnly.{keep_fixed, no_fixed}
