@@ -1,9 +1,10 @@
 -- Memory accesses, calls and divisions are read again.
-use Rattle.std.proofs.Common.{◌≡◌, ℕ, ◌*◌, ◌%◌, ◌^◌, ◌<◌, true, false, eqb, leb, ◌&&◌, List, [], ◌∷◌, ◌++◌, length, Option, Some, None, refl, sym, ap, ◌∙◌, subst, arith, append_assoc, length-append, inl, inr}
+use Rattle.std.proofs.Common.{◌≡◌, ℕ, ◌*◌, ◌%◌, ◌^◌, ◌<◌, true, false, eqb, ◌&&◌, List, [], ◌∷◌, ◌++◌, length, Option, Some, None, refl, sym, ap, ◌∙◌, subst, arith, append_assoc, length-append, inl, inr}
+use Rattle.std.specs.List.{list_all}
 use Rattle.std.specs.Prelude.{codes, not}
 use Rattle.std.specs.Fmt.{decimal}
 use Rattle.std.proofs.lemmas.Bool.{ltb-true, eqb-true, cases_Bool, and_parts}
-use Rattle.cmeaning.specs.Valid.{begins_well, all_letters_or_digits, is_long, is_space, is_callee, is_callee_name, result_fits, same_callee_name, are_apart, is_apart_from, are_callees}
+use Rattle.cmeaning.specs.Valid.{is_long, is_space, is_callee, is_callee_name, result_fits, same_callee_name, are_apart, is_apart_from, are_callees}
 use Rattle.cmeaning.specs.Do.{same_name}
 use Rattle.cmeaning.specs.declared.tree.CName.{CName}
 use Rattle.cmeaning.specs.declared.tree.CName.TheVariants.{Declared, Bare}
@@ -13,7 +14,10 @@ use Rattle.cmeaning.specs.declared.tree.StatementDivision.TheVariants as D
 use Rattle.cmeaning.specs.declared.tree.Expr.{Expr}
 use Rattle.cmeaning.specs.declared.tree.Stmt.{Stmt}
 use Rattle.cmeaning.specs.declared.tree.Stmt.TheVariants as s
-use Rattle.ctext.specs.Names.{Scope, hex, separated, further, callee_name, callee_at, name_at as name_of}
+use Rattle.listing_lines.specs.Tokens.{is_name_byte}
+use Rattle.cmeaning.specs.Callees.{declared_in}
+use Rattle.cmeaning.proofs.Names.{name_bytes}
+use Rattle.ctext.specs.Names.{Scope, hex, separated, further, callee_name, name_at as name_of}
 use Rattle.ctext.specs.Expressions.{form, call_of_two}
 use Rattle.ctext.specs.Statements.{loop_head, access_text, plain_texts, division_word}
 use Rattle.cread.specs.declared.item.Right.TheVariants as R
@@ -65,14 +69,14 @@ named_self n = whole_self n
 
 first_is : (c : CalleeDecl) (cs : List CalleeDecl) (address : ℕ) (d : CalleeDecl)
     → eqb c.address address ≡ true
-    → callee_at (c ∷ cs) address ≡ Some d
+    → declared_in (c ∷ cs) address ≡ Some d
     → c ≡ d
 first_is c cs address d is at = let f = rw is at at in let e : Some c ≡ Some d = f in cc
 
 rest_is : (c : CalleeDecl) (cs : List CalleeDecl) (address : ℕ) (d : CalleeDecl)
     → eqb c.address address ≡ false
-    → callee_at (c ∷ cs) address ≡ Some d
-    → callee_at cs address ≡ Some d
+    → declared_in (c ∷ cs) address ≡ Some d
+    → declared_in cs address ≡ Some d
 rest_is c cs address d is at = rw is at at
 
 same_name_self : (n : List ℕ) → same_name n n ≡ true
@@ -96,7 +100,7 @@ other_name c d n apart is =
 -- what is said of an address of one of the callees
 apart_at : (c : CalleeDecl) (cs : List CalleeDecl) (address : ℕ) (d : CalleeDecl)
     → is_apart_from c cs ≡ true
-    → callee_at cs address ≡ Some d
+    → declared_in cs address ≡ Some d
     → are_apart c d ≡ true
 apart_at c [] address d h at = absurd cc
 apart_at c (x ∷ xs) address d h at =
@@ -108,7 +112,7 @@ apart_at c (x ∷ xs) address d h at =
 
 pub callee_found : (cs : List CalleeDecl) (address : ℕ) (d : CalleeDecl) (n : List ℕ)
     → are_callees cs ≡ true
-    → callee_at cs address ≡ Some d
+    → declared_in cs address ≡ Some d
     → d.name ≡ Declared n
     → address_of n cs ≡ Some address
 callee_found [] address d n ok at is = absurd cc
@@ -131,7 +135,7 @@ callee_found (c ∷ cs) address d n ok at is =
 
 pub callee_long : (cs : List CalleeDecl) (address : ℕ) (d : CalleeDecl)
     → are_callees cs ≡ true
-    → callee_at cs address ≡ Some d
+    → declared_in cs address ≡ Some d
     → (is_callee d ≡ true) × (d.address ≡ address)
 callee_long [] address d ok at = absurd cc
 callee_long (c ∷ cs) address d ok at =
@@ -204,7 +208,7 @@ module _ (sc : Scope) where
 
   memory_again : (w : ℕ) (name : List ℕ) (a : Expr) (rest : List ℕ)
       → w < 17
-      → all_letters_or_digits name ≡ true
+      → list_all is_name_byte name ≡ true
       → Written sc a
       → memory_at sc (decimal w ++ (codes "(" ++ (name ++ (codes ", " ++ ((form sc a).plain ++ 41 ∷ rest)))))
       ≡ Some (access_of (Some name) a, rest)
@@ -238,8 +242,7 @@ module _ (sc : Scope) where
     long = omega arith;
   }
   access_right v t (Some name) w a last small fits x ends =
-      let form_ok = and_parts (begins_well name) (all_letters_or_digits name && leb (length name) 64) fits in
-      let letters = (and_parts (all_letters_or_digits name) (leb (length name) 64) form_ok.1).0 in
+      let letters = name_bytes name fits in
       record {
         word = R.Memory;
         behind = λ rest. decimal w ++ (codes "("
@@ -303,9 +306,9 @@ module _ (sc : Scope) where
 
   call_named : (v : Option ℕ) (address : ℕ) (d : CalleeDecl) (n : List ℕ) (ts : List Expr)
       → are_callees sc.callees ≡ true
-      → callee_at sc.callees address ≡ Some d
+      → declared_in sc.callees address ≡ Some d
       → d.name ≡ Declared n
-      → all_letters_or_digits n ≡ true
+      → list_all is_name_byte n ≡ true
       → AllWritten sc ts
       → RightText sc v (s.Call v address ts)
       ((codes "f_" ++ n) ++ (codes "(" ++ (separated (plain_texts sc ts) ++ codes ");\n")))
@@ -356,7 +359,7 @@ module _ (sc : Scope) where
 
   call_by_name : (v : Option ℕ) (address : ℕ) (d : CalleeDecl) (name : CName) (ts : List Expr)
       → are_callees sc.callees ≡ true
-      → callee_at sc.callees address ≡ Some d
+      → declared_in sc.callees address ≡ Some d
       → d.name ≡ name
       → is_callee_name name ≡ true
       → d.address ≡ address
@@ -365,16 +368,15 @@ module _ (sc : Scope) where
       → RightText sc v (s.Call v address ts)
       (callee_name name address ++ (codes "(" ++ (separated (plain_texts sc ts) ++ codes ");\n")))
   call_by_name v address d (Declared n) ts ok at is good same low all =
-      let form_ok = and_parts (begins_well n) (all_letters_or_digits n && leb (length n) 64) good in
-      call_named v address d n ts ok at is (and_parts (all_letters_or_digits n) (leb (length n) 64) form_ok.1).0 all
+      call_named v address d n ts ok at is (name_bytes n good) all
   call_by_name v address d Bare ts ok at is good same low all = call_bare v address ts low all
 
   pub call_right : (v : Option ℕ) (address : ℕ) (d : CalleeDecl) (ts : List Expr)
       → are_callees sc.callees ≡ true
-      → callee_at sc.callees address ≡ Some d
+      → declared_in sc.callees address ≡ Some d
       → AllWritten sc ts
       → RightText sc v (s.Call v address ts)
-      (name_of (callee_at sc.callees address) ++ (codes "(" ++ (separated (plain_texts sc ts) ++ codes ");\n")))
+      (name_of (declared_in sc.callees address) ++ (codes "(" ++ (separated (plain_texts sc ts) ++ codes ");\n")))
   call_right v address d ts ok at all =
       let l = callee_long sc.callees address d ok at in
       let good = and_parts (is_long d.address) (is_callee_name d.name && result_fits d.returns d.gives) l.0 in
@@ -382,7 +384,7 @@ module _ (sc : Scope) where
       let same = l.1 in
       let name = (and_parts (is_callee_name d.name) (result_fits d.returns d.gives) good.1).0 in
       let r = call_by_name v address d d.name ts ok at refl name same (omega arith) all in
-      let text : name_of (callee_at sc.callees address) ≡ callee_name d.name address =
+      let text : name_of (declared_in sc.callees address) ≡ callee_name d.name address =
       ap name_of at ∙ ap (callee_name d.name) same in
       subst (λ (x : List ℕ). RightText sc v (s.Call v address ts)
       (x ++ (codes "(" ++ (separated (plain_texts sc ts) ++ codes ");\n")))) (sym text) r

@@ -16,8 +16,9 @@ use Rattle.cmeaning.specs.declared.tree.Stmt.TheOpen.{Stmt-F, Arm-F}
 use Rattle.cmeaning.specs.declared.tree.Stmt.TheVariants as s
 use Rattle.cmeaning.specs.Shape.{shape_of, is_right, has_width, is_condition}
 use Rattle.cmeaning.specs.Valid.{Rule, Cased, rule_step, cased_step, rule_of, cased_of, all_hold, arms_hold, all_cases, are_distinct, are_words, are_cases_of, is_long, is_space, is_variable, is_target, are_right, have_widths, takes, is_call, is_assigned, is_returned}
+use Rattle.cmeaning.specs.Callees.{declared_in}
 use Rattle.cmeaning.specs.Do.{widths_in}
-use Rattle.ctext.specs.Names.{Scope, scope_of, variable, callee_at}
+use Rattle.ctext.specs.Names.{Scope, scope_of, variable}
 use Rattle.ctext.specs.Expressions.{form}
 use Rattle.ctext.specs.Statements.{Lines, lines, lines_step, arm_step, all_arms, arm_text, assigned, return_text, assign_text, call_text, target_width, loop_head}
 use Rattle.cread.specs.Words.{after, run_of, past_spaces}
@@ -27,7 +28,6 @@ use Rattle.cread.proofs.Fronts.{decimal_again, AllSpaces}
 use Rattle.cread.proofs.Naming.{Named, space}
 use Rattle.cread.proofs.Law.{Context, reads}
 use Rattle.cread.proofs.Parts.{Written, written, written_right, written_width, written_test, value_again, all_right, all_wide, LineAt, target_line, IsNamed, RightText, behind_target, right_line, alone_line, target_named, variable_is_named}
-use Rattle.ctext.proofs.Callees.{declared_is}
 use Rattle.cread.proofs.Calls.{load_right, store_right, call_right, indirect_right, other_right, extra_right, divide_right}
 use Rattle.cread.proofs.Bodies.{Setting, LineOk, AllOk, worded, if_line, else_line, while_line, loop_line, do_line}
 use Rattle.cread.proofs.Switches.{ArmOk, AllArmsOk, switch_line}
@@ -263,7 +263,7 @@ module _ (f : CFunction) (labels : ℕ) (k : Setting f labels) where
 
   -- a call of a declared callee
   called : (v : Option ℕ) (address : ℕ) (es : List Expr) (o : Option CalleeDecl) (room : ℕ) (loop : Bool)
-      → callee_at f.callees address ≡ o
+      → declared_in f.callees address ≡ o
       → is_call (widths_in f) v es o ≡ true
       → LineAt (scope_of f) (suc room) loop (s.Call v address es) (call_text (scope_of f) v address es)
   called v address es None room loop at h = absurd cc
@@ -280,8 +280,7 @@ module _ (f : CFunction) (labels : ℕ) (k : Setting f labels) where
       let ws = widths_in f in
       kind f labels (s.Call v address es) (Stmt-F.Call v address es) (s.rolls-Call v address es)
       (λ after_call in_loop room d sd h.
-      called v address es (callee_at f.callees address) room in_loop refl
-      (ap (is_call ws v es) (sym (declared_is f.callees address)) ∙ h))
+      called v address es (declared_in f.callees address) room in_loop refl h)
 
   call_ind_case : (v : Option ℕ) (e : Expr) (es : List Expr) → LineOk f labels (s.CallInd v e es)
   call_ind_case v e es =

@@ -10,7 +10,8 @@ use Rattle.std.specs.Fmt.{decimal, digits}
 use Rattle.std.specs.Str.Parse.{digits_value_after, AllDigits}
 use Rattle.std.proofs.lemmas.Bool.{lt-ltb, le-ltb, eqb-true, cases_Bool, and_parts}
 use Rattle.std.proofs.lemmas.Fmt.{digits_is_IsNumeral, decimal_is_IsNumeral}
-use Rattle.cmeaning.specs.Valid.{is_letter_or_digit, all_letters_or_digits}
+use Rattle.std.specs.List.{list_all}
+use Rattle.listing_lines.specs.Tokens.{is_name_byte}
 use Rattle.ctext.specs.Names.{hex}
 use Rattle.cread.specs.Words.{after, run_of, past_spaces, name_at, number_from, decimal_at, hex_at}
 
@@ -226,18 +227,18 @@ run_again p c rest stop = rw stop refl
 
 -- a name before another byte
 pub name_again : (name : List ℕ) (c : ℕ) (rest : List ℕ)
-    → all_letters_or_digits name ≡ true
-    → is_letter_or_digit c ≡ false
+    → list_all is_name_byte name ≡ true
+    → is_name_byte c ≡ false
     → name_at (name ++ c ∷ rest) ≡ (name, c ∷ rest)
 unfolding name_at run_of
 name_again [] c rest all stop = rw stop refl
 name_again (b ∷ bs) c rest all stop =
-    let both = and_parts (is_letter_or_digit b) (all_letters_or_digits bs) all in
+    let both = and_parts (is_name_byte b) (list_all is_name_byte bs) all in
     let more = name_again bs c rest both.1 stop in
     let here = both.0 in
-    let front : take (run_of is_letter_or_digit (bs ++ c ∷ rest)) (bs ++ c ∷ rest) ≡ bs =
+    let front : take (run_of is_name_byte (bs ++ c ∷ rest)) (bs ++ c ∷ rest) ≡ bs =
     ap (λ (x : List ℕ × List ℕ). x.0) more in
-    let behind : drop (run_of is_letter_or_digit (bs ++ c ∷ rest)) (bs ++ c ∷ rest) ≡ c ∷ rest =
+    let behind : drop (run_of is_name_byte (bs ++ c ∷ rest)) (bs ++ c ∷ rest) ≡ c ∷ rest =
     ap (λ (x : List ℕ × List ℕ). x.1) more in
     rw here (rw (front, behind) refl)
 

@@ -1,5 +1,5 @@
 -- The declarations of callees, parameters and locals are read again.
-use Rattle.std.proofs.Common.{◌≡◌, ℕ, zero, suc, ◌+◌, ◌*◌, ◌/◌, ◌%◌, ◌^◌, ◌<◌, ◌≤◌, Bool, true, false, eqb, leb, ◌&&◌, List, [], ◌∷◌, ◌++◌, length, Option, Some, None, refl, ap, ◌∙◌, subst, arith, append_assoc, length-append, inl, inr}
+use Rattle.std.proofs.Common.{◌≡◌, ℕ, zero, suc, ◌+◌, ◌*◌, ◌/◌, ◌%◌, ◌^◌, ◌<◌, ◌≤◌, Bool, true, false, eqb, ◌&&◌, List, [], ◌∷◌, ◌++◌, length, Option, Some, None, refl, ap, ◌∙◌, subst, arith, append_assoc, length-append, inl, inr}
 use Rattle.std.specs.Prelude.{codes, map}
 use Rattle.std.specs.Char.{is_digit, digit_value}
 use Rattle.std.specs.Fmt.{decimal, digits, digits_onto, digit_glyph}
@@ -12,7 +12,8 @@ use Rattle.cmeaning.specs.declared.tree.CName.TheVariants.{Declared, Bare}
 use Rattle.cmeaning.specs.declared.tree.CalleeDecl.{CalleeDecl}
 use Rattle.cmeaning.specs.declared.tree.Local.{Local}
 use Rattle.cmeaning.specs.declared.tree.Param.{Param}
-use Rattle.cmeaning.specs.Valid.{begins_well, all_letters_or_digits, is_long, is_storage, precedes_all, are_params, is_callee_name, result_fits, is_callee, is_apart_from, are_callees}
+use Rattle.cmeaning.specs.Valid.{is_long, is_storage, precedes_all, are_params, is_callee_name, result_fits, is_callee, is_apart_from, are_callees}
+use Rattle.cmeaning.proofs.Names.{name_bytes}
 use Rattle.ctext.specs.Names.{hex, type_text, unsigned_type, result_type, separated_or_void, further, param_name, local_name, callee_name}
 use Rattle.ctext.specs.Text.{width_types, returns_mark, callee_head, address_text, callee_line, callee_lines, param_text, local_lines}
 use Rattle.cread.specs.Words.{◌>>=◌, after, number_from, decimal_at, many_by}
@@ -55,8 +56,7 @@ name_read : (name : CName) (address : ℕ) (rest : List ℕ)
     → callee_name_at (callee_name name address ++ 40 ∷ rest) ≡ Some (name, 40 ∷ rest)
 unfolding after
 name_read (Declared n) address rest good low =
-    let form_ok = and_parts (begins_well n) (all_letters_or_digits n && leb (length n) 64) good in
-    let letters = (and_parts (all_letters_or_digits n) (leb (length n) 64) form_ok.1).0 in
+    let letters = name_bytes n good in
     let one = name_again n 40 rest letters refl in
     rw one refl
 name_read Bare address rest good low = let one = hex_again address 40 rest low refl in rw one refl

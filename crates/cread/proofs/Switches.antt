@@ -12,7 +12,7 @@ use Rattle.cmeaning.specs.declared.tree.Stmt.TheVariants as s
 use Rattle.cmeaning.specs.Valid.{Cased, rule_of, cased_of, all_hold, has_case, arms_hold, all_cases, are_words}
 use Rattle.ctext.specs.Names.{Scope, scope_of, hex}
 use Rattle.ctext.specs.Expressions.{form}
-use Rattle.ctext.specs.Statements.{lines, deeper, all_lines, last_leaves, case_lines, break_line, body_text, body_leaves, arm_text, all_arms, loop_head}
+use Rattle.ctext.specs.Statements.{lines, deeper, all_lines, breaks, case_lines, break_line, body_text, body_breaks, arm_text, all_arms, loop_head}
 use Rattle.ctext.proofs.Nested.{arm_lines}
 use Rattle.cread.specs.Words.{after, run_of, past_spaces, number_from, decimal_at, many_by}
 use Rattle.cread.specs.Names.{type_at}
@@ -125,8 +125,8 @@ break_row : (sc : Scope) (n : ℕ) (b : Bool) (d dd more : List ℕ)
     → AllSpaces dd
     → ArmEnd d more
     → spaced_by true (statement_at sc n) (break_line b dd ++ more) ≡ None
-break_row sc n true d dd more sd sdd end = row_ends sc n d more sd end
-break_row sc n false d dd more sd sdd end =
+break_row sc n false d dd more sd sdd end = row_ends sc n d more sd end
+break_row sc n true d dd more sd sdd end =
     let grouped : (dd ++ codes "break;\n") ++ more ≡ dd ++ (codes "break;\n" ++ more) =
     append_assoc dd (codes "break;\n") more in rw grouped (break_ends sc n dd more sdd)
 
@@ -136,8 +136,8 @@ behind_break : (b : Bool) (d dd more : List ℕ)
     → ArmEnd d more
     → past_break (break_line b dd ++ more) ≡ more
 unfolding after
-behind_break true d dd more sd sdd end = no_break d more sd end
-behind_break false d dd more sd sdd end =
+behind_break false d dd more sd sdd end = no_break d more sd end
+behind_break true d dd more sd sdd end =
     let grouped : (dd ++ codes "break;\n") ++ more ≡ dd ++ 98 ∷ (codes "reak;\n" ++ more) =
     append_assoc dd (codes "break;\n") more in
     let p = past_pad dd 98 (codes "reak;\n" ++ more) sdd refl in
@@ -165,14 +165,14 @@ module _ (f : CFunction) (labels : ℕ) where
       → AllOk f labels xs
       → AllSpaces dd
       → all_hold false (map (rule_of f labels) xs) false room ≡ true
-      → case_at (texts f xs dd ++ (break_line (last_leaves false (map (lines (scope_of f)) xs)) dd ++ more)) ≡ None
+      → case_at (texts f xs dd ++ (break_line (breaks (map (lines (scope_of f)) xs)) dd ++ more)) ≡ None
   unfolding case_at
   body_no_case [] room dd more all sdd h = break_no_case dd more sdd
   body_no_case (x ∷ xs) room dd more all sdd h =
       let sc = scope_of f in
       let first = first_ok f labels x xs false false room dd all.0 sdd h in
       let text = (lines sc x).text dd in
-      let last = break_line (last_leaves false (map (lines sc) (x ∷ xs))) dd ++ more in
+      let last = break_line (breaks (map (lines sc) (x ∷ xs))) dd ++ more in
       let others = texts f xs dd ++ last in
       let grouped : (dd ++ (text ++ texts f xs dd)) ++ last ≡ dd ++ (text ++ others) = simp append_assoc in
       let spaced : past_spaces (dd ++ (text ++ others)) ≡ text ++ others =
@@ -188,22 +188,22 @@ module _ (f : CFunction) (labels : ℕ) where
       → ArmEnd d more
       → arm_by (statement_at (scope_of f) room)
       ((case_lines (n ∷ ns) d ++ (texts f xs (deeper d)
-      ++ break_line (last_leaves false (map (lines (scope_of f)) xs)) (deeper d))) ++ more)
+      ++ break_line (breaks (map (lines (scope_of f)) xs)) (deeper d))) ++ more)
       ≡ Some (record { cases = n ∷ ns; body = xs }, more)
   unfolding arm_by
   arm_read n ns xs room d more all sd small h end =
       let sc = scope_of f in
-      let leaves = last_leaves false (map (lines sc) xs) in
+      let b = breaks (map (lines sc) xs) in
       let dd = deeper d in
       let sdd = deeper_spaces d sd in
-      let last = break_line leaves dd ++ more in
+      let last = break_line b dd ++ more in
       let tail = texts f xs dd ++ last in
-      let grouped : (case_lines (n ∷ ns) d ++ (texts f xs dd ++ break_line leaves dd)) ++ more
+      let grouped : (case_lines (n ∷ ns) d ++ (texts f xs dd ++ break_line b dd)) ++ more
       ≡ case_lines (n ∷ ns) d ++ tail = simp append_assoc in
       let one = cases_again n ns d tail sd small (body_no_case xs room dd more all sdd h) in
       let two = body_again f labels xs all true false false room dd last refl sdd h
-      (break_row sc room leaves d dd more sd sdd end) in
-      let three = behind_break leaves d dd more sd sdd end in
+      (break_row sc room b d dd more sd sdd end) in
+      let three = behind_break b d dd more sd sdd end in
       rw (grouped, one, two, three) refl
 
   arm_split : (cs : List ℕ) (xs : List Stmt) (room : ℕ) (d more : List ℕ)
@@ -215,7 +215,7 @@ module _ (f : CFunction) (labels : ℕ) where
       → ArmEnd d more
       → arm_by (statement_at (scope_of f) room)
       ((case_lines cs d ++ (texts f xs (deeper d)
-      ++ break_line (last_leaves false (map (lines (scope_of f)) xs)) (deeper d))) ++ more)
+      ++ break_line (breaks (map (lines (scope_of f)) xs)) (deeper d))) ++ more)
       ≡ Some (record { cases = cs; body = xs }, more)
   arm_split [] xs room d more all sd some small h end = absurd cc
   arm_split (n ∷ ns) xs room d more all sd some small h end = arm_read n ns xs room d more all sd small h end
@@ -228,7 +228,7 @@ module _ (f : CFunction) (labels : ℕ) where
       → all_hold false (map (rule_of f labels) a.body) false room ≡ true
       → ArmEnd d more
       → arm_by (statement_at (scope_of f) room) (arm_text (scope_of f) a d ++ more) ≡ Some (a, more)
-  unfolding body_text body_leaves
+  unfolding body_text body_breaks
   arm_again a room d more all sd some small h end =
       ap (λ (t : List ℕ). arm_by (statement_at (scope_of f) room) (t ++ more)) (arm_lines (scope_of f) a d)
       ∙ arm_split a.cases a.body room d more all sd some small h end
@@ -250,7 +250,7 @@ cases_some (n ∷ ns) d body some =
 -- an arm begins with a case line
 arm_begins : (sc : Scope) (a : Arm) (d more : List ℕ) → has_case a.cases ≡ true → ArmEnd d (arm_text sc a d ++ more)
 arm_begins sc a d more some = subst (λ (t : List ℕ). ArmEnd d (t ++ more)) (sym (arm_lines sc a d))
-    (cases_begin a.cases d (body_text sc a.body (deeper d) ++ break_line (body_leaves sc a.body) (deeper d)) more
+    (cases_begin a.cases d (body_text sc a.body (deeper d) ++ break_line (body_breaks sc a.body) (deeper d)) more
     some)
 
 -- what the rules say of arms
@@ -333,7 +333,7 @@ arms_long f labels (a ∷ arms) room d z h =
     let r = arms_right f labels a arms room h in
     let one : 0 < length (arm_text sc a d) =
     subst (λ (t : List ℕ). 0 < length t) (sym (arm_lines sc a d))
-    (cases_some a.cases d (body_text sc a.body (deeper d) ++ break_line (body_leaves sc a.body) (deeper d))
+    (cases_some a.cases d (body_text sc a.body (deeper d) ++ break_line (body_breaks sc a.body) (deeper d))
     r.some) in
     let more = arms_long f labels arms room d z r.others in
     omega (

@@ -1,5 +1,5 @@
 -- A valid tree is read again from its text, so each text has one tree.
-use Rattle.std.proofs.Common.{◌≡◌, ℕ, ◌+◌, ◌-◌, ◌<◌, Bool, true, false, List, [], ◌∷◌, ◌++◌, length, Option, Some, None, Err, refl, sym, ap, ◌∙◌, subst, arith, append_assoc, lit<}
+use Rattle.std.proofs.Common.{◌≡◌, ℕ, ◌+◌, ◌-◌, ◌<◌, Bool, true, false, List, [], ◌∷◌, ◌++◌, length, Option, Some, None, Err, refl, sym, ap, ◌∙◌, arith, append_assoc, lit<}
 use Rattle.std.specs.Prelude.{codes, map, ◌↔◌, IsTrue, slice_get}
 use Rattle.bits_core.specs.declared.word.Width.{Width}
 use Rattle.cmeaning.specs.declared.tree.CFunction.{CFunction}
@@ -15,11 +15,10 @@ use Rattle.ctext.specs.Statements.{lines, all_lines, body_text}
 use Rattle.ctext.specs.Text.{callee_lines, param_text, local_lines, text_of}
 use Rattle.cread.specs.declared.item.CFault.{CFault}
 use Rattle.cread.specs.declared.item.CFault.TheVariants as fault
-use Rattle.cread.specs.declared.item.Head.{Head}
 use Rattle.cread.specs.Answer.{IsTreeOf, IsAnswered}
 use Rattle.cread.specs.Words.{◌>>=◌, Fails, after, ended, decimal_at, hex_at}
 use Rattle.cread.specs.Names.{type_at}
-use Rattle.cread.specs.Functions.{addressed, callee_of, callee_at, tail_at, widths_at, head_at, local_by, local_at, title_at, variables_at, frame_at, function_at}
+use Rattle.cread.specs.Functions.{addressed, callee_at, tail_at, widths_at, head_at, local_by, local_at, title_at, variables_at, frame_at, function_at}
 use Rattle.cread.proofs.Bodies.{Setting, AllOk, first_ok, brace_ends, body_again}
 use Rattle.cread.proofs.Each.{lines_ok}
 use Rattle.cread.proofs.Heads.{head_again, params_again, params_no_widths, callees_again, locals_again}

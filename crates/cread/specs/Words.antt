@@ -2,7 +2,7 @@
 -- since what is read is checked and printed afterwards.
 use Rattle.std.specs.Prelude.{◌≡◌, ℕ, zero, suc, ◌+◌, ◌*◌, ◌%◌, ◌^◌, ◌==◌, Bool, if◌then◌else◌, List, [], ◌∷◌, ◌++◌, take, drop, Option, Some, None, Result, Ok, Err}
 use Rattle.std.specs.Char.{digit_value, is_digit}
-use Rattle.cmeaning.specs.Valid.{is_letter_or_digit}
+use Rattle.listing_lines.specs.Tokens.{is_name_byte}
 use Rattle.cread.specs.declared.item.CFault.{CFault}
 use Rattle.cread.specs.declared.item.CFault.TheVariants.{NotC, Memory}
 
@@ -55,7 +55,7 @@ past_spaces bs = drop (run_of is_space bs) bs
 
 -- the letters and digits at the front, and what follows them
 unfoldable pub name_at : List ℕ → List ℕ × List ℕ
-name_at bs = (take (run_of is_letter_or_digit bs) bs, drop (run_of is_letter_or_digit bs) bs)
+name_at bs = (take (run_of is_name_byte bs) bs, drop (run_of is_name_byte bs) bs)
 
 -- ---- numbers
 

@@ -2,7 +2,7 @@
 
 ghost use Rattle.std.specs.Prelude.{◌≡◌, ◌≤◌, length};
 ghost use Rattle.std.specs.Option.{option_map};
-ghost use Rattle.cmeaning.specs.Valid.{is_letter_or_digit};
+ghost use Rattle.listing_lines.specs.Tokens.{is_name_byte};
 ghost use Rattle.cread.specs.Words.{Gives, after, ended, or_else, run_of, is_space, past_spaces as behind_spaces, name_at, number_from, decimal_at, hex_at};
 
 use crate::item::CFault;
@@ -68,14 +68,14 @@ pub fn past_spaces(bytes: &[u8]) -> &[u8]
 }
 
 fn letter_or_digit(b: u8) -> bool
-    ensures { result ≡ is_letter_or_digit b }
+    ensures { result ≡ is_name_byte b }
 {
     (b >= 65 && b <= 90) || (b >= 97 && b <= 122) || b == 95 || (b >= 48 && b <= 57)
 }
 
 #[tactic(auto, using(crate::proofs::Fronts::run_more, crate::proofs::Fronts::run_done, crate::proofs::Fronts::run_end))]
 fn letters(bytes: &[u8]) -> usize
-    ensures value { result ≡ run_of is_letter_or_digit bytes.now }
+    ensures value { result ≡ run_of is_name_byte bytes.now }
     ensures within { result ≤ length bytes.now }
 {
     let mut n = 0;

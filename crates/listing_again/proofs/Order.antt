@@ -21,11 +21,14 @@ use Rattle.pcodetext.specs.declared.form.OpLine.{OpLine}
 use Rattle.pcodetext.specs.declared.form.ProtoLine.{ProtoLine}
 use Rattle.pcodetext.specs.declared.form.SpaceLine.{SpaceLine}
 use Rattle.pcodetext.specs.declared.form.Written.{Written}
-use Rattle.pcodetext.specs.Faults.{faults, first_fault, is_complete}
+use Rattle.line_reader.specs.Faults.{first_fault}
+use Rattle.pcodetext.specs.Faults.{faults, is_complete}
 use Rattle.pcodetext.specs.Meaning.{after, function_of, number, varnode, with_op}
 use Rattle.pcode_model.specs.WellFormed.{constant_space}
 use Rattle.pcodetext.proofs.Formed.{IsFormed}
-use Rattle.pcodetext.proofs.Passing.{AllFalse, all_false, left_false, never, nil_is, none_is, right_false, zero_false}
+use Rattle.line_reader.proofs.Faults.{AllFalse, all_false}
+use Rattle.std.proofs.lemmas.List.{nil_from_length}
+use Rattle.pcodetext.proofs.Passing.{left_false, never, none_is, right_false, zero_false}
 use Rattle.listing_again.proofs.Growth.{at_grows, bytes_grow, callees_grow, early_lines, end_grows, late_lines, no_ops, op_grows, protos_grow, said_lines, space_grows, up_to_bytes, up_to_callees, up_to_protos}
 use Rattle.listing_again.proofs.Lines.{IsReadAs, version_of}
 use Rattle.listing_again.proofs.Ranged.{op_of}
@@ -80,11 +83,11 @@ before_func : (s : PartialListing)
     → is_none s.func ≡ true
     → (front : List Line) (spaces : List Space)
     → late_lines front spaces s.protos s.func s.callees s.fixed (s.done ++ option_to_list s.last) s.ended
-      ≡ front ++ map (proto_line spaces) s.protos
+    ≡ front ++ map (proto_line spaces) s.protos
 before_func s f o e front spaces =
     let none = o.last e in
     up_to_protos front spaces s.protos s.func s.callees s.fixed _ s.ended (none_is s.func (none_some s.func e))
-      (o.callees e) (o.fixed e) (no_code s f none) (not_ended s f none)
+    (o.callees e) (o.fixed e) (no_code s f none) (not_ended s f none)
 
 -- without a prototype nothing stands after the stack pointer
 before_protos : (s : PartialListing) → IsFormed s → length s.protos ≡ 0 → (front : List Line) (spaces : List Space)
@@ -94,7 +97,7 @@ before_protos s f z front spaces =
     let e = f.early none in
     up_to_protos front spaces s.protos s.func s.callees s.fixed _ s.ended (none_is s.func none) e.callees e.fixed
       (no_code s f e.last) (not_ended s f e.last)
-    ∙ ap (λ (ps : List Proto). front ++ map (proto_line spaces) ps) (nil_is s.protos z) ∙ append-nil front
+    ∙ ap (λ (ps : List Proto). front ++ map (proto_line spaces) ps) (nil_from_length s.protos z) ∙ append-nil front
 
 -- ---- line by line
 
@@ -113,7 +116,7 @@ pcode_kept s n f o h =
       ordered = record { version = λ e. absurd (never (sym e)); callees = o.callees; fixed = o.fixed; last = o.last };
       lines = before_protos s f empty.1.1 (early_lines (Some n) s.spaces s.stack) s.spaces ∙ first
           ∙ ap (λ (r : List Line). r ++ version_line n ∷ [])
-            (sym (before_protos s f empty.1.1 (early_lines s.version s.spaces s.stack) s.spaces ∙ old));
+          (sym (before_protos s f empty.1.1 (early_lines s.version s.spaces s.stack) s.spaces ∙ old));
     }
   where
     none_early : (v : Option ℕ) (spaces : List Space) (stack : Option Varnode)
@@ -146,12 +149,13 @@ space_kept s l f o h =
         version = λ e. absurd (never_both _ e (left_false _ _ (left_false _ _ p.0)));
         callees = o.callees;
         fixed = o.fixed;
-        last = o.last };
+        last = o.last;
+      };
       lines = before_protos s f none (early_lines s.version spaces s.stack) spaces
           ∙ space_grows s.version s.spaces (space_of l) s.stack (some_spaces s.spaces f.spaces.formed)
-            (right_false _ _ (left_false _ _ p.0))
+          (right_false _ _ (left_false _ _ p.0))
           ∙ ap (λ (r : List Line). r ++ space_line (version_of s.version) (space_of l) ∷ [])
-            (sym (before_protos s f none (early_lines s.version s.spaces s.stack) s.spaces));
+          (sym (before_protos s f none (early_lines s.version s.spaces s.stack) s.spaces));
     }
 
 -- the constant space alone is no complete list
@@ -172,18 +176,19 @@ stack_kept s w f o h =
         version = λ e. absurd (not_complete s.spaces (o.version e).0 complete);
         callees = o.callees;
         fixed = o.fixed;
-        last = o.last };
+        last = o.last;
+      };
       lines =
           before_protos s f none (early_lines s.version s.spaces (Some (varnode w))) s.spaces
           ∙ grows s.stack (right_false _ _ (left_false _ _ p.0))
           ∙ ap (λ (r : List Line). r ++ stack_line s.spaces (varnode w) ∷ [])
-            (sym (before_protos s f none (early_lines s.version s.spaces s.stack) s.spaces));
+          (sym (before_protos s f none (early_lines s.version s.spaces s.stack) s.spaces));
     }
   where
     grows : (stack : Option Varnode)
         → is_some stack ≡ false
         → early_lines s.version s.spaces (Some (varnode w))
-          ≡ early_lines s.version s.spaces stack ++ stack_line s.spaces (varnode w) ∷ []
+        ≡ early_lines s.version s.spaces stack ++ stack_line s.spaces (varnode w) ∷ []
     grows None e = ap (λ (r : List Line). r ++ stack_line s.spaces (varnode w) ∷ []) (sym (append-nil _))
     grows (Some v) e = absurd (never e)
 
@@ -203,14 +208,15 @@ proto_kept s l f o h =
         version = λ e. absurd (not_complete s.spaces (o.version e).0 complete);
         callees = o.callees;
         fixed = o.fixed;
-        last = o.last };
+        last = o.last;
+      };
       lines =
           up_to_protos front s.spaces (s.protos ++ proto_of l ∷ []) s.func s.callees s.fixed code s.ended
-            (none_is s.func (right_false _ _ p.1.0)) (o.callees none) (o.fixed none) (no_code s f (o.last none))
-            (not_ended s f (o.last none))
+          (none_is s.func (right_false _ _ p.1.0)) (o.callees none) (o.fixed none) (no_code s f (o.last none))
+          (not_ended s f (o.last none))
           ∙ protos_grow front s.spaces s.protos (proto_of l)
-            ∙ ap (λ (r : List Line). r ++ proto_line s.spaces (proto_of l) ∷ [])
-              (sym (before_func s f o none front s.spaces));
+          ∙ ap (λ (r : List Line). r ++ proto_line s.spaces (proto_of l) ∷ [])
+          (sym (before_func s f o none front s.spaces));
     }
 
 no_protos : (n : ℕ) → 0 < n → n ≡ 0 → ⊥
@@ -233,15 +239,16 @@ func_kept s l f o h =
         version = λ e. absurd (no_protos (length s.protos) some (o.version e).1.1);
         callees = λ e. absurd (never (sym e));
         fixed = λ e. absurd (never (sym e));
-        last = λ e. absurd (never (sym e)) };
+        last = λ e. absurd (never (sym e));
+      };
       lines =
           up_to_callees front s.spaces s.protos (Some (function_of l)) s.callees s.fixed code s.ended (o.fixed none)
-            (no_code s f (o.last none)) (not_ended s f (o.last none))
+          (no_code s f (o.last none)) (not_ended s f (o.last none))
           ∙ ap
-            (λ (cs : List Function).
-                ((front ++ map (proto_line s.spaces) s.protos) ++ line ∷ []) ++ map
-                  (function_line (codes "callee") s.spaces s.protos) cs) (o.callees none)
-            ∙ append-nil _
+          (λ (cs : List Function).
+          ((front ++ map (proto_line s.spaces) s.protos) ++ line ∷ []) ++ map
+          (function_line (codes "callee") s.spaces s.protos) cs) (o.callees none)
+          ∙ append-nil _
           ∙ ap (λ (r : List Line). r ++ line ∷ []) (sym (before_func s f o none front s.spaces));
     }
 
@@ -253,7 +260,7 @@ pub callee_kept : (s : PartialListing) (l : FunctionLine)
 callee_kept s l f o h =
     let p : AllFalse (faults s (form.Callee l)) = all_false (faults s (form.Callee l)) h in
     let some = left_false _ _ (left_false _ _ p.0) in
-    let fixed = nil_is s.fixed (no_length _ (right_false _ _ (left_false _ _ p.0))) in
+    let fixed = nil_from_length s.fixed (no_length _ (right_false _ _ (left_false _ _ p.0))) in
     let none = right_false _ _ p.0 in
     let front : List Line = early_lines s.version s.spaces s.stack in
     let code : List Instruction = s.done ++ option_to_list s.last in
@@ -263,15 +270,16 @@ callee_kept s l f o h =
         version = o.version;
         callees = λ e. absurd (never_both _ e some);
         fixed = o.fixed;
-        last = o.last };
+        last = o.last;
+      };
       lines =
           up_to_callees front s.spaces s.protos s.func (s.callees ++ function_of l ∷ []) s.fixed code s.ended fixed
-            (no_code s f none) (not_ended s f none)
+          (no_code s f none) (not_ended s f none)
           ∙ callees_grow _ s.spaces s.protos s.callees (function_of l)
           ∙ ap (λ (r : List Line). r ++ line ∷ [])
-            (sym
-               (up_to_callees front s.spaces s.protos s.func s.callees s.fixed code s.ended fixed (no_code s f none)
-                  (not_ended s f none)));
+          (sym
+          (up_to_callees front s.spaces s.protos s.func s.callees s.fixed code s.ended fixed (no_code s f none)
+          (not_ended s f none)));
     }
 
 pub bytes_kept : (s : PartialListing) (l : BytesLine)
@@ -279,7 +287,7 @@ pub bytes_kept : (s : PartialListing) (l : BytesLine)
     → IsOrdered s
     → first_fault (faults s (form.Bytes l)) ≡ None
     → IsKept s (after s (form.Bytes l))
-      (bytes_line s.spaces (record { space = number l.space; offset = l.offset; bytes = l.bytes }))
+    (bytes_line s.spaces (record { space = number l.space; offset = l.offset; bytes = l.bytes }))
 bytes_kept s l f o h =
     let p : AllFalse (faults s (form.Bytes l)) = all_false (faults s (form.Bytes l)) h in
     let some = left_false _ _ p.0 in
@@ -291,17 +299,18 @@ bytes_kept s l f o h =
         version = o.version;
         callees = o.callees;
         fixed = λ e. absurd (never_both _ e some);
-        last = o.last };
+        last = o.last;
+      };
       lines =
           up_to_bytes front s.spaces s.protos s.func s.callees
-            (s.fixed ++ record { space = number l.space; offset = l.offset; bytes = l.bytes } ∷ []) code s.ended
-            (no_code s f none) (not_ended s f none)
+          (s.fixed ++ record { space = number l.space; offset = l.offset; bytes = l.bytes } ∷ []) code s.ended
+          (no_code s f none) (not_ended s f none)
           ∙ bytes_grow _ s.spaces s.fixed (record { space = number l.space; offset = l.offset; bytes = l.bytes })
           ∙ ap (λ (r : List Line).
-              r ++ bytes_line s.spaces (record { space = number l.space; offset = l.offset; bytes = l.bytes }) ∷ [])
+          r ++ bytes_line s.spaces (record { space = number l.space; offset = l.offset; bytes = l.bytes }) ∷ [])
           (sym
-             (up_to_bytes front s.spaces s.protos s.func s.callees s.fixed code s.ended (no_code s f none)
-                (not_ended s f none)));
+          (up_to_bytes front s.spaces s.protos s.func s.callees s.fixed code s.ended (no_code s f none)
+          (not_ended s f none)));
     }
 
 pub at_kept : (s : PartialListing) (l : AtLine)
@@ -316,7 +325,8 @@ at_kept s l o h =
         version = o.version;
         callees = o.callees;
         fixed = o.fixed;
-        last = λ e. absurd (never_both _ e some) };
+        last = λ e. absurd (never_both _ e some);
+      };
       lines = at_grows _ s.spaces (s.done ++ option_to_list s.last) l.address l.length s.ended (right_false _ _ p.0);
     }
 
@@ -326,14 +336,15 @@ op_kept_by : (s : PartialListing) (l : OpLine) (code : Opcode) (last : Option In
     → s.ended ≡ false
     → IsOrdered (record s { last = last })
     → IsKept (record s { last = last }) (record s { last = with_op l (Some code) last; ops = s.ops + 1 })
-      (op_line s.spaces (op_of l code))
+    (op_line s.spaces (op_of l code))
 op_kept_by s l code None opened some going o = absurd (never opened)
 op_kept_by s l code (Some i) opened some going o = record {
   ordered = record {
     version = o.version;
     callees = o.callees;
     fixed = o.fixed;
-    last = λ e. absurd (never_both _ e some) };
+    last = λ e. absurd (never_both _ e some);
+  };
   lines = op_grows _ s.spaces s.done i (op_of l code) s.ended going;
 }
 
@@ -354,8 +365,8 @@ op_kept s l code is o h =
     let p : AllFalse (faults s (form.Op l)) = all_false (faults s (form.Op l)) h in
     let opened = left_false _ _ p.0 in
     subst
-      (λ (c : Option Opcode).
-          IsKept s (record s { last = with_op l c s.last; ops = s.ops + 1 }) (op_line s.spaces (op_of l code))) (sym is)
+    (λ (c : Option Opcode).
+    IsKept s (record s { last = with_op l c s.last; ops = s.ops + 1 }) (op_line s.spaces (op_of l code))) (sym is)
     (op_kept_by s l code s.last opened (has_func s o opened) (right_false _ _ p.0) o)
 
 pub end_kept : (s : PartialListing)

@@ -19,20 +19,24 @@ use Rattle.pcodetext.specs.declared.form.Form.{Form}
 use Rattle.pcodetext.specs.declared.form.Form.TheVariants as form
 use Rattle.pcodetext.specs.declared.form.OpLine.{OpLine}
 use Rattle.pcodetext.specs.declared.form.Written.{Written}
-use Rattle.pcodetext.specs.Faults.{faults, first_fault, is_empty, of_some, of_unknown}
+use Rattle.line_reader.specs.Faults.{first_fault}
+use Rattle.pcodetext.specs.Faults.{faults, is_empty, of_some, of_unknown}
 use Rattle.pcodetext.specs.Forms.{form_of, is_two}
-use Rattle.pcodetext.specs.Meaning.{Progress, Step, advance, advanced, after, concluded, function_of, is_skipped, listing_of, moved, number, reading, start, step, step_by, stepped, varnode, whole, with_op}
-use Rattle.pcodetext.specs.Meaning.Progress.{Going, Stopped}
-use Rattle.pcodetext.specs.Meaning.Read.{Good, Bad}
-use Rattle.pcodetext.specs.Meaning.Step.{Fails, Goes}
-use Rattle.pcodetext.proofs.Failing.{stays}
+use Rattle.line_reader.specs.Reading.{Progress, advance, advanced, concluded, moved}
+use Rattle.line_reader.specs.Reading.Progress.{Going}
+use Rattle.line_reader.specs.Reading.Read.{Bad, Good}
+use Rattle.line_reader.specs.Reading.Step.{Goes}
+use Rattle.line_reader.proofs.Faults.{fails_not, goes_same}
+use Rattle.line_reader.proofs.Kept.{bad_not, good_same, read_keeps}
+use Rattle.pcodetext.specs.Meaning.{after, fault_at, finished, function_of, is_skipped, listing_of, number, reading, start, step, step_by, stepped, varnode, whole, with_op}
 use Rattle.pcodetext.proofs.FormIs.{form_is}
 use Rattle.pcodetext.proofs.Formed.{IsFormed}
 use Rattle.pcodetext.proofs.Keeping.{kept}
 use Rattle.pcodetext.proofs.Prototypes.{proto_of}
 use Rattle.pcodetext.proofs.Spaces.{space_of}
-use Rattle.pcodetext.proofs.Whole.{start_formed, goes_same, fails_not, bad_not, good_same}
-use Rattle.pcodetext.proofs.Passing.{AllFalse, all_false, left_false, never, right_false}
+use Rattle.pcodetext.proofs.Whole.{start_formed}
+use Rattle.line_reader.proofs.Faults.{AllFalse, all_false}
+use Rattle.pcodetext.proofs.Passing.{left_false, never, right_false}
 use Rattle.listing_again.proofs.Cuts.{IsLine, all_append, lines_are}
 use Rattle.listing_again.proofs.Growth.{said_lines, text_is}
 use Rattle.listing_again.proofs.Lines.{IsReadAs, at_again, bytes_again, callee_again, end_again, func_again, pcode_again, space_again, stack_again, version_of}
@@ -56,9 +60,9 @@ says : (s t : PartialListing) (line : Line) (g : Form)
     → step s line ≡ Goes t
 says s t line g skipped h none is =
     ap (λ (b : Bool). if b then Goes s else step_by s (form_of s line)) skipped
-      ∙ ap (step_by s) h.read
-      ∙ ap (stepped s g) none
-      ∙ ap Goes is
+    ∙ ap (step_by s) h.read
+    ∙ ap (stepped s g) none
+    ∙ ap Goes is
 
 -- a line that is read as the form that it was made of
 same_form : (s : PartialListing) (f : Form) (line : Line)
@@ -70,7 +74,8 @@ same_form : (s : PartialListing) (f : Form) (line : Line)
 same_form s f line skipped none k r = record {
   kept = k;
   clean = r.clean;
-  said = says s (after s f) line f skipped r none refl }
+  said = says s (after s f) line f skipped r none refl;
+}
 
 some_same : (test : Written → Bool) → ((w : Written) → test (canonical w) ≡ test w) → (o : Option Written)
     → of_some test (option_map canonical o) ≡ of_some test o
@@ -85,14 +90,14 @@ any_same test same (w ∷ ws) = ap₂ (λ (a b : Bool). a || b) (same w) (any_sa
 op_faults : (s : PartialListing) (l : OpLine) → faults s (form.Op (canonical_op l)) ≡ faults s (form.Op l)
 op_faults s l =
     ap₂ (λ (a b : Bool).
-        (is_none s.last || s.ended, why.Order) ∷ ((is_none l.code || a) || b, why.Unknown) ∷
-          (nat_le 16384 s.ops, why.Range)
+    (is_none s.last || s.ended, why.Order) ∷ ((is_none l.code || a) || b, why.Unknown) ∷
+    (nat_le 16384 s.ops, why.Range)
     ∷ (of_some is_empty (option_map canonical l.out) || list_any is_empty (map canonical l.inputs), why.Range) ∷ [])
     (some_same of_unknown (λ w. refl) l.out) (any_same of_unknown (λ w. refl) l.inputs)
     ∙ ap₂ (λ (a b : Bool).
-        (is_none s.last || s.ended, why.Order) ∷
-          ((is_none l.code || of_some of_unknown l.out) || list_any of_unknown l.inputs, why.Unknown) ∷
-          (nat_le 16384 s.ops, why.Range) ∷ (a || b, why.Range) ∷ [])
+    (is_none s.last || s.ended, why.Order) ∷
+    ((is_none l.code || of_some of_unknown l.out) || list_any of_unknown l.inputs, why.Unknown) ∷
+    (nat_le 16384 s.ops, why.Range) ∷ (a || b, why.Range) ∷ [])
     (some_same is_empty (λ w. refl) l.out) (any_same is_empty (λ w. refl) l.inputs)
 
 out_same : (o : Option Written) → option_map varnode (option_map canonical o) ≡ option_map varnode o
@@ -109,9 +114,9 @@ with_same l None last = refl
 with_same l (Some code) None = refl
 with_same l (Some code) (Some i) =
     ap₂
-      (λ (out : Option Varnode) (inputs : List Varnode).
-          Some (record i { ops = i.ops ++ record { code = code; out = out; inputs = inputs } ∷ [] })) (out_same l.out)
-      (inputs_same l.inputs)
+    (λ (out : Option Varnode) (inputs : List Varnode).
+    Some (record i { ops = i.ops ++ record { code = code; out = out; inputs = inputs } ∷ [] })) (out_same l.out)
+    (inputs_same l.inputs)
 
 op_said : (s : PartialListing) (l : OpLine)
     → IsOrdered s
@@ -136,9 +141,9 @@ op_said s l o h none = by_code l.code refl (left_false _ _ (left_false _ _ p.1.0
             clean = read.clean;
             said =
                 says s (after s (form.Op l)) _ (form.Op (canonical_op l)) refl read
-                  (ap first_fault (op_faults s l) ∙ none)
-                  (ap (λ (last : Option Instruction). record s { last = last; ops = s.ops + 1 })
-                     (with_same l l.code s.last));
+                (ap first_fault (op_faults s l) ∙ none)
+                (ap (λ (last : Option Instruction). record s { last = last; ops = s.ops + 1 })
+                (with_same l l.code s.last));
           },
         )
 
@@ -151,35 +156,42 @@ said_again : (s : PartialListing) (f : Form)
 said_again s form.Nothing g o h none = absurd (never (all_false (faults s form.Nothing) none).0)
 said_again s (form.Pcode n) g o h none =
     (version_line n, same_form s (form.Pcode n) _ refl none (pcode_kept s n g o none) (pcode_again s n h))
-said_again s (form.Space l) g o h none =
-    (space_line (version_of s.version) (space_of l),
-     same_form s (form.Space l) _ refl none (space_kept s l g o none) (space_again s l h))
+said_again s (form.Space l) g o h none = (
+  space_line (version_of s.version) (space_of l),
+  same_form s (form.Space l) _ refl none (space_kept s l g o none) (space_again s l h),
+)
 said_again s (form.Stack w) g o h none =
-    let p : AllFalse (faults s (form.Stack w)) = all_false (faults s (form.Stack w)) none in
-    (stack_line s.spaces (varnode w),
-     same_form s (form.Stack w) _ refl none (stack_kept s w g o none)
-       (stack_again s w g.spaces.formed h (not-false _ p.1.1.0)))
+    let p : AllFalse (faults s (form.Stack w)) = all_false (faults s (form.Stack w)) none in (
+      stack_line s.spaces (varnode w),
+      same_form s (form.Stack w) _ refl none (stack_kept s w g o none)
+          (stack_again s w g.spaces.formed h (not-false _ p.1.1.0)),
+    )
 said_again s (form.Proto l) g o h none =
-    let p : AllFalse (faults s (form.Proto l)) = all_false (faults s (form.Proto l)) none in
-    (proto_line s.spaces (proto_of l),
-     same_form s (form.Proto l) _ refl none (proto_kept s l g o none) (proto_again s l g.spaces.formed h p.0 p.1.1.0))
+    let p : AllFalse (faults s (form.Proto l)) = all_false (faults s (form.Proto l)) none in (
+      proto_line s.spaces (proto_of l),
+      same_form s (form.Proto l) _ refl none (proto_kept s l g o none) (proto_again s l g.spaces.formed h p.0 p.1.1.0),
+    )
 said_again s (form.Func l) g o h none =
-    let p : AllFalse (faults s (form.Func l)) = all_false (faults s (form.Func l)) none in
-    (function_line (codes "func") s.spaces s.protos (function_of l),
-     same_form s (form.Func l) _ refl none (func_kept s l g o none)
-       (func_again s l h.0 h.1 p.1.1.1.0 (left_false _ _ p.1.0)))
+    let p : AllFalse (faults s (form.Func l)) = all_false (faults s (form.Func l)) none in (
+      function_line (codes "func") s.spaces s.protos (function_of l),
+      same_form s (form.Func l) _ refl none (func_kept s l g o none)
+          (func_again s l h.0 h.1 p.1.1.1.0 (left_false _ _ p.1.0)),
+    )
 said_again s (form.Callee l) g o h none =
-    let p : AllFalse (faults s (form.Callee l)) = all_false (faults s (form.Callee l)) none in
-    (function_line (codes "callee") s.spaces s.protos (function_of l),
-     same_form s (form.Callee l) _ refl none (callee_kept s l g o none)
-       (callee_again s l h.0 h.1 (right_false _ _ p.1.1.1.0) (left_false _ _ p.1.0)))
+    let p : AllFalse (faults s (form.Callee l)) = all_false (faults s (form.Callee l)) none in (
+      function_line (codes "callee") s.spaces s.protos (function_of l),
+      same_form s (form.Callee l) _ refl none (callee_kept s l g o none)
+          (callee_again s l h.0 h.1 (right_false _ _ p.1.1.1.0) (left_false _ _ p.1.0)),
+    )
 said_again s (form.Bytes l) g o h none =
-    let p : AllFalse (faults s (form.Bytes l)) = all_false (faults s (form.Bytes l)) none in
-    (bytes_line s.spaces (record { space = number l.space; offset = l.offset; bytes = l.bytes }),
-     same_form s (form.Bytes l) _ refl none (bytes_kept s l g o none) (bytes_again s l (not-false _ p.1.1.1.1.1.0) h))
-said_again s (form.At l) g o h none =
-    (at_line (record { address = l.address; length = l.length; ops = [] }),
-     same_form s (form.At l) _ refl none (at_kept s l o none) (at_again s l h.0 h.1))
+    let p : AllFalse (faults s (form.Bytes l)) = all_false (faults s (form.Bytes l)) none in (
+      bytes_line s.spaces (record { space = number l.space; offset = l.offset; bytes = l.bytes }),
+      same_form s (form.Bytes l) _ refl none (bytes_kept s l g o none) (bytes_again s l (not-false _ p.1.1.1.1.1.0) h),
+    )
+said_again s (form.At l) g o h none = (
+  at_line (record { address = l.address; length = l.length; ops = [] }),
+  same_form s (form.At l) _ refl none (at_kept s l o none) (at_again s l h.0 h.1),
+)
 said_again s (form.Op l) g o h none = op_said s l o h none
 said_again s form.End g o h none = (codes "end", same_form s form.End _ refl none (end_kept s o none) (end_again s))
 
@@ -191,12 +203,12 @@ pub record IsReread (s : PartialListing) : Type 0 where
   pub ordered : IsOrdered s
   pub clean : AllByRecursion IsLine (said_lines s)
   pub number : ℕ
-  pub read : advanced (Going 1 start) (said_lines s) ≡ Going number s
+  pub read : advanced step (Going 1 start) (said_lines s) ≡ Going number s
 
-advanced_more : (p : Progress) (lines : List Line) (line : Line)
-    → advanced p (lines ++ line ∷ []) ≡ advance (advanced p lines) line
+advanced_more : (p : Progress PartialListing Why) (lines : List Line) (line : Line)
+    → advanced step p (lines ++ line ∷ []) ≡ advance step (advanced step p lines) line
 advanced_more p [] line = refl
-advanced_more p (l ∷ lines) line = advanced_more (advance p l) lines line
+advanced_more p (l ∷ lines) line = advanced_more (advance step p l) lines line
 
 line_reread : (s t : PartialListing) (line : Line) → IsReread s → IsFormed t → IsSaidAgain s t line → IsReread t
 line_reread s t line h formed g = record {
@@ -204,12 +216,12 @@ line_reread s t line h formed g = record {
   ordered = g.kept.ordered;
   clean =
       subst (AllByRecursion IsLine) (sym g.kept.lines)
-        (all_append IsLine (said_lines s) (line ∷ []) h.clean (g.clean, tt));
+      (all_append IsLine (said_lines s) (line ∷ []) h.clean (g.clean, tt));
   number = h.number + 1;
   read =
-      ap (advanced (Going 1 start)) g.kept.lines
+      ap (advanced step (Going 1 start)) g.kept.lines
       ∙ advanced_more (Going 1 start) (said_lines s) line
-      ∙ ap (λ (p : Progress). advance p line) h.read
+      ∙ ap (λ (p : Progress PartialListing Why). advance step p line) h.read
       ∙ ap (moved h.number) g.said;
 }
 
@@ -224,25 +236,11 @@ step_reread s t line h = by_skip (is_skipped line)
     by_fault None is e =
         let again = said_again s f h.formed h.ordered (told s line) is in
         subst IsReread (goes_same _ _ e)
-          (line_reread s (after s f) again.0 h (kept s f h.formed (form_is s line) is) again.1)
+        (line_reread s (after s f) again.0 h (kept s f h.formed (form_is s line) is) again.1)
 
     by_skip : (b : Bool) → (if b then Goes s else step_by s f) ≡ Goes t → IsReread t
     by_skip true e = subst IsReread (goes_same _ _ e) h
     by_skip false e = by_fault (first_fault (faults s f)) refl e
-
-abbrev OfGoing : Progress → Type 0
-OfGoing (Going n s) = IsReread s
-OfGoing (Stopped fault) = Unit {0}
-
-lines_reread : (lines : List Line) (n : ℕ) (s : PartialListing) → IsReread s → OfGoing (advanced (Going n s) lines)
-lines_reread [] n s h = h
-lines_reread (line ∷ lines) n s h = by_step (λ t g. lines_reread lines (n + 1) t g) (step s line) refl
-  where
-    by_step : ((t : PartialListing) → IsReread t → OfGoing (advanced (Going (n + 1) t) lines)) → (st : Step)
-        → step s line ≡ st
-        → OfGoing (advanced (moved n st) lines)
-    by_step on (Goes t) e = on t (step_reread s t line h e)
-    by_step on (Fails w) e = subst OfGoing (sym (stays _ lines)) tt
 
 start_reread : IsReread start
 start_reread = record {
@@ -263,27 +261,32 @@ text_again : (s : PartialListing) (version : ℕ) (func : Function)
     → reading (text_of (listing_of s version func)) ≡ Good (listing_of s version func)
 text_again s version func e v f h =
     ap reading (text_is s version func e v f)
-      ∙ ap (λ (ls : List Line). concluded (advanced (Going 1 start) ls)) (lines_are (said_lines s) h.clean)
-      ∙ ap concluded h.read
+      ∙ ap (λ (ls : List Line). concluded fault_at finished (advanced step (Going 1 start) ls))
+        (lines_are (said_lines s) h.clean)
+      ∙ ap (concluded fault_at finished) h.read
     ∙ ap (λ (b : Bool). if b then whole s h.number s.version s.func else Bad (Syntax h.number)) e
     ∙ ap (λ (o : Option ℕ). whole s h.number o s.func) v ∙ ap (whole s h.number (Some version)) f
 
-pub read_again : (bytes : List ℕ) (l : Listing) → reading bytes ≡ Good l → reading (text_of l) ≡ Good l
-read_again bytes l =
-    by_progress (advanced (Going 1 start) (lines_of bytes)) (lines_reread (lines_of bytes) 1 start start_reread)
+end_again : (n : ℕ) (s : PartialListing) (l : Listing)
+    → IsReread s
+    → finished n s ≡ Good l
+    → reading (text_of l) ≡ Good l
+end_again n s l h = by_end s.ended s.version s.func refl refl refl
   where
-    by_end : (s : PartialListing) (n : ℕ) (over : Bool) (version : Option ℕ) (func : Option Function)
+    by_end : (over : Bool) (version : Option ℕ) (func : Option Function)
         → s.ended ≡ over
         → s.version ≡ version
         → s.func ≡ func
-        → IsReread s
-        → (if over then whole s n version func else Bad (Syntax n)) ≡ Good l → reading (text_of l) ≡ Good l
-    by_end s n false version func a b c h e = absurd (bad_not _ _ e)
-    by_end s n true None func a b c h e = absurd (bad_not _ _ e)
-    by_end s n true (Some v) None a b c h e = absurd (bad_not _ _ e)
-    by_end s n true (Some v) (Some g) a b c h e =
+        → (if over then whole s n version func else Bad (Syntax n)) ≡ Good l
+        → reading (text_of l) ≡ Good l
+    by_end false version func a b c e = absurd (bad_not _ _ e)
+    by_end true None func a b c e = absurd (bad_not _ _ e)
+    by_end true (Some v) None a b c e = absurd (bad_not _ _ e)
+    by_end true (Some v) (Some g) a b c e =
         subst (λ (m : Listing). reading (text_of m) ≡ Good m) (good_same _ _ e) (text_again s v g a b c h)
 
-    by_progress : (p : Progress) → OfGoing p → concluded p ≡ Good l → reading (text_of l) ≡ Good l
-    by_progress (Going n s) h e = by_end s n s.ended s.version s.func refl refl refl h e
-    by_progress (Stopped fault) h e = absurd (bad_not _ _ e)
+-- the canonical text of a listing that is read says that listing
+pub read_again : (bytes : List ℕ) (l : Listing) → reading bytes ≡ Good l → reading (text_of l) ≡ Good l
+read_again =
+    read_keeps step IsReread step_reread fault_at finished (λ l. reading (text_of l) ≡ Good l)
+    end_again start start_reread

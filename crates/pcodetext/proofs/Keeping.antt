@@ -19,7 +19,8 @@ use Rattle.pcodetext.specs.declared.form.OpLine.{OpLine}
 use Rattle.pcodetext.specs.declared.form.ProtoLine.{ProtoLine}
 use Rattle.pcodetext.specs.declared.form.SpaceLine.{SpaceLine}
 use Rattle.pcodetext.specs.declared.form.Written.{Written}
-use Rattle.pcodetext.specs.Faults.{faults, first_fault, is_empty, of_some}
+use Rattle.line_reader.specs.Faults.{first_fault}
+use Rattle.pcodetext.specs.Faults.{faults, is_empty, of_some}
 use Rattle.pcodetext.specs.Forms.{is_two}
 use Rattle.pcodetext.specs.Meaning.{after, varnode, with_op}
 use Rattle.pcodetext.specs.Tables.{proto_name, space_name}
@@ -28,7 +29,8 @@ use Rattle.pcodetext.proofs.FormIs.{IsForm, IsWritten, known_of}
 use Rattle.pcodetext.proofs.Formed.{IsFormed, KeepCode}
 use Rattle.pcodetext.proofs.Functions.{functions_more, functions_of_version, keep_callee, keep_func, no_functions}
 use Rattle.pcodetext.proofs.Instructions.{apart_more, apart_same, ops_op, total_more, total_op}
-use Rattle.pcodetext.proofs.Passing.{AllFalse, all_false, all_snoc, if_none, le_false, left_false, length_snoc, never, right_false, zero_false}
+use Rattle.line_reader.proofs.Faults.{AllFalse, all_false}
+use Rattle.pcodetext.proofs.Passing.{all_snoc, if_none, le_false, left_false, length_snoc, never, right_false, zero_false}
 use Rattle.pcodetext.proofs.Prototypes.{keep_proto, no_protos, proto_of}
 use Rattle.pcodetext.proofs.Ranges.{inputs_are, inputs_known, output_is, output_known, stack_is}
 use Rattle.pcodetext.proofs.ReadOnly.{keep_fixed, no_fixed}
@@ -47,6 +49,9 @@ not_both (Some x) e g = never g
 -- where there is a function, there is a prototype
 pub has_protos : (s : PartialListing) → IsFormed s → is_none s.func ≡ false → length s.protos ≡ 0 → ⊥
 has_protos s f some z = not_both s.func some (f.no_func z)
+
+le_snoc : {A : Type 0} (xs : List A) (y : A) → length xs ≤ length (xs ++ y ∷ [])
+le_snoc xs y = let one = length_snoc xs y in omega (arith, one)
 
 -- ---- the version
 
@@ -133,14 +138,12 @@ proto_kept s l f named h =
     let p : AllFalse (faults s (form.Proto l)) = all_false (faults s (form.Proto l)) h in
     let no_func : is_some s.func ≡ false = right_false _ _ p.1.0 in
     let e = f.early no_func in
-    let one = length_snoc s.protos (proto_of l) in
-    let more : length s.protos ≤ length (s.protos ++ proto_of l ∷ []) = omega (arith, one) in
     record {
       version = f.version;
       spaces = f.spaces;
       stack = f.stack;
       protos = keep_proto s l f.spaces.formed f.protos named p.0 (not-false _ (left_false _ _ p.1.0)) p.1.1.0 (others proto_name l.name s.protos p.1.1.1.0) (le_false _ _ p.1.1.1.1.0) p.1.1.1.1.1.0 p.1.1.1.1.1.1.0 p.1.1.1.1.1.1.1.0;
-      functions = functions_more (is_two s.version) s.spaces (length s.protos) _ s.func s.callees more f.functions;
+      functions = functions_more (is_two s.version) s.spaces (length s.protos) _ s.func s.callees (le_snoc s.protos (proto_of l)) f.functions;
       fixed = f.fixed;
       code = f.code;
       no_func = λ z. absurd (some_length s.protos _ z);

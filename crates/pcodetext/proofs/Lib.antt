@@ -2,7 +2,6 @@ pub mod Taken
 pub mod Tops
 pub mod Joining
 pub mod Reducing
-pub mod Failing
 pub mod Passing
 pub mod Instructions
 pub mod FormIs

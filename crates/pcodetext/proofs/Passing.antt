@@ -1,33 +1,15 @@
--- What follows where no test of a line's faults holds.
+-- What follows where a test doesn't hold, and lists that grow by one.
 use Rattle.std.proofs.Common.{◌≡◌, ◌<◌, ◌+◌, ℕ, Bool, true, false, List, [], ◌∷◌, ◌++◌, length, refl, arith}
 use Rattle.std.specs.Prelude.{◌==◌, ◌||◌, nat_le, Option, Some, None, IfSome, if◌then◌else◌}
 use Rattle.std.specs.List.{AllByRecursion}
 use Rattle.std.specs.Option.{is_some}
 use Rattle.std.proofs.lemmas.Bool.Decides.{nat_tests}
-use Rattle.pcodetext.specs.declared.fault.Why.{Why}
-use Rattle.pcodetext.specs.Faults.{first_fault}
 
 pub never : true ≡ false → ⊥
 never h = cc
 
 pub never_back : false ≡ true → ⊥
 never_back h = cc
-
--- no test of the list holds
-abbrev pub AllFalse : List (Bool × Why) → Type 0
-AllFalse [] = Unit {0}
-AllFalse (fault ∷ rest) = (fault.0 ≡ false) × AllFalse rest
-
-none_some : (v : Why) → ◌≡◌ {A = Option Why} (Some v) None → ⊥
-none_some v h = cc
-
-pub all_false : (fs : List (Bool × Why)) → first_fault fs ≡ None → AllFalse fs
-all_false [] h = tt
-all_false (fault ∷ rest) h = by_test fault.0 refl h (all_false rest)
-  where
-    by_test : (t : Bool) → fault.0 ≡ t → (if t then Some fault.1 else first_fault rest) ≡ None → (first_fault rest ≡ None → AllFalse rest) → (fault.0 ≡ false) × AllFalse rest
-    by_test true e g on = absurd (none_some fault.1 g)
-    by_test false e g on = (e, on g)
 
 pub left_false : (a b : Bool) → (a || b) ≡ false → a ≡ false
 left_false true b h = h
@@ -50,10 +32,6 @@ if_none P (Some a) h = absurd (never h)
 pub none_is : {A : Type 0} (o : Option A) → is_some o ≡ false → o ≡ None
 none_is None h = refl
 none_is (Some a) h = absurd (never h)
-
-pub nil_is : {A : Type 0} (xs : List A) → length xs ≡ 0 → xs ≡ []
-nil_is [] h = refl
-nil_is (x ∷ xs) h = absurd (omega arith)
 
 pub all_map : {A : Type 0} (P Q : A → Type 0) → ((a : A) → P a → Q a) → (xs : List A) → AllByRecursion P xs → AllByRecursion Q xs
 all_map P Q f [] h = tt

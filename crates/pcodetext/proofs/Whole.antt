@@ -2,7 +2,15 @@
 use Rattle.std.proofs.Common.{◌≡◌, ◌∙◌, ◌<◌, ◌+◌, ◌⊎◌, ℕ, Bool, true, false, List, [], ◌∷◌, ◌++◌, length, ap, sym, refl, arith, subst}
 use Rattle.std.specs.Prelude.{◌==◌, Option, Some, None, IfSome, IfOk, Result, Ok, Err, if◌then◌else◌}
 use Rattle.std.specs.Option.{is_none, is_some, option_to_list}
-use Rattle.listing_lines.specs.Text.{Line, lines_of}
+use Rattle.listing_lines.specs.Text.{Line}
+use Rattle.line_reader.specs.Faults.{first_fault}
+use Rattle.line_reader.specs.Reading.{concluded, progress}
+use Rattle.line_reader.specs.Reading.Progress.{Going}
+use Rattle.line_reader.specs.Reading.Read.{Bad, Good}
+use Rattle.line_reader.specs.Reading.Step.{Goes}
+use Rattle.line_reader.proofs.Faults.{fails_not, goes_same}
+use Rattle.line_reader.proofs.Kept.{read_keeps}
+pub use Rattle.line_reader.proofs.Kept.{bad_not, good_same}
 use Rattle.pcode_model.specs.declared.listing.Function.{Function}
 use Rattle.pcode_model.specs.declared.listing.Instruction.{Instruction}
 use Rattle.pcode_model.specs.declared.listing.Listing.{Listing}
@@ -12,49 +20,31 @@ use Rattle.pcodetext.specs.declared.fault.TextFault.{TextFault}
 use Rattle.pcodetext.specs.declared.fault.TextFault.TheVariants.{Syntax}
 use Rattle.pcodetext.specs.declared.fault.Why.{Why}
 use Rattle.pcodetext.specs.declared.form.Form.{Form}
-use Rattle.pcodetext.specs.Faults.{faults, first_fault}
+use Rattle.pcodetext.specs.Faults.{faults}
 use Rattle.pcodetext.specs.Forms.{form_of, is_two}
 use Rattle.pcodetext.specs.Tables.{function_address, function_name}
-use Rattle.pcodetext.specs.Meaning.{Progress, Step, advanced, after, concluded, finished, is_skipped, listing_of, moved, reading, start, step, step_by, stepped, whole}
-use Rattle.pcodetext.specs.Meaning.Progress.{Going, Stopped}
-use Rattle.pcodetext.specs.Meaning.Read.{Good, Bad}
-use Rattle.pcodetext.specs.Meaning.Step.{Fails, Goes}
-use Rattle.pcodetext.proofs.Failing.{stays}
+use Rattle.pcodetext.specs.Meaning.{after, fault_at, finished, is_skipped, listing_of, reading, start, step, step_by, stepped, whole}
 use Rattle.pcodetext.proofs.FormIs.{form_is}
 use Rattle.pcodetext.proofs.Formed.{IsFormed}
 use Rattle.pcodetext.proofs.Instructions.{few_ops}
 use Rattle.pcodetext.proofs.Keeping.{has_protos, kept}
-use Rattle.pcodetext.proofs.Passing.{never, nil_is}
+use Rattle.pcodetext.proofs.Passing.{never}
 use Rattle.pcodetext.proofs.Spaces.{keep_constant}
 
-pub goes_same : (s t : PartialListing) → Goes s ≡ Goes t → s ≡ t
-goes_same s t e = cc
-
-pub fails_not : (w : Why) (t : PartialListing) → Fails w ≡ Goes t → ⊥
-fails_not w t e = cc
-
-form_kept : (s t : PartialListing) (l : Form) (fault : Option Why) → first_fault (faults s l) ≡ fault → IsFormed s → (first_fault (faults s l) ≡ None → IsFormed (after s l)) → stepped s l fault ≡ Goes t → IsFormed t
-form_kept s t l None is f next e = subst IsFormed (goes_same _ _ e) (next is)
-form_kept s t l (Some w) is f next e = absurd (fails_not w t e)
+form_kept : (s t : PartialListing) (l : Form) (fault : Option Why)
+    → first_fault (faults s l) ≡ fault
+    → (first_fault (faults s l) ≡ None → IsFormed (after s l))
+    → stepped s l fault ≡ Goes t
+    → IsFormed t
+form_kept s t l None is next e = subst IsFormed (goes_same _ _ e) (next is)
+form_kept s t l (Some why) is next e = absurd (fails_not why t e)
 
 step_kept : (s t : PartialListing) (line : Line) → IsFormed s → step s line ≡ Goes t → IsFormed t
 step_kept s t line f = by_skip (is_skipped line)
   where
     by_skip : (b : Bool) → (if b then Goes s else step_by s (form_of s line)) ≡ Goes t → IsFormed t
     by_skip true e = subst IsFormed (goes_same _ _ e) f
-    by_skip false e = form_kept s t (form_of s line) _ refl f (kept s (form_of s line) f (form_is s line)) e
-
-abbrev OfGoing : Progress → Type 0
-OfGoing (Going n s) = IsFormed s
-OfGoing (Stopped fault) = Unit {0}
-
-lines_kept : (lines : List Line) (n : ℕ) (s : PartialListing) → IsFormed s → OfGoing (advanced (Going n s) lines)
-lines_kept [] n s f = f
-lines_kept (line ∷ lines) n s f = by_step (λ t g. lines_kept lines (n + 1) t g) (step s line) refl
-  where
-    by_step : ((t : PartialListing) → IsFormed t → OfGoing (advanced (Going (n + 1) t) lines)) → (st : Step) → step s line ≡ st → OfGoing (advanced (moved n st) lines)
-    by_step on (Goes t) e = on t (step_kept s t line f e)
-    by_step on (Fails w) e = subst OfGoing (sym (stays _ lines)) tt
+    by_skip false e = form_kept s t (form_of s line) _ refl (kept s (form_of s line) f (form_is s line)) e
 
 pub start_formed : IsFormed start
 start_formed = record {
@@ -129,28 +119,31 @@ module _ (s : PartialListing) (version : ℕ) (func : Function) (ended : s.ended
       positive : (n : ℕ) → (n ≡ 0 → ⊥) → 0 < n
       positive n h = omega (arith, h)
 
-pub good_same : (l m : Listing) → Good l ≡ Good m → l ≡ m
-good_same l m e = cc
-
-pub bad_not : (fault : TextFault) (l : Listing) → Bad fault ≡ Good l → ⊥
-bad_not fault l e = cc
-
-pub is_well_formed : (bytes : List ℕ) (l : Listing) → reading bytes ≡ Good l → IsWellFormed l
-is_well_formed bytes l = by_progress (advanced (Going 1 start) (lines_of bytes)) (lines_kept (lines_of bytes) 1 start start_formed)
+end_formed : (n : ℕ) (s : PartialListing) (l : Listing) → IsFormed s → finished n s ≡ Good l → IsWellFormed l
+end_formed n s l f = by_end s.ended s.version s.func refl refl refl
   where
-    by_end : (s : PartialListing) (n : ℕ) (ended : Bool) (version : Option ℕ) (func : Option Function) → s.ended ≡ ended → s.version ≡ version → s.func ≡ func → IsFormed s
-        → (if ended then whole s n version func else Bad (Syntax n)) ≡ Good l → IsWellFormed l
-    by_end s n false version func a b c f e = absurd (bad_not _ _ e)
-    by_end s n true None func a b c f e = absurd (bad_not _ _ e)
-    by_end s n true (Some v) None a b c f e = absurd (bad_not _ _ e)
-    by_end s n true (Some v) (Some g) a b c f e = subst IsWellFormed (good_same _ _ e) (listing_formed s v g a b c f)
+    by_end : (ended : Bool) (version : Option ℕ) (func : Option Function)
+        → s.ended ≡ ended
+        → s.version ≡ version
+        → s.func ≡ func
+        → (if ended then whole s n version func else Bad (Syntax n)) ≡ Good l
+        → IsWellFormed l
+    by_end false version func a b c e = absurd (bad_not _ _ e)
+    by_end true None func a b c e = absurd (bad_not _ _ e)
+    by_end true (Some v) None a b c e = absurd (bad_not _ _ e)
+    by_end true (Some v) (Some g) a b c e = subst IsWellFormed (good_same _ _ e) (listing_formed s v g a b c f)
 
-    by_progress : (p : Progress) → OfGoing p → concluded p ≡ Good l → IsWellFormed l
-    by_progress (Going n s) f e = by_end s n s.ended s.version s.func refl refl refl f e
-    by_progress (Stopped fault) f e = absurd (bad_not _ _ e)
+-- what a text says keeps to every rule of listings
+pub is_well_formed : (bytes : List ℕ) (l : Listing) → reading bytes ≡ Good l → IsWellFormed l
+is_well_formed = read_keeps step IsFormed step_kept fault_at finished IsWellFormed end_formed start start_formed
 
--- where no line is left
-pub read_at_end : (bytes rest : List ℕ) (n : ℕ) (s : PartialListing) (result : Result Listing TextFault) → reading bytes ≡ concluded (advanced (Going n s) (lines_of rest)) → length rest ≡ 0
-    → IfOk result (λ l. finished n s ≡ Good l) → IfOk result IsWellFormed
-read_at_end bytes rest n s (Ok l) same none good = is_well_formed bytes l (same ∙ ap (λ (r : List ℕ). concluded (advanced (Going n s) (lines_of r))) (nil_is rest none) ∙ good)
-read_at_end bytes rest n s (Err e) same none good = tt
+-- and so does what the end of a text gives, where the text is read from the start
+pub result_formed : (bytes : List ℕ) (begin s : PartialListing) (n : ℕ) (result : Result Listing TextFault)
+    → begin ≡ start
+    → progress step begin bytes ≡ Going n s
+    → IfOk result (λ l. finished n s ≡ Good l)
+    → IfOk result IsWellFormed
+result_formed bytes begin s n (Ok l) begins going good =
+    let P : PartialListing → Type 0 = λ b. progress step b bytes ≡ Going n s in
+    is_well_formed bytes l (ap (concluded fault_at finished) (subst P begins going) ∙ good)
+result_formed bytes begin s n (Err fault) begins going good = tt

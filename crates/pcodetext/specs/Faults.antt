@@ -208,8 +208,3 @@ faults s (form.Op l) = (is_none s.last || s.ended, why.Order)
     ∷ (nat_le 16384 s.ops, why.Range)
     ∷ (of_some is_empty l.out || list_any is_empty l.inputs, why.Range) ∷ []
 faults s form.End = (is_none s.last || s.ended, why.Order) ∷ []
-
--- the first whose test holds
-abbrev pub first_fault : List (Bool × Why) → Option Why
-first_fault [] = None
-first_fault (fault ∷ rest) = if fault.0 then Some fault.1 else first_fault rest

@@ -1,7 +1,12 @@
 -- What a line without a fault says, and what the whole text does.
 use Rattle.std.specs.Prelude.{◌==◌, ◌+◌, ◌%◌, ◌^◌, ℕ, Bool, true, false, List, [], ◌∷◌, ◌++◌, map, Option, Some, None, if◌then◌else◌}
 use Rattle.std.specs.Option.{option_map, option_to_list}
-use Rattle.listing_lines.specs.Text.{Line, lines_of}
+use Rattle.listing_lines.specs.Text.{Line}
+use Rattle.line_reader.specs.Faults.{first_fault}
+use Rattle.line_reader.specs.Reading.{Step, concluded, progress}
+use Rattle.line_reader.specs.Reading.Step.{Fails, Goes}
+pub use Rattle.line_reader.specs.Reading.{Read}
+pub use Rattle.line_reader.specs.Reading.Read.{Bad, Good}
 use Rattle.pcode_model.specs.declared.listing.Varnode.{Varnode}
 use Rattle.pcode_model.specs.declared.listing.Storage.{Storage}
 use Rattle.pcode_model.specs.declared.listing.Storage.TheVariants as storage
@@ -22,7 +27,7 @@ use Rattle.pcodetext.specs.declared.form.Named.TheVariants as named
 use Rattle.pcodetext.specs.declared.form.OpLine.{OpLine}
 use Rattle.pcodetext.specs.declared.form.Written.{Written}
 use Rattle.pcode_model.specs.WellFormed.{constant_space}
-use Rattle.pcodetext.specs.Faults.{faults, first_fault}
+use Rattle.pcodetext.specs.Faults.{faults}
 use Rattle.pcodetext.specs.Forms.{form_of}
 
 -- ---- what a line says
@@ -79,24 +84,19 @@ start = record { version = None; spaces = constant_space ∷ []; stack = None; p
 
 -- ---- a text, line by line
 
--- a line has a fault, or leads on
-pub data Step : Type 0 where
-  Fails : Why → Step
-  Goes : PartialListing → Step
-
 -- an empty line, and one that begins with `#`, which is 35
 abbrev pub is_skipped : Line → Bool
 is_skipped [] = true
 is_skipped (b ∷ line) = b == 35
 
-abbrev pub stepped : PartialListing → Form → Option Why → Step
+abbrev pub stepped : PartialListing → Form → Option Why → Step PartialListing Why
 stepped s form (Some why) = Fails why
 stepped s form None = Goes (after s form)
 
-abbrev pub step_by : PartialListing → Form → Step
+abbrev pub step_by : PartialListing → Form → Step PartialListing Why
 step_by s form = stepped s form (first_fault (faults s form))
 
-abbrev pub step : PartialListing → Line → Step
+abbrev pub step : PartialListing → Line → Step PartialListing Why
 step s line = if is_skipped line then Goes s else step_by s (form_of s line)
 
 -- the fault of the line with the number n
@@ -108,44 +108,19 @@ fault_at n why.Unknown = text_fault.Unknown n
 fault_at n why.Duplicate = text_fault.Duplicate n
 fault_at n why.Range = text_fault.Range n
 
--- what a text says, or the first fault of its least faulty line
-pub data Read : Type 0 where
-  Good : Listing → Read
-  Bad : TextFault → Read
-
--- the number of the next line and what was said, or the first fault
-pub data Progress : Type 0 where
-  Going : ℕ → PartialListing → Progress
-  Stopped : TextFault → Progress
-
-abbrev pub moved : ℕ → Step → Progress
-moved n (Fails why) = Stopped (fault_at n why)
-moved n (Goes s) = Going (n + 1) s
-
-abbrev pub advance : Progress → Line → Progress
-advance (Going n s) line = moved n (step s line)
-advance (Stopped fault) line = Stopped fault
-
-abbrev pub advanced : Progress → List Line → Progress
-advanced p [] = p
-advanced p (line ∷ lines) = advanced (advance p line) lines
-
 abbrev pub listing_of : PartialListing → ℕ → Function → Listing
 listing_of s version func = record { version = version; spaces = s.spaces; stack = s.stack; protos = s.protos; func = func; callees = s.callees; fixed = s.fixed; code = s.done ++ option_to_list s.last }
 
 -- where a text has its `end`, it has a version and a function
-abbrev pub whole : PartialListing → ℕ → Option ℕ → Option Function → Read
+abbrev pub whole : PartialListing → ℕ → Option ℕ → Option Function → Read Listing TextFault
 whole s n None func = Bad (text_fault.Syntax n)
 whole s n (Some version) None = Bad (text_fault.Syntax n)
 whole s n (Some version) (Some func) = Good (listing_of s version func)
 
 -- where the input ends, n being one more than the number of its lines
-abbrev pub finished : ℕ → PartialListing → Read
+abbrev pub finished : ℕ → PartialListing → Read Listing TextFault
 finished n s = if s.ended then whole s n s.version s.func else Bad (text_fault.Syntax n)
 
-abbrev pub concluded : Progress → Read
-concluded (Going n s) = finished n s
-concluded (Stopped fault) = Bad fault
-
-abbrev pub reading : List ℕ → Read
-reading bytes = concluded (advanced (Going 1 start) (lines_of bytes))
+-- what a text says, or the first fault of its least faulty line
+abbrev pub reading : List ℕ → Read Listing TextFault
+reading bytes = concluded fault_at finished (progress step start bytes)

@@ -1,9 +1,5 @@
 //! What is wrong with a text.
 
-ghost use Rattle.std.specs.Prelude.{◌≡◌};
-
-use std::alloc::AllocError;
-
 /// What is wrong with a line.
 #[derive(Clone, Copy, Debug, PartialEq, Eq)]
 pub enum Why {
@@ -21,6 +17,9 @@ pub enum Why {
     Range,
 }
 
+/// What is wrong with a line, or want of memory.
+pub type LineFault = line_reader::LineFault<Why>;
+
 /// The first fault of the least faulty line, with the number of that line, from 1 on.
 #[derive(Clone, Copy, Debug, PartialEq, Eq)]
 pub enum TextFault {
@@ -32,21 +31,4 @@ pub enum TextFault {
     Order(u32),
     /// Memory ran out.
     Memory,
-}
-
-/// What is wrong with a line, or want of memory.
-#[derive(Clone, Copy, Debug, PartialEq, Eq)]
-pub enum LineFault {
-    Fault(Why),
-    Memory,
-}
-
-impl From<AllocError> for LineFault {
-    ghost use Rattle.pcodetext.specs.declared.fault.LineFault.TheVariants.{Memory};
-
-    ghost from_gives = { λ _ e. e ≡ Memory };
-
-    fn from(_refused: AllocError) -> LineFault {
-        LineFault::Memory
-    }
 }

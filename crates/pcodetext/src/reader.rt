@@ -1,16 +1,37 @@
 //! Reading a text, line by line.
 
-ghost use Rattle.std.specs.Prelude.{◌≡◌, ◌≤◌, ◌-◌, ◌^◌, length, IfErr, IfOk};
+ghost use Rattle.std.specs.Prelude.{◌≡◌, ◌≤◌, ◌-◌, ◌^◌, length, ⊤, IfErr, IfOk};
+ghost use Rattle.line_reader.specs.Answer.{IsStopOf};
+ghost use Rattle.line_reader.specs.Reading.{Progress, concluded};
+ghost use Rattle.line_reader.specs.Reading.Read.{Good};
 ghost use Rattle.pcode_model.specs.WellFormed.{IsWellFormed};
-ghost use Rattle.pcodetext.specs.Meaning.{fault_at, finished, reading};
-ghost use Rattle.pcodetext.specs.Meaning.Read.{Good};
-ghost use Rattle.pcodetext.specs.Reader.{IsFaultOf, placed};
+ghost use Rattle.pcodetext.specs.Meaning.{fault_at, finished, reading, step};
+ghost use Rattle.pcodetext.specs.Reader.{IsFaultOf};
 
 use crate::fault::{LineFault, TextFault, Why};
 use crate::partial_listing::PartialListing;
-use listing_lines::split_line;
+use line_reader::{LineReader, Stop, read_lines};
 use pcode_model::{Function, Listing};
 use std::alloc::Global;
+
+/// What the lines of a listing are read by.
+#[derive(Drop)]
+pub struct ListingReader {
+    pub alloc: Global,
+}
+
+impl LineReader for ListingReader {
+    type State = PartialListing;
+    type Why = Why;
+
+    ghost can_read = { λ _. ⊤ };
+
+    ghost step_of = { λ _. step };
+
+    fn step(&self, state: &mut PartialListing, line: &[u8]) -> Result<(), LineFault> {
+        state.step(self.alloc, line)
+    }
+}
 
 /// The listing that a text stands for. Otherwise the first fault of its least faulty line, with the number of that
 /// line: Syntax, with the number of lines plus 1, where the text ends before `end`.
@@ -24,18 +45,11 @@ pub fn read_listing(alloc: Global, bytes: &[u8]) -> Result<Listing, TextFault>
         Ok(said) => said,
         Err(_) => return Err(TextFault::Memory),
     };
-    let mut number = 1u32;
-    let mut rest = bytes;
-    while !rest.is_empty() {
-        let (line, after) = split_line(rest);
-        match said.step(alloc, line) {
-            Ok(()) => {}
-            Err(fault) => return Err(fault.at(number)),
-        }
-        rest = after;
-        number += 1;
+    let reader = ListingReader { alloc };
+    match read_lines(&reader, &mut said, bytes) {
+        Ok(number) => finish(said, number),
+        Err(stop) => Err(stop_fault(stop)),
     }
-    finish(said, number)
 }
 
 // The listing, where the text has its `end`; `number` is one more than the number of lines. What can fail is done
@@ -93,30 +107,17 @@ impl PartialListing {
     }
 }
 
-impl Why {
-    // The fault of the line with this number.
-    fn at(self, number: u32) -> TextFault
-        ensures { result ≡ fault_at number self }
-    {
-        match self {
-            Why::Version => TextFault::Version(number),
-            Why::Syntax => TextFault::Syntax(number),
-            Why::Order => TextFault::Order(number),
-            Why::Unknown => TextFault::Unknown(number),
-            Why::Duplicate => TextFault::Duplicate(number),
-            Why::Range => TextFault::Range(number),
-        }
-    }
-}
-
-impl LineFault {
-    // The fault of the line with this number.
-    fn at(self, number: u32) -> TextFault
-        ensures { result ≡ placed self number }
-    {
-        match self {
-            LineFault::Fault(why) => why.at(number),
-            LineFault::Memory => TextFault::Memory,
-        }
+// The fault of the line where a text stops.
+fn stop_fault(stop: Stop<Why>) -> TextFault
+    ensures { (p : Progress PartialListing Why) → IsStopOf p stop → IsFaultOf (concluded fault_at finished p) result }
+{
+    match stop.fault {
+        LineFault::Fault(Why::Version) => TextFault::Version(stop.line),
+        LineFault::Fault(Why::Syntax) => TextFault::Syntax(stop.line),
+        LineFault::Fault(Why::Order) => TextFault::Order(stop.line),
+        LineFault::Fault(Why::Unknown) => TextFault::Unknown(stop.line),
+        LineFault::Fault(Why::Duplicate) => TextFault::Duplicate(stop.line),
+        LineFault::Fault(Why::Range) => TextFault::Range(stop.line),
+        LineFault::Memory => TextFault::Memory,
     }
 }

@@ -2,10 +2,10 @@
 
 ghost use Rattle.std.specs.Prelude.{◌≡◌, IfOk};
 ghost use Rattle.std.specs.List.{list_any};
+ghost use Rattle.line_reader.specs.Answer.{Does};
 ghost use Rattle.pcode_model.specs.Spaces.{address_bytes};
 ghost use Rattle.pcodetext.specs.Faults.{is_behind, is_complete, is_late, is_misplaced, is_outside, is_taken, is_taken_by, of_some};
 ghost use Rattle.pcodetext.specs.Meaning.{function_of, is_skipped, start, step, step_by};
-ghost use Rattle.pcodetext.specs.Reader.{Does};
 
 use crate::callees::CalleeTable;
 use crate::checks::{

@@ -5,10 +5,14 @@ use Rattle.cread.specs.Statements.{statement_at, spaced_by, arm_by}
 use Rattle.cread.proofs.statements.+lines.Given as goal
 
 abbrev pub invariant-body-loop : goal.invariant-body-loop
-invariant-body-loop l = behind l.found (many_by (spaced_by l.arm (statement_at (scope_of l.f) l.levels)) (l.end - l.counter) l.rest) ≡ many_by (spaced_by l.arm (statement_at (scope_of l.f) l.levels)) (length l.bytes) l.bytes
+invariant-body-loop l = behind l.found
+    (many_by (spaced_by l.arm (statement_at (scope_of l.f) l.levels)) (l.end - l.counter) l.rest)
+    ≡ many_by (spaced_by l.arm (statement_at (scope_of l.f) l.levels)) (length l.bytes) l.bytes
 
 abbrev pub invariant-arms-loop : goal.invariant-arms-loop
-invariant-arms-loop l = behind l.found (many_by (arm_by (statement_at (scope_of l.f) l.levels)) (l.end - l.counter) l.rest) ≡ many_by (arm_by (statement_at (scope_of l.f) l.levels)) (length l.bytes) l.bytes
+invariant-arms-loop l = behind l.found
+    (many_by (arm_by (statement_at (scope_of l.f) l.levels)) (l.end - l.counter) l.rest)
+    ≡ many_by (arm_by (statement_at (scope_of l.f) l.levels)) (length l.bytes) l.bytes
 
 abbrev pub decreases-statement : goal.decreases-statement
 decreases-statement l = 10 * l.levels
