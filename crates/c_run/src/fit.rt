@@ -62,7 +62,7 @@ fn width_in(f: &CFunction, v: u32) -> u8
 }
 
 #[cycle(fits)]
-#[tactic(auto, unfolding(crate::specs::Fits::stmt_fits))]
+#[tactic(auto, unfolding(cmeaning::specs::Fits::stmt_fits))]
 fn stmt_fits(listing: &Listing, f: &CFunction, s: &Stmt) -> bool
     ensures { result ≡ fits_stmt listing.now (widths_in f.now) s.now }
 {
@@ -97,7 +97,7 @@ fn body_fits(listing: &Listing, f: &CFunction, body: &[Stmt]) -> bool
 }
 
 #[cycle(fits)]
-#[tactic(auto, unfolding(crate::specs::Fits::stmt_fits, crate::specs::Fits::arm_fits))]
+#[tactic(auto, unfolding(cmeaning::specs::Fits::stmt_fits, cmeaning::specs::Fits::arm_fits))]
 fn arm_fits(listing: &Listing, f: &CFunction, arm: &Arm) -> bool
     ensures { result ≡ fits_arm listing.now (widths_in f.now) arm.now }
 {
