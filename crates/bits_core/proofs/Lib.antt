@@ -3,3 +3,4 @@ pub mod Signed
 pub mod Machine
 pub mod Operations
 pub mod Division
+pub mod Words

@@ -17,7 +17,6 @@ use Rattle.pcode_model.specs.Spaces.{size_of}
 use Rattle.pcode_model.specs.Step.{bytes_in}
 use Rattle.cmeaning.specs.Value.{width_of, value_of}
 use Rattle.cmeaning.specs.Do.{Local, in_world, with_word, with_words, values_of, assigned, loaded, divide_of, stored, answered, asks, called, divided, do_layer, do_simple, accessed}
-use Rattle.cmeaning.specs.Flat.{Test, Jump}
 use Rattle.cmeaning.specs.Step.{tested}
 use Rattle.blockcode.specs.declared.code.Arm.{Arm}
 use Rattle.blockcode.specs.declared.code.Block.{Block}
@@ -149,6 +148,7 @@ code_at : (over : Option End) (s t : CodeState)
 code_at None s t e h = front_of_going (shown s.local.world) (shown t.local.world) e h
 code_at (Some x) s t e h = front_refl (shown s.local.world)
 
+-- What the run of a code has shown only grows.
 pub code_grows : (l : Listing) (k : Code) → IsMonotone (code_machine l k)
 code_grows l k s = code_at s.local.world.over s (pass_in l (widths k.variables) (slice_get k.blocks s.block) s) refl
     (adds_in l (widths k.variables) (slice_get k.blocks s.block) s)

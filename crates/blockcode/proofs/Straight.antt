@@ -12,11 +12,13 @@ use Rattle.blockcode.specs.declared.code.Block.{Block}
 use Rattle.blockcode.specs.declared.code.Code.{Code}
 use Rattle.blockcode.specs.Run.{CodeState, at, widths, call_returns, pass, pass_in, code_step}
 
+-- What is left behind the first ones begins with the next one.
 pub dropped : {A : Type 0} (xs : List A) (n : ℕ) (x : A) → slice_get xs n ≡ Some x → drop n xs ≡ x ∷ drop (suc n) xs
 dropped [] n x e = absurd (cc)
 dropped (y ∷ ys) zero x e = cc
 dropped (y ∷ ys) (suc n) x e = dropped ys n x e
 
+-- The first of what is left is the one at that place.
 pub get_of_drop : {A : Type 0} (xs : List A) (n : ℕ) (x : A) (rest : List A)
     → drop n xs ≡ x ∷ rest
     → slice_get xs n ≡ Some x
@@ -25,6 +27,7 @@ get_of_drop [] (suc n) x rest e = absurd (cc)
 get_of_drop (y ∷ ys) zero x rest e = cc
 get_of_drop (y ∷ ys) (suc n) x rest e = get_of_drop ys n x rest e
 
+-- And behind it is what is left behind one more.
 pub rest_of_drop : {A : Type 0} (xs : List A) (n : ℕ) (x : A) (rest : List A)
     → drop n xs ≡ x ∷ rest
     → drop (suc n) xs ≡ rest

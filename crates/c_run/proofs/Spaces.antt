@@ -1,6 +1,6 @@
 -- The spaces of a well-formed listing.
-use Rattle.std.proofs.Common.{◌≡◌, ℕ, suc, ◌+◌, ◌<◌, ◌≤◌, ◌^◌, ◌&&◌, not, Bool, true, false, cond, List, [], ◌∷◌, Option, Some, None, refl, ap, ◌∙◌, arith}
-use Rattle.std.specs.Prelude.{slice_get, nat_lt}
+use Rattle.std.proofs.Common.{◌≡◌, ℕ, suc, ◌+◌, ◌<◌, ◌≤◌, ◌^◌, ◌&&◌, not, Bool, true, false, cond, List, [], ◌∷◌, Option, Some, None, refl, ap, ◌∙◌, arith, subst}
+use Rattle.std.specs.Prelude.{IfSome, nat_lt, slice_get}
 use Rattle.std.proofs.lemmas.Bool.Decides.{nat_tests}
 use Rattle.pcode_model.specs.declared.listing.Listing.{Listing}
 use Rattle.pcode_model.specs.declared.listing.Space.{Space}
@@ -8,7 +8,7 @@ use Rattle.pcode_model.specs.declared.listing.SpaceKind.{SpaceKind}
 use Rattle.pcode_model.specs.declared.listing.SpaceKind.TheVariants.{Constant, Ram, Register, Unique}
 use Rattle.pcode_model.specs.declared.listing.Varnode.{Varnode}
 use Rattle.pcode_model.specs.Spaces.{first_ram, kind_in, kind_of, number_of, register_space, same_kind, size_of, unique_space}
-use Rattle.pcode_model.specs.WellFormed.{IsRegister, IsWellFormed, how_many}
+use Rattle.pcode_model.specs.WellFormed.{IsRegister, IsStackPointer, IsWellFormed, how_many}
 use Rattle.cmeaning.specs.Do.{accessed, space_named}
 use Rattle.run_world.specs.Setting.{HasShape}
 use Rattle.run_world.specs.declared.shape.Shape.{Shape}
@@ -65,6 +65,13 @@ uniques_small l formed = small_of l (unique_space l) Unique formed (first_is Uni
 
 pub register_small : (l : Listing) (v : Varnode) → IsWellFormed l → IsRegister l.spaces v → size_of l v.space ≤ 2 ^ 64
 register_small l v formed is = small_of l v.space Register formed (same_is Register (kind_of l v.space) is.kind) refl
+
+-- the stack pointer, where there is one, is a range of registers
+pub stack_register : (l : Listing) (v : Varnode) → IsWellFormed l → l.stack ≡ Some v → IsRegister l.spaces v
+stack_register l v formed e =
+    let P : Option Varnode → Type 0 = λ x. IfSome x (IsStackPointer l.spaces) in
+    let is : IsStackPointer l.spaces v = subst P e formed.stack in
+    is.register
 
 -- ranges
 pub inside : (l : Listing) (space offset count : ℕ) → lies_in l space offset count ≡ true → offset + count ≤ size_of l space

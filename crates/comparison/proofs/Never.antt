@@ -27,7 +27,8 @@ prefix_either : (xs ys zs : List Event) → IsPrefix xs zs → IsPrefix ys zs �
 prefix_either [] ys zs p q = inl (ys, refl)
 prefix_either (x ∷ xs) [] zs p q = inr (x ∷ xs, refl)
 prefix_either (x ∷ xs) (y ∷ ys) [] (r, e) q = absurd (nil_not x (xs ++ r) e)
-prefix_either (x ∷ xs) (y ∷ ys) (z ∷ zs) (r, e) (q, f) = heads (prefix_either xs ys zs (r, tail_is z x zs (xs ++ r) e) (q, tail_is z y zs (ys ++ q) f))
+prefix_either (x ∷ xs) (y ∷ ys) (z ∷ zs) (r, e) (q, f) =
+    heads (prefix_either xs ys zs (r, tail_is z x zs (xs ++ r) e) (q, tail_is z y zs (ys ++ q) f))
   where
     same : x ≡ y
     same = sym (head_is z x zs (xs ++ r) e) ∙ head_is z y zs (ys ++ q) f
@@ -84,7 +85,8 @@ by_events s t u e p (inl f) = by_over t.over refl (prefix_either s.events t.even
     by_over : (o : Option End) → t.over ≡ o → IsPrefix s.events t.events ⊎ IsPrefix t.events s.events → Comparable s t
     by_over o is (inl q) = inl (going s t e q)
     by_over None is (inr q) = inr (going t s is q)
-    by_over (Some x) is (inr q) = inl (going s t e (subst (λ (v : Trace). IsPrefix s.events v.events) (sym (front_of_over t u x is f)) p))
+    by_over (Some x) is (inr q) = inl
+        (going s t e (subst (λ (v : Trace). IsPrefix s.events v.events) (sym (front_of_over t u x is f)) p))
 
 -- a front, and a front of a trace that goes on from it
 by_front : (s t u : Trace) → IsLooseFront s u → IsFront t u ⊎ IsFront u t → Comparable s t
@@ -97,7 +99,8 @@ by_front s t u h f = by_over s.over refl
     ended x is (inl g) = by_target t.over refl
       where
         by_target : (o : Option End) → t.over ≡ o → Comparable s t
-        by_target None e = inr (going t s e (subst (IsPrefix t.events) (sym (at (Some x) is).0) (prefix_of_front t u g)))
+        by_target None e = inr (going t s e
+            (subst (IsPrefix t.events) (sym (at (Some x) is).0) (prefix_of_front t u g)))
         by_target (Some y) e = inl (subst (IsLooseFront s) (sym (front_of_over t u y e g)) h)
     ended x is (inr g) = by_target u.over refl
       where
@@ -118,23 +121,28 @@ fronts r grows n k = by (nat_le n k) refl
     by true e = inl (grown r grows n k (grind (arith, nat_tests)))
     by false e = inr (grown r grows k n (grind (arith, nat_tests)))
 
-module _ (gives : Bool) (source target : ℕ → Trace) (grows : Grows source) (on : Grows target) (inside : NeverEnds Outside target) (agree : Agree gives source target) (n : ℕ) where
+module _ (gives : Bool) (source target : ℕ → Trace) (grows : Grows source) (on : Grows target)
+    (inside : NeverEnds Outside target) (agree : Agree gives source target) (n : ℕ) where
   target_is : within (target n) ≡ target n
   target_is = within_is (target n) (inside n)
 
   -- where the source ends Outside, what it shows before then is shown
-  left_none : (m : ℕ) → (source m).over ≡ Some Outside → (left_away (source n).over ≡ None) × IsPrefix (source n).events (source m).events
+  left_none : (m : ℕ)
+      → (source m).over ≡ Some Outside
+      → (left_away (source n).over ≡ None) × IsPrefix (source n).events (source m).events
   left_none m out = by_front_of (fronts source grows n m)
     where
       ended : (o : Option End) → (source n).over ≡ o → IsFront (source n) (source m) → left_away (source n).over ≡ None
       ended None is f = ap left_away is
       ended (Some e) is f = ap left_away (ap (λ (v : Trace). v.over) (front_of_over (source n) (source m) e is f) ∙ out)
 
-      by_front_of : IsFront (source n) (source m) ⊎ IsFront (source m) (source n) → (left_away (source n).over ≡ None) × IsPrefix (source n).events (source m).events
+      by_front_of : IsFront (source n) (source m) ⊎ IsFront (source m) (source n)
+          → (left_away (source n).over ≡ None) × IsPrefix (source n).events (source m).events
       by_front_of (inl f) = (ended (source n).over refl f, prefix_of_front (source n) (source m) f)
       by_front_of (inr f) =
           let same : source m ≡ source n = front_of_over (source m) (source n) Outside out f in
-          (ap left_away (sym (ap (λ (v : Trace). v.over) same) ∙ out), subst (λ (v : Trace). IsPrefix v.events (source m).events) same ([], sym_append (source m).events))
+          (ap left_away (sym (ap (λ (v : Trace). v.over) same) ∙ out), subst
+              (λ (v : Trace). IsPrefix v.events (source m).events) same ([], sym_append (source m).events))
         where
           sym_append : (xs : List Event) → xs ≡ xs ++ []
           sym_append [] = refl
@@ -144,17 +152,21 @@ module _ (gives : Bool) (source target : ℕ → Trace) (grows : Grows source) (
   out_comparable m out =
       let so = left_none m out in
       let shown = agree.until m out in
-      by_events (within (source n)) (target n) (target shown.0) so.0 (prefix_trans (source n).events (source m).events (target shown.0).events so.1 shown.1) (fronts target on n shown.0)
+      by_events (within (source n)) (target n) (target shown.0) so.0
+          (prefix_trans (source n).events (source m).events (target shown.0).events so.1 shown.1)
+              (fronts target on n shown.0)
 
   comparable : NeverEnds Outside source → Comparable (within (source n)) (target n)
   comparable never =
       let both : LooseTwoWay source target = loose_two_way_as gives source target (agree.same never) in
       let there = both.there n in
-      subst (λ (s : Trace). Comparable s (target n)) (sym (within_is (source n) (never n))) (by_front (source n) (target n) (target there.0) there.1 (fronts target on n there.0))
+      subst (λ (s : Trace). Comparable s (target n)) (sym (within_is (source n) (never n)))
+          (by_front (source n) (target n) (target there.0) there.1 (fronts target on n there.0))
 
   -- what one run shows after n steps is a front of what the other shows, or the other way round
   pub never_apart : Says (within (source n)) (within (target n)) Apart → ⊥
-  never_apart apart = apart_not (within (source n)) (target n) (comparable (λ m out. apart_not (within (source n)) (target n) (out_comparable m out) at_target)) at_target
+  never_apart apart = apart_not (within (source n)) (target n)
+      (comparable (λ m out. apart_not (within (source n)) (target n) (out_comparable m out) at_target)) at_target
     where
       at_target : Says (within (source n)) (target n) Apart
       at_target = subst (λ (t : Trace). Says (within (source n)) t Apart) target_is apart

@@ -1,5 +1,5 @@
 -- The declarations of callees, parameters and locals are read again.
-use Rattle.std.proofs.Common.{◌≡◌, ℕ, zero, suc, ◌+◌, ◌*◌, ◌/◌, ◌%◌, ◌^◌, ◌<◌, ◌≤◌, Bool, true, false, eqb, leb, ◌&&◌, List, [], ◌∷◌, ◌++◌, length, Option, Some, None, refl, ap, ◌∙◌, subst, arith, append_assoc, length-append, inl, inr}
+use Rattle.std.proofs.Common.{◌≡◌, ℕ, zero, suc, ◌+◌, ◌*◌, ◌/◌, ◌%◌, ◌^◌, ◌<◌, ◌≤◌, Bool, true, false, eqb, ◌&&◌, List, [], ◌∷◌, ◌++◌, length, Option, Some, None, refl, ap, ◌∙◌, subst, arith, append_assoc, length-append, inl, inr}
 use Rattle.std.specs.Prelude.{codes, map}
 use Rattle.std.specs.Char.{is_digit, digit_value}
 use Rattle.std.specs.Fmt.{decimal, digits, digits_onto, digit_glyph}
@@ -12,12 +12,13 @@ use Rattle.cmeaning.specs.declared.tree.CName.TheVariants.{Declared, Bare}
 use Rattle.cmeaning.specs.declared.tree.CalleeDecl.{CalleeDecl}
 use Rattle.cmeaning.specs.declared.tree.Local.{Local}
 use Rattle.cmeaning.specs.declared.tree.Param.{Param}
-use Rattle.cmeaning.specs.Valid.{begins_well, all_letters_or_digits, is_long, is_storage, precedes_all, are_params, is_callee_name, result_fits, is_callee, is_apart_from, are_callees}
+use Rattle.cmeaning.specs.Valid.{is_long, is_storage, precedes_all, are_params, is_callee_name, result_fits, is_callee, is_apart_from, are_callees}
+use Rattle.cmeaning.proofs.Names.{name_bytes}
 use Rattle.ctext.specs.Names.{hex, type_text, unsigned_type, result_type, separated_or_void, further, param_name, local_name, callee_name}
 use Rattle.ctext.specs.Text.{width_types, returns_mark, callee_head, address_text, callee_line, callee_lines, param_text, local_lines}
 use Rattle.cread.specs.Words.{◌>>=◌, after, number_from, decimal_at, many_by}
 use Rattle.cread.specs.Names.{type_at}
-use Rattle.cread.specs.Functions.{result_at, callee_name_at, marked_by, no_return_mark, head_at, width_at, further_width, widths_at, callee_at, callees_at, param_at, further_param, params_at, local_at, locals_at}
+use Rattle.cread.specs.Functions.{result_at, callee_name_at, marked_by, no_return_mark, head_at, width_at, further_width, widths_at, tail_at, callee_at, callees_at, param_at, further_param, params_at, local_at, locals_at}
 use Rattle.cread.proofs.Fronts.{hex_again, name_again}
 use Rattle.cread.proofs.Naming.{IsEnd, stop_of, stop_decimal, entry_again}
 use Rattle.cread.proofs.Widths.{type_again, width_again}
@@ -35,27 +36,36 @@ type_stop a_space = refl
 type_stop (of_end end) = stop_decimal (stop_of end)
 
 -- a width behind its type
-typed : (w : Width) (c : ℕ) (rest : List ℕ) → IsTypeEnd c → type_at (unsigned_type w.bytes ++ c ∷ rest) ≡ Some (record { width = w; signed = false }, c ∷ rest)
+typed : (w : Width) (c : ℕ) (rest : List ℕ)
+    → IsTypeEnd c
+    → type_at (unsigned_type w.bytes ++ c ∷ rest) ≡ Some (record { width = w; signed = false }, c ∷ rest)
 typed w c rest stop =
     let most = w.to in
-    type_again false w.bytes c rest (omega arith) (type_stop stop) ∙ ap (λ (v : Width). Some (record { width = v; signed = false }, c ∷ rest)) (width_again w)
+    type_again false w.bytes c rest (omega arith) (type_stop stop)
+    ∙ ap (λ (v : Width). Some (record { width = v; signed = false }, c ∷ rest)) (width_again w)
 
-result_again : (gives : Option Width) (rest : List ℕ) → result_at (result_type gives ++ 32 ∷ rest) ≡ Some (gives, 32 ∷ rest)
+result_again : (gives : Option Width) (rest : List ℕ)
+    → result_at (result_type gives ++ 32 ∷ rest) ≡ Some (gives, 32 ∷ rest)
 unfolding after
 result_again None rest = refl
 result_again (Some w) rest = let t = typed w 32 rest a_space in rw t refl
 
-name_read : (name : CName) (address : ℕ) (rest : List ℕ) → is_callee_name name ≡ true → address < 2 ^ 128 → callee_name_at (callee_name name address ++ 40 ∷ rest) ≡ Some (name, 40 ∷ rest)
+name_read : (name : CName) (address : ℕ) (rest : List ℕ)
+    → is_callee_name name ≡ true
+    → address < 2 ^ 128
+    → callee_name_at (callee_name name address ++ 40 ∷ rest) ≡ Some (name, 40 ∷ rest)
 unfolding after
 name_read (Declared n) address rest good low =
-    let form_ok = and_parts (begins_well n) (all_letters_or_digits n && leb (length n) 64) good in
-    let letters = (and_parts (all_letters_or_digits n) (leb (length n) 64) form_ok.1).0 in
+    let letters = name_bytes n good in
     let one = name_again n 40 rest letters refl in
     rw one refl
 name_read Bare address rest good low = let one = hex_again address 40 rest low refl in rw one refl
 
-marked_again : (returns : Bool) (gives : Option Width) (name : CName) (address : ℕ) (rest : List ℕ) → is_callee_name name ≡ true → address < 2 ^ 128
-    → marked_by returns (result_type gives ++ 32 ∷ (callee_name name address ++ 40 ∷ rest)) ≡ Some (record { returns = returns; gives = gives; name = name }, rest)
+marked_again : (returns : Bool) (gives : Option Width) (name : CName) (address : ℕ) (rest : List ℕ)
+    → is_callee_name name ≡ true
+    → address < 2 ^ 128
+    → marked_by returns (result_type gives ++ 32 ∷ (callee_name name address ++ 40 ∷ rest))
+    ≡ Some (record { returns = returns; gives = gives; name = name }, rest)
 unfolding after
 marked_again returns gives name address rest good low =
     let one = result_again gives (callee_name name address ++ 40 ∷ rest) in
@@ -67,8 +77,11 @@ unfolding after no_return_mark
 no_mark None rest = refl
 no_mark (Some w) rest = refl
 
-pub head_again : (returns : Bool) (gives : Option Width) (name : CName) (address : ℕ) (rest : List ℕ) → is_callee_name name ≡ true → address < 2 ^ 128
-    → head_at (returns_mark returns ++ (result_type gives ++ 32 ∷ (callee_name name address ++ 40 ∷ rest))) ≡ Some (record { returns = returns; gives = gives; name = name }, rest)
+pub head_again : (returns : Bool) (gives : Option Width) (name : CName) (address : ℕ) (rest : List ℕ)
+    → is_callee_name name ≡ true
+    → address < 2 ^ 128
+    → head_at (returns_mark returns ++ (result_type gives ++ 32 ∷ (callee_name name address ++ 40 ∷ rest)))
+    ≡ Some (record { returns = returns; gives = gives; name = name }, rest)
 unfolding head_at after no_return_mark
 head_again true gives name address rest good low =
     let gap = no_mark gives (32 ∷ (callee_name name address ++ 40 ∷ rest)) in
@@ -77,7 +90,10 @@ head_again false gives name address rest good low = marked_again false gives nam
 
 -- ---- callees
 
-width_again_at : (w : Width) (c : ℕ) (rest : List ℕ) → Unit {0} → IsEnd c → width_at (unsigned_type w.bytes ++ c ∷ rest) ≡ Some (w, c ∷ rest)
+width_again_at : (w : Width) (c : ℕ) (rest : List ℕ)
+    → Unit {0}
+    → IsEnd c
+    → width_at (unsigned_type w.bytes ++ c ∷ rest) ≡ Some (w, c ∷ rest)
 unfolding width_at
 width_again_at w c rest ok end = let t = typed w c rest (of_end end) in rw t refl
 
@@ -92,34 +108,45 @@ any_widths : (ws : List Width) → AllOf (λ w. Unit {0}) ws
 any_widths [] = tt
 any_widths (w ∷ ws) = (tt, any_widths ws)
 
-pub widths_again : (ws : List Width) (rest : List ℕ) → widths_at (separated_or_void (width_types ws) ++ 41 ∷ rest) ≡ Some (ws, 41 ∷ rest)
+pub widths_again : (ws : List Width) (rest : List ℕ)
+    → widths_at (separated_or_void (width_types ws) ++ 41 ∷ rest) ≡ Some (ws, 41 ∷ rest)
 unfolding widths_at after
 widths_again [] rest = refl
 widths_again (w ∷ ws) rest =
     let others = further (map width_text ws) in
-    let grouped : (unsigned_type w.bytes ++ others) ++ 41 ∷ rest ≡ unsigned_type w.bytes ++ (others ++ 41 ∷ rest) = append_assoc (unsigned_type w.bytes) others (41 ∷ rest) in
+    let grouped : (unsigned_type w.bytes ++ others) ++ 41 ∷ rest ≡ unsigned_type w.bytes ++ (others ++ 41 ∷ rest) =
+    append_assoc (unsigned_type w.bytes) others (41 ∷ rest) in
     let one = comma_first width_at width_text w ws rest (λ c z end. width_again_at w c z tt end) in
-    let more = comma_again width_at further_width width_text (λ w. Unit {0}) next_width width_again_at ws rest (any_widths ws) in
+    let more = comma_again width_at further_width width_text (λ w. Unit {0}) next_width width_again_at ws rest
+    (any_widths ws) in
     rw (grouped, one, more) refl
 
 -- ---- one callee
 
-pub callee_again : (c : CalleeDecl) (rest : List ℕ) → is_callee c ≡ true → callee_at (callee_line c ++ rest) ≡ Some (c, rest)
-unfolding callee_at after
+pub callee_again : (c : CalleeDecl) (rest : List ℕ)
+    → is_callee c ≡ true
+    → callee_at (callee_line c ++ rest) ≡ Some (c, rest)
+unfolding callee_at tail_at after
 callee_again c rest ok =
     let good = and_parts (is_long c.address) (is_callee_name c.name && result_fits c.returns c.gives) ok in
     let low : c.address < 2 ^ 64 = ltb-true _ _ good.0 in
     let name = (and_parts (is_callee_name c.name) (result_fits c.returns c.gives) good.1).0 in
     let args = separated_or_void (width_types c.args) in
     let last = args ++ 41 ∷ (codes "; // 0x" ++ (hex c.address ++ 10 ∷ rest)) in
-    let grouped : callee_line c ++ rest ≡ returns_mark c.returns ++ (result_type c.gives ++ 32 ∷ (callee_name c.name c.address ++ 40 ∷ last)) = simp append_assoc in
+    let grouped : callee_line c ++ rest
+    ≡ returns_mark c.returns ++ (result_type c.gives ++ 32 ∷ (callee_name c.name c.address ++ 40 ∷ last)) =
+    simp append_assoc in
     let one = head_again c.returns c.gives c.name c.address last name (omega arith) in
     let two = widths_again c.args (codes "; // 0x" ++ (hex c.address ++ 10 ∷ rest)) in
     let three = hex_again c.address 10 rest (omega arith) refl in
     let same : c.address % 2 ^ 64 ≡ c.address = omega arith in
     rw (grouped, one, two, three, same) refl
 
-callees_row : (cs : List CalleeDecl) (k : ℕ) (rest : List ℕ) → are_callees cs ≡ true → callee_at rest ≡ None → length cs ≤ k → ◌≡◌ {A = List CalleeDecl × List ℕ} (many_by callee_at k (callee_lines cs ++ rest)) (cs, rest)
+callees_row : (cs : List CalleeDecl) (k : ℕ) (rest : List ℕ)
+    → are_callees cs ≡ true
+    → callee_at rest ≡ None
+    → length cs ≤ k
+    → ◌≡◌ {A = List CalleeDecl × List ℕ} (many_by callee_at k (callee_lines cs ++ rest)) (cs, rest)
 unfolding many_by
 callees_row [] zero rest ok ends le = refl
 callees_row [] (suc k) rest ok ends le = rw ends refl
@@ -127,7 +154,8 @@ callees_row (c ∷ cs) zero rest ok ends le = absurd (omega arith)
 callees_row (c ∷ cs) (suc k) rest ok ends le =
     let three = and_parts (is_callee c) (is_apart_from c cs && are_callees cs) ok in
     let two = and_parts (is_apart_from c cs) (are_callees cs) three.1 in
-    let grouped : (callee_line c ++ callee_lines cs) ++ rest ≡ callee_line c ++ (callee_lines cs ++ rest) = append_assoc (callee_line c) (callee_lines cs) rest in
+    let grouped : (callee_line c ++ callee_lines cs) ++ rest ≡ callee_line c ++ (callee_lines cs ++ rest) =
+    append_assoc (callee_line c) (callee_lines cs) rest in
     let one = callee_again c (callee_lines cs ++ rest) three.0 in
     let more = callees_row cs k rest two.1 ends (omega arith) in
     rw (grouped, one, more) refl
@@ -138,18 +166,32 @@ callees_long (c ∷ cs) z =
     let more = callees_long cs z in
     let args = separated_or_void (width_types c.args) in
     let tail = codes "(" ++ (args ++ address_text c.address) in
-    omega (arith, more, length-append (callee_lines cs) z, length-append (callee_line c ++ callee_lines cs) z, length-append (callee_line c) (callee_lines cs), length-append (callee_head c) tail)
+    omega (
+      arith,
+      more,
+      length-append (callee_lines cs) z,
+      length-append (callee_line c ++ callee_lines cs) z,
+      length-append (callee_line c) (callee_lines cs),
+      length-append (callee_head c) tail,
+    )
 
-pub callees_again : (cs : List CalleeDecl) (rest : List ℕ) → are_callees cs ≡ true → callee_at rest ≡ None → ◌≡◌ {A = List CalleeDecl × List ℕ} (callees_at (callee_lines cs ++ rest)) (cs, rest)
+pub callees_again : (cs : List CalleeDecl) (rest : List ℕ)
+    → are_callees cs ≡ true
+    → callee_at rest ≡ None
+    → ◌≡◌ {A = List CalleeDecl × List ℕ} (callees_at (callee_lines cs ++ rest)) (cs, rest)
 callees_again cs rest ok ends = callees_row cs (length (callee_lines cs ++ rest)) rest ok ends (callees_long cs rest)
 
 -- ---- parameters
 
-param_read : (p : Param) (c : ℕ) (rest : List ℕ) → is_storage p.storage ≡ true → IsEnd c → param_at (param_text p ++ c ∷ rest) ≡ Some (p, c ∷ rest)
+param_read : (p : Param) (c : ℕ) (rest : List ℕ)
+    → is_storage p.storage ≡ true
+    → IsEnd c
+    → param_at (param_text p ++ c ∷ rest) ≡ Some (p, c ∷ rest)
 unfolding param_at after
 param_read p c rest fits end =
     let most = p.width.to in
-    let grouped : (type_text p.signed p.width.bytes ++ (codes " " ++ param_name p)) ++ c ∷ rest ≡ type_text p.signed p.width.bytes ++ 32 ∷ (param_name p ++ c ∷ rest) = simp append_assoc in
+    let grouped : (type_text p.signed p.width.bytes ++ (codes " " ++ param_name p)) ++ c ∷ rest
+    ≡ type_text p.signed p.width.bytes ++ 32 ∷ (param_name p ++ c ∷ rest) = simp append_assoc in
     let t = type_again p.signed p.width.bytes 32 (param_name p ++ c ∷ rest) (omega arith) refl in
     let e = entry_again p c rest fits (stop_of end) in
     let w = width_again p.width in
@@ -177,21 +219,29 @@ no_params : (rest : List ℕ) → params_at (codes "void" ++ 41 ∷ rest) ≡ So
 unfolding params_at after
 no_params rest = refl
 
-pub params_again : (ps : List Param) (rest : List ℕ) → are_params ps ≡ true → params_at (separated_or_void (map param_text ps) ++ 41 ∷ rest) ≡ Some (ps, 41 ∷ rest)
+pub params_again : (ps : List Param) (rest : List ℕ)
+    → are_params ps ≡ true
+    → params_at (separated_or_void (map param_text ps) ++ 41 ∷ rest) ≡ Some (ps, 41 ∷ rest)
 unfolding params_at
 params_again [] rest ok = no_params rest
 params_again (p ∷ ps) rest ok =
     let all = all_stored (p ∷ ps) ok in
     let others = further (map param_text ps) in
-    let grouped : (param_text p ++ others) ++ 41 ∷ rest ≡ param_text p ++ (others ++ 41 ∷ rest) = append_assoc (param_text p) others (41 ∷ rest) in
-    let begins : param_text p ++ (others ++ 41 ∷ rest) ≡ type_text p.signed p.width.bytes ++ (codes " " ++ (param_name p ++ (others ++ 41 ∷ rest))) = simp append_assoc in
-    let gap : after (codes "void") (param_text p ++ (others ++ 41 ∷ rest)) ≡ None = ap (after (codes "void")) begins ∙ type_not_void p.signed p.width.bytes (codes " " ++ (param_name p ++ (others ++ 41 ∷ rest))) in
+    let grouped : (param_text p ++ others) ++ 41 ∷ rest ≡ param_text p ++ (others ++ 41 ∷ rest) =
+    append_assoc (param_text p) others (41 ∷ rest) in
+    let begins : param_text p ++ (others ++ 41 ∷ rest)
+    ≡ type_text p.signed p.width.bytes ++ (codes " " ++ (param_name p ++ (others ++ 41 ∷ rest))) =
+    simp append_assoc in
+    let gap : after (codes "void") (param_text p ++ (others ++ 41 ∷ rest)) ≡ None =
+    ap (after (codes "void")) begins
+    ∙ type_not_void p.signed p.width.bytes (codes " " ++ (param_name p ++ (others ++ 41 ∷ rest))) in
     let one = comma_first param_at param_text p ps rest (λ c z end. param_read p c z all.0 end) in
     let more = comma_again param_at further_param param_text Stored next_param param_read ps rest all.1 in
     rw (grouped, gap, one, more) refl
 
 -- behind one type no other stands, but the name of a parameter
-one_width : (signed : Bool) (w : Width) (more : List ℕ) → widths_at (type_text signed w.bytes ++ 32 ∷ more) ≡ Some (w ∷ [], 32 ∷ more)
+one_width : (signed : Bool) (w : Width) (more : List ℕ)
+    → widths_at (type_text signed w.bytes ++ 32 ∷ more) ≡ Some (w ∷ [], 32 ∷ more)
 unfolding widths_at width_at many_by further_width after
 one_width signed w more =
     let most = w.to in
@@ -200,16 +250,20 @@ one_width signed w more =
     let same = width_again w in
     rw (gap, t, same) refl
 
-first_no_width : (p : Param) (others rest : List ℕ) → (widths_at ((param_text p ++ others) ++ rest) >>= λ ws. after (codes "); // 0x") ws.1) ≡ None
+first_no_width : (p : Param) (others rest : List ℕ)
+    → (widths_at ((param_text p ++ others) ++ rest) >>= λ ws. after (codes "); // 0x") ws.1) ≡ None
 unfolding after
 first_no_width p others rest =
     let more = param_name p ++ (others ++ rest) in
-    let grouped : (param_text p ++ others) ++ rest ≡ type_text p.signed p.width.bytes ++ 32 ∷ more = simp append_assoc in
+    let grouped : (param_text p ++ others) ++ rest ≡ type_text p.signed p.width.bytes ++ 32 ∷ more =
+    simp append_assoc in
     let one = one_width p.signed p.width more in
     rw (grouped, one) refl
 
 -- the function's line is no callee's
-pub params_no_widths : (ps : List Param) (rest : List ℕ) → (widths_at (separated_or_void (map param_text ps) ++ 41 ∷ 10 ∷ rest) >>= λ ws. after (codes "); // 0x") ws.1) ≡ None
+pub params_no_widths : (ps : List Param) (rest : List ℕ)
+    → (widths_at (separated_or_void (map param_text ps) ++ 41 ∷ 10 ∷ rest) >>= λ ws. after (codes "); // 0x") ws.1)
+    ≡ None
 unfolding widths_at width_at after
 params_no_widths [] rest = refl
 params_no_widths (p ∷ ps) rest = first_no_width p (further (map param_text ps)) (41 ∷ 10 ∷ rest)
@@ -239,7 +293,10 @@ all_digits : (n : ℕ) → AllDigits 10 (decimal n)
 unfolding digits
 all_digits n = onto_digits 64 n [] tt
 
-past_digits : (ds : List ℕ) (n c : ℕ) (rest : List ℕ) → AllDigits 10 ds → is_digit c 10 ≡ false → (number_from 10 n (ds ++ c ∷ rest)).1 ≡ c ∷ rest
+past_digits : (ds : List ℕ) (n c : ℕ) (rest : List ℕ)
+    → AllDigits 10 ds
+    → is_digit c 10 ≡ false
+    → (number_from 10 n (ds ++ c ∷ rest)).1 ≡ c ∷ rest
 unfolding number_from
 past_digits [] n c rest all stop = rw stop refl
 past_digits (d ∷ ds) n c rest all stop =
@@ -252,7 +309,9 @@ unfolding decimal_at
 passed n c rest stop = past_digits (decimal n) 0 c rest (all_digits n) stop
 
 -- the line of a local
-local_read : (n : ℕ) (l : Local) (rest : List ℕ) → local_at (codes "  " ++ (type_text l.signed l.width.bytes ++ (codes " " ++ (local_name (n + 1) ++ (codes ";\n" ++ rest))))) ≡ Some (l, rest)
+local_read : (n : ℕ) (l : Local) (rest : List ℕ)
+    → local_at (codes "  " ++ (type_text l.signed l.width.bytes
+    ++ (codes " " ++ (local_name (n + 1) ++ (codes ";\n" ++ rest))))) ≡ Some (l, rest)
 unfolding local_at after
 local_read n l rest =
     let most = l.width.to in
@@ -261,14 +320,19 @@ local_read n l rest =
     let w = width_again l.width in
     rw (t, p, w) refl
 
-locals_row : (ls : List Local) (n k : ℕ) (rest : List ℕ) → local_at rest ≡ None → length ls ≤ k → ◌≡◌ {A = List Local × List ℕ} (many_by local_at k (local_lines n ls ++ rest)) (ls, rest)
+locals_row : (ls : List Local) (n k : ℕ) (rest : List ℕ)
+    → local_at rest ≡ None
+    → length ls ≤ k
+    → ◌≡◌ {A = List Local × List ℕ} (many_by local_at k (local_lines n ls ++ rest)) (ls, rest)
 unfolding many_by
 locals_row [] n zero rest ends le = refl
 locals_row [] n (suc k) rest ends le = rw ends refl
 locals_row (l ∷ ls) n zero rest ends le = absurd (omega arith)
 locals_row (l ∷ ls) n (suc k) rest ends le =
     let others = local_lines (n + 1) ls in
-    let grouped : local_lines n (l ∷ ls) ++ rest ≡ codes "  " ++ (type_text l.signed l.width.bytes ++ (codes " " ++ (local_name (n + 1) ++ (codes ";\n" ++ (others ++ rest))))) = simp append_assoc in
+    let grouped : local_lines n (l ∷ ls) ++ rest
+    ≡ codes "  " ++ (type_text l.signed l.width.bytes
+    ++ (codes " " ++ (local_name (n + 1) ++ (codes ";\n" ++ (others ++ rest))))) = simp append_assoc in
     let one = local_read n l (others ++ rest) in
     let more = locals_row ls (n + 1) k rest ends (omega arith) in
     rw (grouped, one, more) refl
@@ -280,7 +344,17 @@ locals_long (l ∷ ls) n z =
     let others = local_lines (n + 1) ls in
     let type = type_text l.signed l.width.bytes in
     let name = local_name (n + 1) ++ (codes ";\n" ++ others) in
-    omega (arith, more, length-append others z, length-append (local_lines n (l ∷ ls)) z, length-append type (codes " " ++ name), length-append (local_name (n + 1)) (codes ";\n" ++ others))
+    omega (
+      arith,
+      more,
+      length-append others z,
+      length-append (local_lines n (l ∷ ls)) z,
+      length-append type
+          (codes " " ++ name),
+      length-append (local_name (n + 1)) (codes ";\n" ++ others),
+    )
 
-pub locals_again : (ls : List Local) (rest : List ℕ) → local_at rest ≡ None → ◌≡◌ {A = List Local × List ℕ} (locals_at (local_lines 0 ls ++ rest)) (ls, rest)
+pub locals_again : (ls : List Local) (rest : List ℕ)
+    → local_at rest ≡ None
+    → ◌≡◌ {A = List Local × List ℕ} (locals_at (local_lines 0 ls ++ rest)) (ls, rest)
 locals_again ls rest ends = locals_row ls 0 (length (local_lines 0 ls ++ rest)) rest ends (locals_long ls 0 rest)

@@ -21,19 +21,23 @@ whole_text name n = by_test (bytes_eq n name) (is_whole (after n name)) refl ref
     by_test : (t u : Bool) → bytes_eq n name ≡ t → is_whole (after n name) ≡ u → t ≡ u
     by_test true true p q = refl
     by_test false false p q = refl
-    by_test true false p q = absurd (never (sym (ap (λ m. is_whole (after n m)) (sym ((bytes_decides n name).0 p)) ∙ whole_self n) ∙ q))
+    by_test true false p q = absurd
+        (never (sym (ap (λ m. is_whole (after n m)) (sym ((bytes_decides n name).0 p)) ∙ whole_self n) ∙ q))
     by_test false true p q = absurd (never (sym ((bytes_decides n name).1 (whole_is n name q)) ∙ p))
 
 text_is_named : (name : List ℕ) (d : CName) → is_text name d ≡ is_named name d
 text_is_named name (Declared n) = whole_text name n
 text_is_named name Bare = refl
 
-pub addressed : (name : List ℕ) (cs : List CalleeDecl) → option_map (λ c. c.address) (first_of (has_name name) cs) ≡ address_of name cs
+pub addressed : (name : List ℕ) (cs : List CalleeDecl)
+    → option_map (λ c. c.address) (first_of (has_name name) cs) ≡ address_of name cs
 addressed name [] = refl
 addressed name (c ∷ cs) =
     picked (is_text name c.name)
     ∙ ap₂ (λ (t : Bool) (o : Option ℕ). if t then Some c.address else o) (text_is_named name c.name) (addressed name cs)
   where
-    picked : (t : Bool) → option_map (λ d. d.address) (if t then Some c else first_of (has_name name) cs) ≡ (if t then Some c.address else option_map (λ d. d.address) (first_of (has_name name) cs))
+    picked : (t : Bool)
+        → option_map (λ d. d.address) (if t then Some c else first_of (has_name name) cs)
+        ≡ (if t then Some c.address else option_map (λ d. d.address) (first_of (has_name name) cs))
     picked true = refl
     picked false = refl

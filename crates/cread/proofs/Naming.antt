@@ -62,7 +62,10 @@ below_least k h = let le : k ≤ 2147483647 = leb-true _ _ h in omega arith
 negated : (k : ℕ) → neg_ℤ (pos (k + 1)) ≡ negsuc k
 negated k = let e : k + 1 ≡ suc k = omega arith in rw e refl
 
-pub storage_again : (s : ParamStorage) (c : ℕ) (rest : List ℕ) → is_storage s ≡ true → IsStop c → storage_at (storage_text s ++ c ∷ rest) ≡ Some (s, c ∷ rest)
+pub storage_again : (s : ParamStorage) (c : ℕ) (rest : List ℕ)
+    → is_storage s ≡ true
+    → IsStop c
+    → storage_at (storage_text s ++ c ∷ rest) ≡ Some (s, c ∷ rest)
 unfolding storage_at after
 storage_again (Register o) c rest fits stop =
     let low : o < 2 ^ 64 = ltb-true _ _ fits in
@@ -89,13 +92,18 @@ storage_again (Stack (negsuc k)) c rest fits stop =
     let same = negated k in
     rw (n, test, same) refl
 
-entry_flag : (m : Bool) (s : ParamStorage) (c : ℕ) (rest : List ℕ) → storage_at (storage_text s ++ c ∷ rest) ≡ Some (s, c ∷ rest)
-    → entry_at ((cond m (codes "p_") (codes "in_") ++ storage_text s) ++ c ∷ rest) ≡ Some (record { model = m; storage = s }, c ∷ rest)
+entry_flag : (m : Bool) (s : ParamStorage) (c : ℕ) (rest : List ℕ)
+    → storage_at (storage_text s ++ c ∷ rest) ≡ Some (s, c ∷ rest)
+    → entry_at ((cond m (codes "p_") (codes "in_") ++ storage_text s) ++ c ∷ rest)
+    ≡ Some (record { model = m; storage = s }, c ∷ rest)
 unfolding entry_at after
 entry_flag true s c rest read = rw read refl
 entry_flag false s c rest read = rw read refl
 
-pub entry_again : (p : Param) (c : ℕ) (rest : List ℕ) → is_storage p.storage ≡ true → IsStop c → entry_at (param_name p ++ c ∷ rest) ≡ Some (record { model = p.model; storage = p.storage }, c ∷ rest)
+pub entry_again : (p : Param) (c : ℕ) (rest : List ℕ)
+    → is_storage p.storage ≡ true
+    → IsStop c
+    → entry_at (param_name p ++ c ∷ rest) ≡ Some (record { model = p.model; storage = p.storage }, c ∷ rest)
 entry_again p c rest fits stop = entry_flag p.model p.storage c rest (storage_again p.storage c rest fits stop)
 
 -- ---- places of parameters
@@ -148,13 +156,15 @@ storage_is (Stack a) (Unique b) h = absurd cc
 storage_is (Stack a) (Stack b) h = ap Stack ((Decides-int_eq a b).0 h)
 
 -- parameters of one name don't precede each other
-not_precede : (m : Bool) (p : ParamStorage) → cond m (cond m (is_either_before p p) true) (not m && is_before p p) ≡ false
+not_precede : (m : Bool) (p : ParamStorage)
+    → cond m (cond m (is_either_before p p) true) (not m && is_before p p) ≡ false
 not_precede true p = let one = not_before p in rw one refl
 not_precede false p = not_before p
 
 not_follow : (x p : Param) → x.model ≡ p.model → x.storage ≡ p.storage → may_precede x p ≡ false
 not_follow x p flags same =
-    let one : cond p.model (cond p.model (is_either_before p.storage p.storage) true) (not p.model && is_before p.storage p.storage) ≡ false = not_precede p.model p.storage in
+    let one : cond p.model (cond p.model (is_either_before p.storage p.storage) true)
+    (not p.model && is_before p.storage p.storage) ≡ false = not_precede p.model p.storage in
     rw (flags, same) one
 
 apart : (x p : Param) → may_precede x p ≡ true → is_entry (entry_of p) x ≡ false
@@ -167,17 +177,27 @@ apart x p h =
       | inr other ↦ other
     ]
 
-precedes : (x : Param) (ps : List Param) (i : ℕ) (p : Param) → precedes_all x ps ≡ true → slice_get ps i ≡ Some p → may_precede x p ≡ true
+precedes : (x : Param) (ps : List Param) (i : ℕ) (p : Param)
+    → precedes_all x ps ≡ true
+    → slice_get ps i ≡ Some p
+    → may_precede x p ≡ true
 precedes x [] i p h at = absurd cc
-precedes x (q ∷ ps) zero p h at = let same : q ≡ p = cc in ap (may_precede x) (sym same) ∙ (and_parts (may_precede x q) (precedes_all x ps) h).0
+precedes x (q ∷ ps) zero p h at = let same : q ≡ p = cc in
+    ap (may_precede x) (sym same) ∙ (and_parts (may_precede x q) (precedes_all x ps) h).0
 precedes x (q ∷ ps) (suc i) p h at = precedes x ps i p (and_parts (may_precede x q) (precedes_all x ps) h).1 at
 
-pub places : (ps : List Param) (n i : ℕ) (p : Param) → are_params ps ≡ true → slice_get ps i ≡ Some p → (place_of (entry_of p) n ps ≡ Some (n + i)) × (is_storage p.storage ≡ true)
+pub places : (ps : List Param) (n i : ℕ) (p : Param)
+    → are_params ps ≡ true
+    → slice_get ps i ≡ Some p
+    → (place_of (entry_of p) n ps ≡ Some (n + i)) × (is_storage p.storage ≡ true)
 places [] n i p ok at = absurd cc
 places (x ∷ xs) n zero p ok at =
     let three = and_parts (is_storage x.storage) (precedes_all x xs && are_params xs) ok in
     let same : x ≡ p = cc in
-    let yes : is_entry (entry_of p) x ≡ true = ap (λ (q : Param). is_entry (entry_of p) q) same ∙ and_from (same_flag p.model p.model) (same_storage p.storage p.storage) (same_flags p.model) (storage_same p.storage) in
+    let yes : is_entry (entry_of p) x ≡ true =
+    ap (λ (q : Param). is_entry (entry_of p) q) same
+    ∙ and_from (same_flag p.model p.model) (same_storage p.storage p.storage) (same_flags p.model)
+    (storage_same p.storage) in
     (rw yes (ap (λ (k : ℕ). Some k) (omega arith)), ap (λ (q : Param). is_storage q.storage) (sym same) ∙ three.0)
 places (x ∷ xs) n (suc i) p ok at =
     let three = and_parts (is_storage x.storage) (precedes_all x xs && are_params xs) ok in
@@ -203,13 +223,23 @@ param_begins : (m : Bool) (t z : List ℕ) → NameHead ((cond m (codes "p_") (c
 param_begins true t z = of_model (t ++ z)
 param_begins false t z = of_entry (t ++ z)
 
-param_again : (sc : Scope) (m : Bool) (p : ParamStorage) (k c : ℕ) (rest : List ℕ) → storage_at (storage_text p ++ c ∷ rest) ≡ Some (p, c ∷ rest) → place_of (record { model = m; storage = p }) 0 sc.params ≡ Some k → k < 2 ^ 32
+param_again : (sc : Scope) (m : Bool) (p : ParamStorage) (k c : ℕ) (rest : List ℕ)
+    → storage_at (storage_text p ++ c ∷ rest) ≡ Some (p, c ∷ rest)
+    → place_of (record { model = m; storage = p }) 0 sc.params ≡ Some k
+    → k < 2 ^ 32
     → variable_at sc ((cond m (codes "p_") (codes "in_") ++ storage_text p) ++ c ∷ rest) ≡ Some (k, c ∷ rest)
 unfolding variable_at entry_at after
-param_again sc true p k c rest read place low = let fits : ltb k (2 ^ 32) ≡ true = lt-ltb _ _ low in rw (read, place, fits) refl
-param_again sc false p k c rest read place low = let fits : ltb k (2 ^ 32) ≡ true = lt-ltb _ _ low in rw (read, place, fits) refl
+param_again sc true p k c rest read place low = let fits : ltb k (2 ^ 32) ≡ true = lt-ltb _ _ low in
+    rw (read, place, fits) refl
+param_again sc false p k c rest read place low = let fits : ltb k (2 ^ 32) ≡ true = lt-ltb _ _ low in
+    rw (read, place, fits) refl
 
-local_again : (sc : Scope) (n k c : ℕ) (rest : List ℕ) → n < 2 ^ 33 → k < 2 ^ 32 → length sc.params + (n - 1) ≡ k → is_digit c 10 ≡ false → variable_at sc (local_name n ++ c ∷ rest) ≡ Some (k, c ∷ rest)
+local_again : (sc : Scope) (n k c : ℕ) (rest : List ℕ)
+    → n < 2 ^ 33
+    → k < 2 ^ 32
+    → length sc.params + (n - 1) ≡ k
+    → is_digit c 10 ≡ false
+    → variable_at sc (local_name n ++ c ∷ rest) ≡ Some (k, c ∷ rest)
 unfolding variable_at after
 local_again sc n k c rest low_n low is stop =
     let d = decimal_again n c rest (omega arith) stop in
@@ -217,20 +247,32 @@ local_again sc n k c rest low_n low is stop =
     let fits : ltb k (2 ^ 32) ≡ true = lt-ltb _ _ low in
     rw (d, same, is, fits) refl
 
-local_named : (sc : Scope) (k : ℕ) (o : Option Local) → length sc.params ≤ k → k < 2 ^ 32 → slice_get sc.locals (k - length sc.params) ≡ o → 0 < (of_local (k - length sc.params + 1) o).width → Named sc k (of_local (k - length sc.params + 1) o).name
+local_named : (sc : Scope) (k : ℕ) (o : Option Local)
+    → length sc.params ≤ k
+    → k < 2 ^ 32
+    → slice_get sc.locals (k - length sc.params) ≡ o
+    → 0 < (of_local (k - length sc.params + 1) o).width
+    → Named sc k (of_local (k - length sc.params + 1) o).name
 local_named sc k None le low at wide = absurd (omega arith)
 local_named sc k (Some l) le low at wide = record {
   begins = λ z. of_local_name _;
-  again = λ c rest stop. local_again sc (k - length sc.params + 1) k c rest (omega arith) low (omega arith) (stop_decimal stop);
+  again = λ c rest stop. local_again sc (k - length sc.params + 1) k c rest (omega arith) low (omega arith)
+      (stop_decimal stop);
 }
 
-either_named : (sc : Scope) (k : ℕ) (o : Option Param) → are_params sc.params ≡ true → k < 2 ^ 32 → slice_get sc.params k ≡ o → 0 < (of_param_or_local sc k o).width → Named sc k (of_param_or_local sc k o).name
+either_named : (sc : Scope) (k : ℕ) (o : Option Param)
+    → are_params sc.params ≡ true
+    → k < 2 ^ 32
+    → slice_get sc.params k ≡ o
+    → 0 < (of_param_or_local sc k o).width
+    → Named sc k (of_param_or_local sc k o).name
 either_named sc k (Some p) ok low at wide =
     let found = places sc.params 0 k p ok at in
     let place : place_of (entry_of p) 0 sc.params ≡ Some k = found.0 ∙ ap (λ (m : ℕ). Some m) (omega arith) in
     record {
       begins = λ z. param_begins p.model (storage_text p.storage) z;
-      again = λ c rest stop. param_again sc p.model p.storage k c rest (storage_again p.storage c rest found.1 stop) place low;
+      again = λ c rest stop. param_again sc p.model p.storage k c rest (storage_again p.storage c rest found.1 stop)
+          place low;
     }
 either_named sc k None ok low at wide =
     elim (slice_get_cases sc.params k).1 [
@@ -238,6 +280,10 @@ either_named sc k None ok low at wide =
       | inr past ↦ local_named sc k (slice_get sc.locals (k - length sc.params)) past.0 low refl wide
     ]
 
-pub variable_named : (sc : Scope) (k : ℕ) → are_params sc.params ≡ true → k < 2 ^ 32 → 0 < (variable sc k).width → Named sc k (variable sc k).name
+pub variable_named : (sc : Scope) (k : ℕ)
+    → are_params sc.params ≡ true
+    → k < 2 ^ 32
+    → 0 < (variable sc k).width
+    → Named sc k (variable sc k).name
 unfolding variable
 variable_named sc k ok low wide = either_named sc k (slice_get sc.params k) ok low refl wide

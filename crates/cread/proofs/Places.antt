@@ -17,7 +17,8 @@ later e n (p ∷ ps) = by_test (is_entry e p) (later e (n + 1) ps)
     one (Some m) = ap (λ (k : ℕ). Some k) (omega arith)
 
     by_test : (t : Bool) → option_map (λ m. (n + 1) + m) (place (is_entry e) ps) ≡ place_of e (n + 1) ps
-        → option_map (λ m. n + m) (if t then Some 0 else option_map suc (place (is_entry e) ps)) ≡ (if t then Some n else place_of e (n + 1) ps)
+        → option_map (λ m. n + m) (if t then Some 0 else option_map suc (place (is_entry e) ps))
+        ≡ (if t then Some n else place_of e (n + 1) ps)
     by_test true next = ap (λ (k : ℕ). Some k) (omega arith)
     by_test false next = one (place (is_entry e) ps) ∙ next
 
@@ -28,6 +29,8 @@ place_is e ps = by_place (place (is_entry e) ps) ∙ later e 0 ps
     by_place None = refl
     by_place (Some m) = ap (λ (k : ℕ). Some k) (omega arith)
 
-pub place_within : {A : Type 0} (test : A → Bool) (xs : List A) (o : Option ℕ) → o ≡ place test xs → IfSome o (λ n. n < length xs)
+pub place_within : {A : Type 0} (test : A → Bool) (xs : List A) (o : Option ℕ)
+    → o ≡ place test xs
+    → IfSome o (λ n. n < length xs)
 place_within test xs None is = tt
 place_within test xs (Some n) is = (some_first test n xs (sym is)).0

@@ -24,7 +24,7 @@ use Rattle.cread.specs.declared.item.Sign.{Sign}
 use Rattle.cread.specs.declared.item.Sign.TheVariants.{Arithmetic, Division, Shift, Compare}
 use Rattle.cread.specs.declared.item.Pair.{Pair}
 use Rattle.cread.specs.declared.item.Pair.TheVariants as P
-use Rattle.cread.specs.Words.{◌>>=◌, after, chosen, or_else, decimal_at, hex_at}
+use Rattle.cread.specs.Words.{◌>>=◌, after, ended, chosen, or_else, decimal_at, hex_at}
 use Rattle.cread.specs.Names.{width_by, word_by, type_at, variable_at}
 
 -- ---- words and signs
@@ -87,7 +87,9 @@ as_signed a = record { tree = a.tree; width = a.width; signed = true }
 
 -- The width says what a cast is.
 unfoldable pub resize : Width → Item → Item
-resize w a = if w.bytes == a.width then item a.tree a.width else (if nat_lt w.bytes a.width then item (e.Part 0 w a.tree) w.bytes else (if a.signed then item (e.Extend Sext w a.tree) w.bytes else item (e.Extend Zext w a.tree) w.bytes))
+resize w a = if w.bytes == a.width then item a.tree a.width
+    else (if nat_lt w.bytes a.width then item (e.Part 0 w a.tree) w.bytes
+    else (if a.signed then item (e.Extend Sext w a.tree) w.bytes else item (e.Extend Zext w a.tree) w.bytes))
 
 abbrev pub divided : Bool → DivisionOp → Expr → Expr → Expr
 divided true D.Div a b = e.SignedDivision SD.SDiv a b
@@ -136,7 +138,8 @@ constant_by w n = (item (e.Const (word_by w n.0)) w.bytes, or_else n.1 (after (c
 
 -- behind an unsigned cast
 unfoldable pub cast_by : Reader → Width → List ℕ → Option (Item × List ℕ)
-cast_by sub w bytes = chosen (after (codes "0x") bytes) (λ rest. Some (constant_by w (hex_at rest))) (sub bytes >>= λ a. Some (resize w a.0, a.1))
+cast_by sub w bytes = chosen (after (codes "0x") bytes) (λ rest. Some (constant_by w (hex_at rest)))
+    (sub bytes >>= λ a. Some (resize w a.0, a.1))
 
 -- behind a signed cast
 abbrev pub signed_by : Reader → List ℕ → Option (Item × List ℕ)
@@ -147,7 +150,7 @@ typed_by sub t bytes = if t.signed then signed_by sub bytes else cast_by sub t.w
 
 -- up to a parenthesis
 abbrev pub closed_by : Reader → List ℕ → Option (Item × List ℕ)
-closed_by sub bytes = inner_by sub bytes >>= λ a. after (codes ")") a.1 >>= λ rest. Some (a.0, rest)
+closed_by sub bytes = inner_by sub bytes >>= ended (codes ")")
 
 -- behind a parenthesis
 unfoldable pub paren_by : Reader → List ℕ → Option (Item × List ℕ)
@@ -155,7 +158,8 @@ paren_by sub bytes = chosen (type_at bytes) (λ t. after (codes ")") t.1 >>= typ
 
 -- two operands up to a parenthesis
 unfoldable pub pair_by : Reader → Pair × List ℕ → Option (Item × List ℕ)
-pair_by sub op = inner_by sub op.1 >>= λ a. after (codes ", ") a.1 >>= λ r. closed_by sub r >>= λ b. Some (paired op.0 a.0 b.0, b.1)
+pair_by sub op = inner_by sub op.1 >>= ended (codes ", ") >>= λ a. closed_by sub a.1
+    >>= λ b. Some (paired op.0 a.0 b.0, b.1)
 
 unfoldable pub count_by : Reader → CountOp × List ℕ → Option (Item × List ℕ)
 count_by sub op = closed_by sub op.1 >>= λ a. Some (item (e.Count op.0 a.0.tree) 1, a.1)
@@ -163,8 +167,12 @@ count_by sub op = closed_by sub op.1 >>= λ a. Some (item (e.Count op.0 a.0.tree
 abbrev pub dropped_by : Width → Item → ℕ × List ℕ → Option (Item × List ℕ)
 dropped_by w a k = after (codes ")") k.1 >>= λ rest. Some (item (e.Part (k.0 % 256) w a.tree) w.bytes, rest)
 
+-- how many bytes are dropped, behind the operand
+abbrev pub kept_of : Width → Item × List ℕ → Option (Item × List ℕ)
+kept_of w a = after (codes ", 0x") a.1 >>= λ s. dropped_by w a.0 (hex_at s)
+
 abbrev pub kept_by : Reader → ℕ × List ℕ → Option (Item × List ℕ)
-kept_by sub w = after (codes "(") w.1 >>= λ r. inner_by sub r >>= λ a. after (codes ", 0x") a.1 >>= λ s. dropped_by (width_by w.0) a.0 (hex_at s)
+kept_by sub w = after (codes "(") w.1 >>= inner_by sub >>= kept_of (width_by w.0)
 
 -- behind SUB
 unfoldable pub part_by : Reader → List ℕ → Option (Item × List ℕ)
@@ -195,3 +203,7 @@ operand_at sc (suc n) bytes = operand_by sc (operand_at sc n) bytes
 -- A level of a tree takes at most three levels of the reader, and a signed form one more.
 unfoldable pub expr_at : Scope → List ℕ → Option (Expr × List ℕ)
 expr_at sc bytes = inner_by (operand_at sc 200) bytes >>= λ a. Some (a.0.tree, a.1)
+
+-- an expression up to a word
+abbrev pub expr_to : Scope → List ℕ → List ℕ → Option (Expr × List ℕ)
+expr_to sc word bytes = expr_at sc bytes >>= ended word

@@ -13,9 +13,9 @@ use Rattle.cread.specs.declared.item.Line.{Line}
 use Rattle.cread.specs.declared.item.Line.TheVariants as L
 use Rattle.cread.specs.declared.item.Right.{Right}
 use Rattle.cread.specs.declared.item.Right.TheVariants as R
-use Rattle.cread.specs.Words.{◌>>=◌, after, chosen, or_else, past_spaces, name_at, decimal_at, hex_at, put_first, many_by}
+use Rattle.cread.specs.Words.{◌>>=◌, after, ended, chosen, or_else, past_spaces, name_at, decimal_at, hex_at, put_first, many_by}
 use Rattle.cread.specs.Names.{address_of, variable_at}
-use Rattle.cread.specs.Expressions.{expr_at}
+use Rattle.cread.specs.Expressions.{expr_at, expr_to}
 
 -- ---- words
 
@@ -62,12 +62,8 @@ right_at bytes =
 
 -- ---- parts of statements
 
--- something up to a word
-abbrev pub ended : {A : Type 0} → List ℕ → A × List ℕ → Option (A × List ℕ)
-ended word x = after word x.1 >>= λ rest. Some (x.0, rest)
-
 abbrev pub value_at : Scope → List ℕ → Option (Expr × List ℕ)
-value_at sc bytes = expr_at sc bytes >>= ended (codes ";\n")
+value_at sc bytes = expr_to sc (codes ";\n") bytes
 
 unfoldable pub further_item : Scope → List ℕ → Option (Expr × List ℕ)
 further_item sc bytes = after (codes ", ") bytes >>= expr_at sc
@@ -77,16 +73,17 @@ abbrev pub further_at : Scope → List ℕ → List Expr × List ℕ
 further_at sc bytes = many_by (further_item sc) (length bytes) bytes
 
 unfoldable pub args_at : Scope → List ℕ → Option (List Expr × List ℕ)
-args_at sc bytes = chosen (after (codes ")") bytes) (λ rest. Some ([], bytes)) (expr_at sc bytes >>= λ e. Some (put_first e.0 (further_at sc e.1)))
+args_at sc bytes = chosen (after (codes ")") bytes) (λ rest. Some ([], bytes))
+    (expr_at sc bytes >>= λ e. Some (put_first e.0 (further_at sc e.1)))
 
 abbrev pub access_of : Option (List ℕ) → Expr → Access
 access_of space e = record { space = space; address = e }
 
 abbrev pub pointed_by : Scope → ℕ × List ℕ → Option (Access × List ℕ)
-pointed_by sc w = after (codes " *)(") w.1 >>= λ r. expr_at sc r >>= λ a. after (codes ")") a.1 >>= λ rest. Some (access_of None a.0, rest)
+pointed_by sc w = after (codes " *)(") w.1 >>= expr_to sc (codes ")") >>= λ a. Some (access_of None a.0, a.1)
 
 abbrev pub space_by : Scope → List ℕ × List ℕ → Option (Access × List ℕ)
-space_by sc n = after (codes ", ") n.1 >>= λ r. expr_at sc r >>= λ a. after (codes ")") a.1 >>= λ rest. Some (access_of (Some n.0) a.0, rest)
+space_by sc n = after (codes ", ") n.1 >>= expr_to sc (codes ")") >>= λ a. Some (access_of (Some n.0) a.0, a.1)
 
 abbrev pub memory_by : Scope → ℕ × List ℕ → Option (Access × List ℕ)
 memory_by sc w = after (codes "(") w.1 >>= λ r. space_by sc (name_at r)
@@ -100,7 +97,8 @@ memory_at sc bytes = memory_by sc (decimal_at bytes)
 -- ---- calls and divisions
 
 abbrev pub with_args : Scope → Option ℕ → ℕ → List ℕ → Option (Stmt × List ℕ)
-with_args sc v address bytes = after (codes "(") bytes >>= args_at sc >>= λ es. after (codes ");\n") es.1 >>= λ rest. Some (s.Call v address es.0, rest)
+with_args sc v address bytes = after (codes "(") bytes >>= args_at sc >>= ended (codes ");\n")
+    >>= λ es. Some (s.Call v address es.0, es.1)
 
 abbrev pub named_by : Scope → Option ℕ → List ℕ × List ℕ → Option (Stmt × List ℕ)
 named_by sc v n = address_of n.0 sc.callees >>= λ address. with_args sc v address n.1
@@ -114,20 +112,19 @@ bare_by sc v n = with_args sc v (n.0 % 2 ^ 64) n.1
 unfoldable pub bare_call : Scope → Option ℕ → List ℕ → Option (Stmt × List ℕ)
 bare_call sc v bytes = bare_by sc v (hex_at bytes)
 
-abbrev pub indirect_end : Option ℕ → Expr → List Expr × List ℕ → Option (Stmt × List ℕ)
-indirect_end v e es = after (codes ");\n") es.1 >>= λ rest. Some (s.CallInd v e es.0, rest)
+-- further arguments up to the end of the line
+abbrev pub listed_at : Scope → List ℕ → Option (List Expr × List ℕ)
+listed_at sc bytes = ended (codes ");\n") (further_at sc bytes)
 
 abbrev pub indirect_by : Scope → Option ℕ → ℕ × List ℕ → Option (Stmt × List ℕ)
-indirect_by sc v w = after (codes "(") w.1 >>= expr_at sc >>= λ e. indirect_end v e.0 (further_at sc e.1)
+indirect_by sc v w = after (codes "(") w.1 >>= expr_at sc >>= λ e. listed_at sc e.1
+    >>= λ es. Some (s.CallInd v e.0 es.0, es.1)
 
 unfoldable pub indirect_call : Scope → Option ℕ → List ℕ → Option (Stmt × List ℕ)
 indirect_call sc v bytes = indirect_by sc v (decimal_at bytes)
 
-abbrev pub other_end : Option ℕ → ℕ → List Expr × List ℕ → Option (Stmt × List ℕ)
-other_end v index es = after (codes ");\n") es.1 >>= λ rest. Some (s.Other v index es.0, rest)
-
 abbrev pub other_index : Scope → Option ℕ → ℕ × List ℕ → Option (Stmt × List ℕ)
-other_index sc v n = other_end v (n.0 % 2 ^ 64) (further_at sc n.1)
+other_index sc v n = listed_at sc n.1 >>= λ es. Some (s.Other v (n.0 % 2 ^ 64) es.0, es.1)
 
 abbrev pub other_by : Scope → Option ℕ → ℕ × List ℕ → Option (Stmt × List ℕ)
 other_by sc v w = after (codes "(0x") w.1 >>= λ r. other_index sc v (hex_at r)
@@ -145,12 +142,13 @@ unfoldable pub extra_at : Option ℕ → List ℕ → Option (Stmt × List ℕ)
 extra_at v bytes = v >>= λ v. extra_by v (decimal_at bytes)
 
 unfoldable pub divide_at : Scope → Option ℕ → StatementDivision → List ℕ → Option (Stmt × List ℕ)
-divide_at sc v op bytes = v >>= λ v. expr_at sc bytes >>= λ a. after (codes ", ") a.1 >>= λ r. expr_at sc r >>= λ b. after (codes ");\n") b.1 >>= λ rest. Some (s.Divide v op a.0 b.0, rest)
+divide_at sc v op bytes = v >>= λ v. expr_to sc (codes ", ") bytes >>= λ a. expr_to sc (codes ");\n") a.1
+    >>= λ b. Some (s.Divide v op a.0 b.0, b.1)
 
 -- a load or a store
 abbrev pub loaded : Option ℕ → Access × List ℕ → Scope → Option (Stmt × List ℕ)
-loaded None a sc = after (codes " = ") a.1 >>= value_at sc >>= λ e. Some (s.Store a.0.space a.0.address e.0, e.1)
-loaded (Some v) a sc = after (codes ";\n") a.1 >>= λ rest. Some (s.Load v a.0.space a.0.address, rest)
+loaded None a sc = ended (codes " = ") a >>= λ a. value_at sc a.1 >>= λ e. Some (s.Store a.0.space a.0.address e.0, e.1)
+loaded (Some v) a sc = ended (codes ";\n") a >>= λ a. Some (s.Load v a.0.space a.0.address, a.1)
 
 -- behind the word, and behind a target or without one
 unfoldable pub right_by : Scope → Option ℕ → Right → List ℕ → Option (Stmt × List ℕ)
@@ -166,7 +164,8 @@ right_by sc v (R.Divide op) bytes = divide_at sc v op bytes
 -- ---- simple statements
 
 abbrev pub assigned_by : Scope → ℕ → List ℕ → Option (Stmt × List ℕ)
-assigned_by sc v bytes = chosen (right_at bytes) (λ w. right_by sc (Some v) w.0 w.1) (value_at sc bytes >>= λ e. Some (s.Assign v e.0, e.1))
+assigned_by sc v bytes = chosen (right_at bytes) (λ w. right_by sc (Some v) w.0 w.1)
+    (value_at sc bytes >>= λ e. Some (s.Assign v e.0, e.1))
 
 unfoldable pub target_at : Scope → List ℕ → Option (Stmt × List ℕ)
 target_at sc bytes = variable_at sc bytes >>= λ v. after (codes " = ") v.1 >>= assigned_by sc v.0
@@ -200,18 +199,19 @@ abbrev pub body_by : Bool → Statements → List ℕ → List Stmt × List ℕ
 body_by arm stmt bytes = many_by (spaced_by arm stmt) (length bytes) bytes
 
 abbrev pub closing : {A : Type 0} → List ℕ → A × List ℕ → Option (A × List ℕ)
-closing word x = after word (past_spaces x.1) >>= λ rest. Some (x.0, rest)
+closing word x = ended word (x.0, past_spaces x.1)
 
 -- up to a brace
 abbrev pub closed_by : Statements → List ℕ → Option (List Stmt × List ℕ)
 closed_by stmt bytes = closing (codes "}\n") (body_by false stmt bytes)
 
 abbrev pub head_at : Scope → List ℕ → Option (Expr × List ℕ)
-head_at sc bytes = expr_at sc bytes >>= ended (codes ") {\n")
+head_at sc bytes = expr_to sc (codes ") {\n") bytes
 
 abbrev pub else_by : Statements → Expr → List Stmt × List ℕ → Option (Stmt × List ℕ)
 else_by stmt c b =
-    chosen (after (codes "} else {\n") (past_spaces b.1)) (λ rest. closed_by stmt rest >>= λ d. Some (s.IfElse c b.0 d.0, d.1))
+    chosen (after (codes "} else {\n") (past_spaces b.1))
+    (λ rest. closed_by stmt rest >>= λ d. Some (s.IfElse c b.0 d.0, d.1))
     (closing (codes "}\n") b >>= λ b. Some (s.If c b.0, b.1))
 
 unfoldable pub if_by : Scope → Statements → List ℕ → Option (Stmt × List ℕ)
@@ -224,7 +224,8 @@ unfoldable pub loop_by : Statements → List ℕ → Option (Stmt × List ℕ)
 loop_by stmt bytes = closed_by stmt bytes >>= λ b. Some (s.Loop b.0, b.1)
 
 abbrev pub until_by : Scope → List Stmt × List ℕ → Option (Stmt × List ℕ)
-until_by sc b = after (codes "} while (") (past_spaces b.1) >>= expr_at sc >>= λ c. after (codes ");\n") c.1 >>= λ rest. Some (s.DoWhile b.0 c.0, rest)
+until_by sc b = closing (codes "} while (") b >>= λ b. expr_to sc (codes ");\n") b.1
+    >>= λ c. Some (s.DoWhile b.0 c.0, c.1)
 
 unfoldable pub do_by : Scope → Statements → List ℕ → Option (Stmt × List ℕ)
 do_by sc stmt bytes = until_by sc (body_by false stmt bytes)
@@ -257,8 +258,12 @@ arm_by stmt bytes = cases_at bytes >>= λ c. Some (arm_of c.0 (body_by true stmt
 abbrev pub arms_by : Statements → List ℕ → List Arm × List ℕ
 arms_by stmt bytes = many_by (arm_by stmt) (length bytes) bytes
 
+-- up to a brace
+abbrev pub all_arms_by : Statements → List ℕ → Option (List Arm × List ℕ)
+all_arms_by stmt bytes = closing (codes "}\n") (arms_by stmt bytes)
+
 unfoldable pub switch_by : Scope → Statements → List ℕ → Option (Stmt × List ℕ)
-switch_by sc stmt bytes = head_at sc bytes >>= λ c. closing (codes "}\n") (arms_by stmt c.1) >>= λ a. Some (s.Switch c.0 a.0, a.1)
+switch_by sc stmt bytes = head_at sc bytes >>= λ c. all_arms_by stmt c.1 >>= λ a. Some (s.Switch c.0 a.0, a.1)
 
 -- ---- all statements
 

@@ -2,7 +2,7 @@
 -- since what is read is checked and printed afterwards.
 use Rattle.std.specs.Prelude.{◌≡◌, ℕ, zero, suc, ◌+◌, ◌*◌, ◌%◌, ◌^◌, ◌==◌, Bool, if◌then◌else◌, List, [], ◌∷◌, ◌++◌, take, drop, Option, Some, None, Result, Ok, Err}
 use Rattle.std.specs.Char.{digit_value, is_digit}
-use Rattle.cmeaning.specs.Valid.{is_letter_or_digit}
+use Rattle.listing_lines.specs.Tokens.{is_name_byte}
 use Rattle.cread.specs.declared.item.CFault.{CFault}
 use Rattle.cread.specs.declared.item.CFault.TheVariants.{NotC, Memory}
 
@@ -33,6 +33,10 @@ after [] bs = Some bs
 after (w ∷ ws) [] = None
 after (w ∷ ws) (b ∷ bs) = if w == b then after ws bs else None
 
+-- something up to a word
+abbrev pub ended : {A : Type 0} → List ℕ → A × List ℕ → Option (A × List ℕ)
+ended word x = after word x.1 >>= λ rest. Some (x.0, rest)
+
 abbrev pub or_else : List ℕ → Option (List ℕ) → List ℕ
 or_else bs None = bs
 or_else bs (Some rest) = rest
@@ -51,14 +55,15 @@ past_spaces bs = drop (run_of is_space bs) bs
 
 -- the letters and digits at the front, and what follows them
 unfoldable pub name_at : List ℕ → List ℕ × List ℕ
-name_at bs = (take (run_of is_letter_or_digit bs) bs, drop (run_of is_letter_or_digit bs) bs)
+name_at bs = (take (run_of is_name_byte bs) bs, drop (run_of is_name_byte bs) bs)
 
 -- ---- numbers
 
 -- the number that digits at the front add to n, modulo 2 ^ 128
 unfoldable pub number_from : ℕ → ℕ → List ℕ → ℕ × List ℕ
 number_from radix n [] = (n, [])
-number_from radix n (b ∷ bs) = if is_digit b radix then number_from radix ((n * radix + digit_value b) % 2 ^ 128) bs else (n, b ∷ bs)
+number_from radix n (b ∷ bs) = if is_digit b radix then number_from radix ((n * radix + digit_value b) % 2 ^ 128) bs
+    else (n, b ∷ bs)
 
 unfoldable pub decimal_at : List ℕ → ℕ × List ℕ
 decimal_at bs = number_from 10 0 bs

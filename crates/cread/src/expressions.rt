@@ -4,12 +4,12 @@ ghost use Rattle.std.specs.Prelude.{◌≡◌};
 ghost use Rattle.std.specs.Option.{option_map};
 ghost use Rattle.ctext.specs.Names.{scope_of};
 ghost use Rattle.cread.specs.Words.{Gives, hex_at};
-ghost use Rattle.cread.specs.Expressions.{unary_at, sign_at, test_at, constant_by, pair_at, count_at, binary_by, inner_by, cast_by, typed_by, closed_by, paren_by, pair_by, count_by, part_by, named_at, atom_by, operand_at, expr_at};
+ghost use Rattle.cread.specs.Expressions.{unary_at, sign_at, test_at, constant_by, pair_at, count_at, binary_by, inner_by, cast_by, typed_by, closed_by, paren_by, pair_by, count_by, kept_of, part_by, named_at, atom_by, operand_at, expr_at, expr_to};
 
 use crate::item::{CFault, Item, Pair, Sign};
 use crate::made::{between, counted, pair, part, resize, signed, unary};
 use crate::names::{type_of, variable, width_of, word_of};
-use crate::words::{decimal, hex, need, past, skip};
+use crate::words::{decimal, ends, hex, need, past, skip};
 use bits_core::Width;
 use cmeaning::{
     ArithmeticOp, CFunction, CompareOp, CountOp, DivisionOp, Expr, Local, OverflowOp, ShiftOp,
@@ -167,6 +167,17 @@ fn named<'b>(f: &CFunction, bytes: &'b [u8]) -> Result<(Item, &'b [u8]), CFault>
     }
 }
 
+/// How many bytes of an operand are dropped, behind it.
+fn kept<'b>(alloc: Global, w: Width, found: (Item, &'b [u8])) -> Result<(Item, &'b [u8]), CFault>
+    ensures { Gives (λ x. (x.0, x.1.now)) result (kept_of w (found.entry.0, found.entry.1.now)) }
+{
+    let (a, rest) = ends(b", 0x", found)?;
+    let (k, rest) = hex(rest);
+    let (a, rest) = ends(b")", (a, rest))?;
+    let kept = part(alloc, (k % 256) as u8, w, a)?;
+    Ok((kept, rest))
+}
+
 // ---- operands
 
 /// An operand, within so many levels.
@@ -254,9 +265,8 @@ fn closed<'b>(
 ) -> Result<(Item, &'b [u8]), CFault>
     ensures { Gives (λ x. (x.0, x.1.now)) result (closed_by (operand_at (scope_of f.now) levels) bytes.now) }
 {
-    let (a, rest) = inner(alloc, f, levels, bytes)?;
-    let rest = need(b")", rest)?;
-    Ok((a, rest))
+    let found = inner(alloc, f, levels, bytes)?;
+    ends(b")", found)
 }
 
 /// What stands alone, in parentheses or as a condition.
@@ -311,8 +321,8 @@ fn pair_of<'b>(
 ) -> Result<(Item, &'b [u8]), CFault>
     ensures { Gives (λ x. (x.0, x.1.now)) result (pair_by (operand_at (scope_of f.now) levels) (word, bytes.now)) }
 {
-    let (a, rest) = inner(alloc, f, levels, bytes)?;
-    let rest = need(b", ", rest)?;
+    let found = inner(alloc, f, levels, bytes)?;
+    let (a, rest) = ends(b", ", found)?;
     let (b, rest) = closed(alloc, f, levels, rest)?;
     let both = pair(alloc, word, a, b)?;
     Ok((both, rest))
@@ -330,12 +340,8 @@ fn part_of<'b>(
 {
     let (w, rest) = decimal(bytes);
     let rest = need(b"(", rest)?;
-    let (a, rest) = inner(alloc, f, levels, rest)?;
-    let rest = need(b", 0x", rest)?;
-    let (k, rest) = hex(rest);
-    let rest = need(b")", rest)?;
-    let kept = part(alloc, (k % 256) as u8, width_of(w), a)?;
-    Ok((kept, rest))
+    let found = inner(alloc, f, levels, rest)?;
+    kept(alloc, width_of(w), found)
 }
 
 /// Without parentheses.
@@ -370,4 +376,17 @@ pub fn expr<'b>(alloc: Global, f: &CFunction, bytes: &'b [u8]) -> Result<(Expr, 
 {
     let (a, rest) = inner(alloc, f, 200, bytes)?;
     Ok((a.tree, rest))
+}
+
+/// An expression up to a word.
+pub fn expr_up_to<'b>(
+    alloc: Global,
+    f: &CFunction,
+    word: &[u8],
+    bytes: &'b [u8],
+) -> Result<(Expr, &'b [u8]), CFault>
+    ensures { Gives (λ x. (x.0, x.1.now)) result (expr_to (scope_of f.now) word.now bytes.now) }
+{
+    let found = expr(alloc, f, bytes)?;
+    ends(word, found)
 }

@@ -2,12 +2,12 @@
 
 ghost use Rattle.std.specs.Prelude.{◌≡◌, Some};
 ghost use Rattle.cread.specs.Words.{Gives, behind};
-ghost use Rattle.cread.specs.Functions.{result_at, callee_name_at, marked_by, no_return_mark, head_at, width_at, further_width, more_widths, widths_at, callee_at, callees_at, param_at, further_param, more_params, params_at, local_at, locals_at, declared_name, frame_at, function_at};
+ghost use Rattle.cread.specs.Functions.{result_at, callee_name_at, marked_by, no_return_mark, head_at, width_at, further_width, more_widths, widths_at, tail_at, callee_at, callees_at, param_at, further_param, more_params, params_at, local_at, locals_at, declared_name, title_at, variables_at, frame_at, function_at};
 
 use crate::item::{CFault, Head};
 use crate::names::{entry, long, type_of};
 use crate::statements::body;
-use crate::words::{decimal, hex, name, need, skip};
+use crate::words::{decimal, ends, hex, name, need, skip};
 use bits_core::Width;
 use cmeaning::{
     Body, CFunction, CName, CalleeDecl, CalleeDecls, Local, Locals, Param, ParamDecls, Widths,
@@ -49,8 +49,8 @@ fn marked(alloc: Global, returns: bool, bytes: &[u8]) -> Result<(Head, &[u8]), C
 {
     let (gives, rest) = result(bytes)?;
     let rest = need(b" ", rest)?;
-    let (name, rest) = callee_name(alloc, rest)?;
-    let rest = need(b"(", rest)?;
+    let found = callee_name(alloc, rest)?;
+    let (name, rest) = ends(b"(", found)?;
     Ok((
         Head {
             returns,
@@ -123,13 +123,24 @@ fn add_widths(found: Widths, bytes: &[u8]) -> Result<(Widths, &[u8]), CFault>
 fn widths(alloc: Global, bytes: &[u8]) -> Result<(Widths, &[u8]), CFault>
     ensures { Gives (λ x. (x.0, x.1.now)) result (widths_at bytes.now) }
 {
-    let mut found = Widths::new(alloc);
     if let Some(rest) = skip(b"void", bytes) {
-        return Ok((found, rest));
+        return Ok((Widths::new(alloc), rest));
     }
     let (w, rest) = width(bytes)?;
+    let mut found = Widths::new(alloc);
     found.push(w)?;
     add_widths(found, rest)
+}
+
+/// The widths of the arguments and the address, up to the end of the line.
+#[tactic(auto, unfolding(crate::specs::Functions::tail_at))]
+fn tail(alloc: Global, bytes: &[u8]) -> Result<((Widths, u64), &[u8]), CFault>
+    ensures { Gives (λ x. (x.0, x.1.now)) result (tail_at bytes.now) }
+{
+    let found = widths(alloc, bytes)?;
+    let (args, rest) = ends(b"); // 0x", found)?;
+    let (n, rest) = hex(rest);
+    ends(b"\n", ((args, long(n)), rest))
 }
 
 /// The declaration of a callee, in a line of its own.
@@ -138,14 +149,11 @@ fn callee(alloc: Global, bytes: &[u8]) -> Result<(CalleeDecl, &[u8]), CFault>
     ensures { Gives (λ x. (x.0, x.1.now)) result (callee_at bytes.now) }
 {
     let (head, rest) = head(alloc, bytes)?;
-    let (args, rest) = widths(alloc, rest)?;
-    let rest = need(b"); // 0x", rest)?;
-    let (n, rest) = hex(rest);
-    let rest = need(b"\n", rest)?;
+    let ((args, address), rest) = tail(alloc, rest)?;
     Ok((
         CalleeDecl {
             name: head.name,
-            address: long(n),
+            address,
             gives: head.gives,
             args,
             returns: head.returns,
@@ -228,12 +236,12 @@ fn add_params(found: ParamDecls, bytes: &[u8]) -> Result<(ParamDecls, &[u8]), CF
 fn params(alloc: Global, bytes: &[u8]) -> Result<(ParamDecls, &[u8]), CFault>
     ensures { Gives (λ x. (x.0, x.1.now)) result (params_at bytes.now) }
 {
-    let found = ParamDecls::new(alloc);
     if let Some(rest) = skip(b"void", bytes) {
-        return Ok((found, rest));
+        return Ok((ParamDecls::new(alloc), rest));
     }
     let (p, rest) = param(bytes)?;
-    add_params(found.with(p)?, rest)
+    let found = ParamDecls::new(alloc).with(p)?;
+    add_params(found, rest)
 }
 
 /// The line of a local.
@@ -281,22 +289,41 @@ fn declared(name: CName) -> Result<Name, CFault>
     }
 }
 
+/// The name and the width of the result.
+#[tactic(auto, unfolding(crate::specs::Functions::title_at))]
+fn title(alloc: Global, bytes: &[u8]) -> Result<((Name, Option<Width>), &[u8]), CFault>
+    ensures { Gives (λ x. (x.0, x.1.now)) result (title_at bytes.now) }
+{
+    let (head, rest) = head(alloc, bytes)?;
+    let gives = head.gives;
+    let name = declared(head.name)?;
+    Ok(((name, gives), rest))
+}
+
+/// The parameters and the locals.
+#[tactic(auto, unfolding(crate::specs::Functions::variables_at))]
+fn variables(alloc: Global, bytes: &[u8]) -> Result<((ParamDecls, Locals), &[u8]), CFault>
+    ensures { Gives (λ x. (x.0, x.1.now)) result (variables_at bytes.now) }
+{
+    let found = params(alloc, bytes)?;
+    let (params, rest) = ends(b")\n{\n", found)?;
+    let (locals, rest) = locals(alloc, rest)?;
+    Ok(((params, locals), rest))
+}
+
 /// All but the body.
 #[tactic(auto, unfolding(crate::specs::Functions::frame_at))]
 fn frame(alloc: Global, bytes: &[u8]) -> Result<(CFunction, &[u8]), CFault>
     ensures { Gives (λ x. (x.0, x.1.now)) result (frame_at bytes.now) }
 {
     let (callees, rest) = callees(alloc, bytes)?;
-    let (head, rest) = head(alloc, rest)?;
-    let name = declared(head.name)?;
-    let (params, rest) = params(alloc, rest)?;
-    let rest = need(b")\n{\n", rest)?;
-    let (locals, rest) = locals(alloc, rest)?;
+    let ((name, gives), rest) = title(alloc, rest)?;
+    let ((params, locals), rest) = variables(alloc, rest)?;
     Ok((
         CFunction {
             callees,
             name,
-            gives: head.gives,
+            gives,
             params,
             locals,
             body: Body::new(alloc),

@@ -102,14 +102,22 @@ fn compared(signed: bool, op: CompareOp, a: Boxed<Expr>, b: Boxed<Expr>) -> Expr
     }
 }
 
+/// Two trees on the heap.
+fn both(alloc: Global, a: Expr, b: Expr) -> Result<(Boxed<Expr>, Boxed<Expr>), CFault>
+    ensures { Gives (λ x. x) result (Some (a, b)) }
+{
+    let left = Boxed::new(alloc, a)?;
+    let right = Boxed::new(alloc, b)?;
+    Ok((left, right))
+}
+
 /// Two operands with a sign between them.
 pub fn between(alloc: Global, sign: Sign, a: Item, b: Item) -> Result<Item, CFault>
     ensures { Gives (λ x. x) result (Some (joined sign a b)) }
 {
     let signed = a.signed;
     let width = a.width;
-    let left = Boxed::new(alloc, a.tree)?;
-    let right = Boxed::new(alloc, b.tree)?;
+    let (left, right) = both(alloc, a.tree, b.tree)?;
     match sign {
         Sign::Arithmetic(op) => Ok(plain(Expr::Arithmetic(op, left, right), width)),
         Sign::Division(op) => Ok(plain(divided(signed, op, left, right), width)),
@@ -123,12 +131,11 @@ pub fn pair(alloc: Global, word: Pair, a: Item, b: Item) -> Result<Item, CFault>
     ensures { Gives (λ x. x) result (Some (paired word a b)) }
 {
     let width = a.width;
-    let both = width.saturating_add(b.width);
-    let left = Boxed::new(alloc, a.tree)?;
-    let right = Boxed::new(alloc, b.tree)?;
+    let sum = width.saturating_add(b.width);
+    let (left, right) = both(alloc, a.tree, b.tree)?;
     match word {
         Pair::Shift(op) => Ok(plain(Expr::Shift(op, left, right), width)),
-        Pair::Concat => Ok(plain(Expr::Concat(left, right), both)),
+        Pair::Concat => Ok(plain(Expr::Concat(left, right), sum)),
         Pair::Overflow(op) => Ok(plain(Expr::Overflow(op, left, right), 1)),
     }
 }

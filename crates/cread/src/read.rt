@@ -21,6 +21,18 @@ fn has_text(alloc: Global, f: &CFunction, bytes: &[u8]) -> Result<bool, Memory>
     Ok(bytes == text.as_slice())
 }
 
+/// Whether the tree is valid and has this text.
+fn stands_for(alloc: Global, f: &CFunction, bytes: &[u8]) -> Result<bool, Memory>
+    ensures { IfOk result (λ yes. IsTrue yes ↔ IsTreeOf bytes.now f.now) }
+{
+    let right = checked(alloc, f)?;
+    if !right {
+        return Ok(false);
+    }
+    let same = has_text(alloc, f, bytes)?;
+    Ok(same)
+}
+
 /// The one valid tree with this text, or NotC exactly where there is none.
 pub fn read_c(alloc: Global, bytes: &[u8]) -> Result<CFunction, CFault>
     // What is read is a valid tree, and has this text.
@@ -29,12 +41,8 @@ pub fn read_c(alloc: Global, bytes: &[u8]) -> Result<CFunction, CFault>
     ensures only { (f : Function) → IsTreeOf bytes.now f → IsAnswered f result }
 {
     let f = function(alloc, bytes)?;
-    let right = checked(alloc, &f)?;
-    if !right {
-        return Err(CFault::NotC);
-    }
-    let same = has_text(alloc, &f, bytes)?;
-    if !same {
+    let stands = stands_for(alloc, &f, bytes)?;
+    if !stands {
         return Err(CFault::NotC);
     }
     Ok(f)

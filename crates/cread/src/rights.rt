@@ -4,12 +4,12 @@ ghost use Rattle.std.specs.Prelude.{◌≡◌, Some};
 ghost use Rattle.std.specs.Option.{option_map};
 ghost use Rattle.ctext.specs.Names.{scope_of};
 ghost use Rattle.cread.specs.Words.{Gives, behind};
-ghost use Rattle.cread.specs.Statements.{right_at, division_at, value_at, further_item, further_at, args_at, pointed_at, memory_at, with_args, named_call, bare_call, indirect_call, other_call, extra_at, divide_at, loaded, right_by, assigned_by, target_at, effect_at};
+ghost use Rattle.cread.specs.Statements.{right_at, division_at, value_at, further_item, further_at, args_at, listed_at, pointed_at, memory_at, with_args, named_call, bare_call, indirect_call, other_call, extra_at, divide_at, loaded, right_by, assigned_by, target_at, effect_at};
 
-use crate::expressions::expr;
+use crate::expressions::{expr, expr_up_to};
 use crate::item::{Access, CFault, Right};
 use crate::names::{address_of, long, variable};
-use crate::words::{decimal, hex, name, need, skip};
+use crate::words::{decimal, ends, hex, name, need, skip};
 use cmeaning::{CFunction, Expr, Exprs, StatementDivision, Stmt};
 use pcode_model::Name;
 use std::alloc::Global;
@@ -65,9 +65,7 @@ fn division(bytes: &[u8]) -> Option<(Right, &[u8])>
 pub fn value<'b>(alloc: Global, f: &CFunction, bytes: &'b [u8]) -> Result<(Expr, &'b [u8]), CFault>
     ensures { Gives (λ x. (x.0, x.1.now)) result (value_at (scope_of f.now) bytes.now) }
 {
-    let (e, rest) = expr(alloc, f, bytes)?;
-    let rest = need(b";\n", rest)?;
-    Ok((e, rest))
+    expr_up_to(alloc, f, b";\n", bytes)
 }
 
 // ---- arguments
@@ -114,13 +112,21 @@ fn further<'b>(
 fn args<'b>(alloc: Global, f: &CFunction, bytes: &'b [u8]) -> Result<(Exprs, &'b [u8]), CFault>
     ensures { Gives (λ x. (x.0, x.1.now)) result (args_at (scope_of f.now) bytes.now) }
 {
-    let mut found = Exprs::new(alloc);
     if skip(b")", bytes).is_some() {
-        return Ok((found, bytes));
+        return Ok((Exprs::new(alloc), bytes));
     }
     let (e, rest) = expr(alloc, f, bytes)?;
+    let mut found = Exprs::new(alloc);
     found.push(e)?;
     further(alloc, f, found, rest)
+}
+
+/// The expressions that stand here behind a comma each, up to the end of the line.
+fn listed<'b>(alloc: Global, f: &CFunction, bytes: &'b [u8]) -> Result<(Exprs, &'b [u8]), CFault>
+    ensures { Gives (λ x. (x.0, x.1.now)) result (listed_at (scope_of f.now) bytes.now) }
+{
+    let found = further(alloc, f, Exprs::new(alloc), bytes)?;
+    ends(b");\n", found)
 }
 
 // ---- memory
@@ -131,8 +137,7 @@ fn pointed<'b>(alloc: Global, f: &CFunction, bytes: &'b [u8]) -> Result<(Access,
 {
     let (_, rest) = decimal(bytes);
     let rest = need(b" *)(", rest)?;
-    let (address, rest) = expr(alloc, f, rest)?;
-    let rest = need(b")", rest)?;
+    let (address, rest) = expr_up_to(alloc, f, b")", rest)?;
     let space = None;
     Ok((Access { space, address }, rest))
 }
@@ -145,9 +150,9 @@ fn memory<'b>(alloc: Global, f: &CFunction, bytes: &'b [u8]) -> Result<(Access, 
     let rest = need(b"(", rest)?;
     let (space, rest) = name(rest);
     let rest = need(b", ", rest)?;
-    let (address, rest) = expr(alloc, f, rest)?;
-    let rest = need(b")", rest)?;
-    let space = Some(Name::from_slice(alloc, space)?);
+    let space = Name::from_slice(alloc, space)?;
+    let (address, rest) = expr_up_to(alloc, f, b")", rest)?;
+    let space = Some(space);
     Ok((Access { space, address }, rest))
 }
 
@@ -156,15 +161,14 @@ fn access<'b>(
     alloc: Global,
     f: &CFunction,
     v: Option<u32>,
-    a: Access,
-    bytes: &'b [u8],
+    found: (Access, &'b [u8]),
 ) -> Result<(Stmt, &'b [u8]), CFault>
-    ensures { Gives (λ x. (x.0, x.1.now)) result (loaded v (a, bytes.now) (scope_of f.now)) }
+    ensures { Gives (λ x. (x.0, x.1.now)) result (loaded v (found.entry.0, found.entry.1.now) (scope_of f.now)) }
 {
-    let Access { space, address } = a;
     match v {
         Some(target) => {
-            let rest = need(b";\n", bytes)?;
+            let (a, rest) = ends(b";\n", found)?;
+            let Access { space, address } = a;
             Ok((
                 Stmt::Load {
                     target,
@@ -175,8 +179,9 @@ fn access<'b>(
             ))
         }
         None => {
-            let rest = need(b" = ", bytes)?;
+            let (a, rest) = ends(b" = ", found)?;
             let (value, rest) = value(alloc, f, rest)?;
+            let Access { space, address } = a;
             Ok((
                 Stmt::Store {
                     space,
@@ -201,8 +206,8 @@ fn call<'b>(
     ensures { Gives (λ x. (x.0, x.1.now)) result (with_args (scope_of f.now) target callee bytes.now) }
 {
     let rest = need(b"(", bytes)?;
-    let (args, rest) = args(alloc, f, rest)?;
-    let rest = need(b");\n", rest)?;
+    let found = args(alloc, f, rest)?;
+    let (args, rest) = ends(b");\n", found)?;
     Ok((
         Stmt::Call {
             target,
@@ -254,8 +259,7 @@ fn indirect<'b>(
     let (_, rest) = decimal(bytes);
     let rest = need(b"(", rest)?;
     let (callee, rest) = expr(alloc, f, rest)?;
-    let (args, rest) = further(alloc, f, Exprs::new(alloc), rest)?;
-    let rest = need(b");\n", rest)?;
+    let (args, rest) = listed(alloc, f, rest)?;
     Ok((
         Stmt::CallInd {
             target,
@@ -279,8 +283,7 @@ fn other<'b>(
     let rest = need(b"(0x", rest)?;
     let (n, rest) = hex(rest);
     let index = long(n);
-    let (args, rest) = further(alloc, f, Exprs::new(alloc), rest)?;
-    let rest = need(b");\n", rest)?;
+    let (args, rest) = listed(alloc, f, rest)?;
     Ok((
         Stmt::Other {
             target,
@@ -319,10 +322,8 @@ fn divide<'b>(
     let Some(target) = target else {
         return Err(CFault::NotC);
     };
-    let (left, rest) = expr(alloc, f, bytes)?;
-    let rest = need(b", ", rest)?;
-    let (right, rest) = expr(alloc, f, rest)?;
-    let rest = need(b");\n", rest)?;
+    let (left, rest) = expr_up_to(alloc, f, b", ", bytes)?;
+    let (right, rest) = expr_up_to(alloc, f, b");\n", rest)?;
     Ok((
         Stmt::Divide {
             target,
@@ -348,12 +349,12 @@ fn behind_word<'b>(
 {
     match word {
         Right::Pointed => {
-            let (a, rest) = pointed(alloc, f, bytes)?;
-            access(alloc, f, target, a, rest)
+            let found = pointed(alloc, f, bytes)?;
+            access(alloc, f, target, found)
         }
         Right::Memory => {
-            let (a, rest) = memory(alloc, f, bytes)?;
-            access(alloc, f, target, a, rest)
+            let found = memory(alloc, f, bytes)?;
+            access(alloc, f, target, found)
         }
         Right::Named => named(alloc, f, target, bytes),
         Right::Bare => bare(alloc, f, target, bytes),

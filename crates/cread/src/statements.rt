@@ -4,13 +4,13 @@ ghost use Rattle.std.specs.Prelude.{◌≡◌, Some};
 ghost use Rattle.std.specs.Option.{option_map};
 ghost use Rattle.ctext.specs.Names.{scope_of};
 ghost use Rattle.ctext.specs.Statements.{loop_head};
-ghost use Rattle.cread.specs.Words.{Gives, after, behind, past_spaces as behind_spaces};
-ghost use Rattle.cread.specs.Statements.{plain_line_at, line_at, number_at, head_at, not_own as is_no_own_break, spaced_by, body_by, closed_by, if_by, while_by, loop_by, do_by, case_at, further_cases, cases_at, past_break, arm_by, arms_by, switch_by, line_by, statement_at};
+ghost use Rattle.cread.specs.Words.{Gives, behind};
+ghost use Rattle.cread.specs.Statements.{plain_line_at, line_at, number_at, head_at, closing as closed_at, not_own as is_no_own_break, spaced_by, body_by, closed_by, if_by, while_by, loop_by, do_by, case_at, further_cases, cases_at, past_break, arm_by, arms_by, all_arms_by, switch_by, line_by, statement_at};
 
-use crate::expressions::expr;
+use crate::expressions::expr_up_to;
 use crate::item::{CFault, Line};
 use crate::rights::{effect, value};
-use crate::words::{decimal, hex, need, past_spaces, skip};
+use crate::words::{decimal, ends, hex, need, past_spaces, skip};
 use cmeaning::{Arm, Arms, Body, CFunction, Expr, Stmt, Values};
 use std::alloc::Global;
 
@@ -80,16 +80,15 @@ fn number<'b>(word: &[u8], bytes: &'b [u8]) -> Result<(u32, &'b [u8]), CFault>
 fn head<'b>(alloc: Global, f: &CFunction, bytes: &'b [u8]) -> Result<(Expr, &'b [u8]), CFault>
     ensures { Gives (λ x. (x.0, x.1.now)) result (head_at (scope_of f.now) bytes.now) }
 {
-    let (e, rest) = expr(alloc, f, bytes)?;
-    let rest = need(b") {\n", rest)?;
-    Ok((e, rest))
+    expr_up_to(alloc, f, b") {\n", bytes)
 }
 
-/// The line that ends a body.
-fn closing<'b>(word: &[u8], bytes: &'b [u8]) -> Result<&'b [u8], CFault>
-    ensures { Gives (λ x. x.now) result (after word.now (behind_spaces bytes.now)) }
+/// What was read, up to the line that ends it.
+fn closing<'b, T: Drop>(word: &[u8], found: (T, &'b [u8])) -> Result<(T, &'b [u8]), CFault>
+    ensures { Gives (λ x. (x.0, x.1.now)) result (closed_at word.now (found.entry.0, found.entry.1.now)) }
 {
-    need(word, past_spaces(bytes))
+    let rest = past_spaces(found.1);
+    ends(word, (found.0, rest))
 }
 
 /// Behind the switch's own break, if it stands here.
@@ -261,9 +260,8 @@ fn closed<'b>(
 ) -> Result<(Body, &'b [u8]), CFault>
     ensures { Gives (λ x. (x.0, x.1.now)) result (closed_by (statement_at (scope_of f.now) levels) bytes.now) }
 {
-    let (b, rest) = body(alloc, f, false, levels, bytes)?;
-    let rest = closing(b"}\n", rest)?;
-    Ok((b, rest))
+    let found = body(alloc, f, false, levels, bytes)?;
+    closing(b"}\n", found)
 }
 
 #[cycle(lines)]
@@ -289,7 +287,7 @@ fn branch<'b>(
             rest,
         ));
     }
-    let rest = closing(b"}\n", rest)?;
+    let (body, rest) = closing(b"}\n", (body, rest))?;
     Ok((Stmt::If { condition, body }, rest))
 }
 
@@ -332,10 +330,9 @@ fn until<'b>(
 ) -> Result<(Stmt, &'b [u8]), CFault>
     ensures { Gives (λ x. (x.0, x.1.now)) result (do_by (scope_of f.now) (statement_at (scope_of f.now) levels) bytes.now) }
 {
-    let (body, rest) = body(alloc, f, false, levels, bytes)?;
-    let rest = closing(b"} while (", rest)?;
-    let (condition, rest) = expr(alloc, f, rest)?;
-    let rest = need(b");\n", rest)?;
+    let found = body(alloc, f, false, levels, bytes)?;
+    let (body, rest) = closing(b"} while (", found)?;
+    let (condition, rest) = expr_up_to(alloc, f, b");\n", rest)?;
     Ok((Stmt::DoWhile { body, condition }, rest))
 }
 
@@ -380,6 +377,19 @@ fn arms<'b>(
 }
 
 #[cycle(lines)]
+fn all_arms<'b>(
+    alloc: Global,
+    f: &CFunction,
+    levels: u32,
+    bytes: &'b [u8],
+) -> Result<(Arms, &'b [u8]), CFault>
+    ensures { Gives (λ x. (x.0, x.1.now)) result (all_arms_by (statement_at (scope_of f.now) levels) bytes.now) }
+{
+    let found = arms(alloc, f, levels, bytes)?;
+    closing(b"}\n", found)
+}
+
+#[cycle(lines)]
 #[tactic(auto, unfolding(crate::specs::Statements::switch_by))]
 fn switch<'b>(
     alloc: Global,
@@ -390,7 +400,6 @@ fn switch<'b>(
     ensures { Gives (λ x. (x.0, x.1.now)) result (switch_by (scope_of f.now) (statement_at (scope_of f.now) levels) bytes.now) }
 {
     let (value, rest) = head(alloc, f, bytes)?;
-    let (arms, rest) = arms(alloc, f, levels, rest)?;
-    let rest = closing(b"}\n", rest)?;
+    let (arms, rest) = all_arms(alloc, f, levels, rest)?;
     Ok((Stmt::Switch { value, arms }, rest))
 }

@@ -2,11 +2,11 @@
 
 ghost use Rattle.std.specs.Prelude.{◌≡◌, ◌≤◌, length};
 ghost use Rattle.std.specs.Option.{option_map};
-ghost use Rattle.std.specs.Char.{digit_value};
-ghost use Rattle.cmeaning.specs.Valid.{is_letter_or_digit};
-ghost use Rattle.cread.specs.Words.{Gives, after, or_else, run_of, is_space, past_spaces as behind_spaces, name_at, number_from, decimal_at, hex_at};
+ghost use Rattle.listing_lines.specs.Tokens.{is_name_byte};
+ghost use Rattle.cread.specs.Words.{Gives, after, ended, or_else, run_of, is_space, past_spaces as behind_spaces, name_at, number_from, decimal_at, hex_at};
 
 use crate::item::CFault;
+use listing_lines::digit;
 
 /// What follows a word.
 pub fn skip<'b>(word: &[u8], bytes: &'b [u8]) -> Option<&'b [u8]>
@@ -21,6 +21,16 @@ pub fn need<'b>(word: &[u8], bytes: &'b [u8]) -> Result<&'b [u8], CFault>
 {
     match skip(word, bytes) {
         Some(rest) => Ok(rest),
+        None => Err(CFault::NotC),
+    }
+}
+
+/// What was read, up to a word. Readers hand on whole what they found, so that no early return has a part of it to drop.
+pub fn ends<'b, T: Drop>(word: &[u8], found: (T, &'b [u8])) -> Result<(T, &'b [u8]), CFault>
+    ensures { Gives (λ x. (x.0, x.1.now)) result (ended word.now (found.entry.0, found.entry.1.now)) }
+{
+    match skip(word, found.1) {
+        Some(rest) => Ok((found.0, rest)),
         None => Err(CFault::NotC),
     }
 }
@@ -58,14 +68,14 @@ pub fn past_spaces(bytes: &[u8]) -> &[u8]
 }
 
 fn letter_or_digit(b: u8) -> bool
-    ensures { result ≡ is_letter_or_digit b }
+    ensures { result ≡ is_name_byte b }
 {
     (b >= 65 && b <= 90) || (b >= 97 && b <= 122) || b == 95 || (b >= 48 && b <= 57)
 }
 
 #[tactic(auto, using(crate::proofs::Fronts::run_more, crate::proofs::Fronts::run_done, crate::proofs::Fronts::run_end))]
 fn letters(bytes: &[u8]) -> usize
-    ensures value { result ≡ run_of is_letter_or_digit bytes.now }
+    ensures value { result ≡ run_of is_name_byte bytes.now }
     ensures within { result ≤ length bytes.now }
 {
     let mut n = 0;
@@ -85,17 +95,6 @@ pub fn name(bytes: &[u8]) -> (&[u8], &[u8])
 {
     let n = letters(bytes);
     (&bytes[..n], &bytes[n..])
-}
-
-fn digit(b: u8) -> u8
-    ensures { result ≡ digit_value b }
-{
-    match b {
-        b'0'..=b'9' => b - 48,
-        b'A'..=b'Z' => b - 55,
-        b'a'..=b'z' => b - 87,
-        _ => 36,
-    }
 }
 
 /// The number at the front, modulo 2 to the 128, and what follows it.

@@ -1,4 +1,3 @@
-pub mod Callees
 pub mod Hexadecimal
 pub mod Nested
 pub mod Shown

@@ -20,7 +20,8 @@ shown_simple Operand w t = refl
 shown_simple Signed w t = simp append_assoc
 shown_simple Test w t = refl
 
-pub shown_constant : (m : Mode) (w n : ℕ) → shown m (constant w n) ≡ front m w ++ unsigned_cast w (codes "0x" ++ (hex n ++ suffix n))
+pub shown_constant : (m : Mode) (w n : ℕ)
+    → shown m (constant w n) ≡ front m w ++ unsigned_cast w (codes "0x" ++ (hex n ++ suffix n))
 shown_constant Plain w n = refl
 shown_constant Operand w n = refl
 shown_constant Signed w n = simp append_assoc
@@ -33,6 +34,8 @@ shown_comparison Signed t = simp append_assoc
 shown_comparison Test t = sym (append-nil t)
 
 -- a part that is left after some bytes are dropped
-pub part_dropped : (k w : ℕ) (f : Form) → 0 < k → part_text k w f ≡ codes "SUB" ++ (decimal w ++ (40 ∷ (f.plain ++ (codes ", 0x" ++ (hex k ++ 41 ∷ [])))))
+pub part_dropped : (k w : ℕ) (f : Form)
+    → 0 < k
+    → part_text k w f ≡ codes "SUB" ++ (decimal w ++ (40 ∷ (f.plain ++ (codes ", 0x" ++ (hex k ++ 41 ∷ [])))))
 part_dropped zero w f above = absurd (omega arith)
 part_dropped (suc k) w f above = refl

@@ -54,7 +54,14 @@ signed_cast w t = cast true w t
 
 -- of a binary or unary form
 abbrev pub compound : ℕ → List ℕ → Form
-compound w t = record { width = w; constant = None; plain = t; operand = enclosed t; signed = signed_cast w (enclosed t); test = t }
+compound w t = record {
+  width = w;
+  constant = None;
+  plain = t;
+  operand = enclosed t;
+  signed = signed_cast w (enclosed t);
+  test = t;
+}
 
 -- of any other form
 abbrev pub simple : ℕ → List ℕ → Form
@@ -62,18 +69,23 @@ simple w t = record { width = w; constant = None; plain = t; operand = t; signed
 
 -- a comparison: as a condition it has neither the cast nor the parentheses of its own
 abbrev pub comparison : List ℕ → Form
-comparison t = let whole = unsigned_cast 1 (enclosed t) in record { width = 1; constant = None; plain = whole; operand = whole; signed = signed_cast 1 whole; test = t }
+comparison t = let whole = unsigned_cast 1 (enclosed t) in
+    record { width = 1; constant = None; plain = whole; operand = whole; signed = signed_cast 1 whole; test = t }
 
 -- a constant past 64 bits needs a suffix
 abbrev pub suffix : ℕ → List ℕ
 suffix n = if nat_lt n (2 ^ 64) then [] else codes "uwb"
 
 abbrev pub constant : ℕ → ℕ → Form
-constant w n = let t = unsigned_cast w (codes "0x" ++ (hex n ++ suffix n)) in record { width = w; constant = Some n; plain = t; operand = t; signed = signed_cast w t; test = t }
+constant w n = let t = unsigned_cast w (codes "0x" ++ (hex n ++ suffix n)) in
+    record { width = w; constant = Some n; plain = t; operand = t; signed = signed_cast w t; test = t }
 
 -- a signed variable stands as itself where a signed operand is asked, and behind a cast elsewhere
 abbrev pub variable_form : Variable → Form
-variable_form v = if v.signed then (let t = unsigned_cast v.width v.name in record { width = v.width; constant = None; plain = t; operand = t; signed = v.name; test = t }) else simple v.width v.name
+variable_form v = if v.signed then
+    (let t = unsigned_cast v.width v.name in
+    record { width = v.width; constant = None; plain = t; operand = t; signed = v.name; test = t })
+    else simple v.width v.name
 
 abbrev pub unary_sign : UnaryOp → List ℕ
 unary_sign U.Neg = codes "-"
@@ -162,7 +174,8 @@ form_step sc (Expr-F.Var n) = variable_form (variable sc n)
 form_step sc (Expr-F.Unary op a) = compound a.width (unary_sign op ++ a.operand)
 form_step sc (Expr-F.Arithmetic op a b) = compound a.width (between a.operand (arithmetic_sign op) b.operand)
 form_step sc (Expr-F.Division op a b) = compound a.width (between a.operand (division_sign op) b.operand)
-form_step sc (Expr-F.SignedDivision op a b) = simple a.width (unsigned_cast a.width (enclosed (between a.signed (signed_division_sign op) b.signed)))
+form_step sc (Expr-F.SignedDivision op a b) =
+    simple a.width (unsigned_cast a.width (enclosed (between a.signed (signed_division_sign op) b.signed)))
 form_step sc (Expr-F.Shift op a b) = shift_form op a b
 form_step sc (Expr-F.Compare op a b) = comparison (between a.operand (compare_sign op) b.operand)
 form_step sc (Expr-F.SignedCompare op a b) = comparison (between a.signed (signed_compare_sign op) b.signed)

@@ -102,16 +102,6 @@ of_param_or_local sc n None = of_local (n - length sc.params + 1) (slice_get sc.
 unfoldable pub variable : Scope → ℕ → Variable
 variable sc n = of_param_or_local sc n (slice_get sc.params n)
 
--- the first of the callees with an address
-abbrev pub callee_at : List CalleeDecl → ℕ → Option CalleeDecl
-callee_at [] address = None
-callee_at (c ∷ cs) address = if c.address == address then Some c else callee_at cs address
-
 abbrev pub name_at : Option CalleeDecl → List ℕ
 name_at None = []
 name_at (Some c) = callee_name c.name c.address
-
--- whether a call of it goes on
-abbrev pub goes_on : Option CalleeDecl → Bool
-goes_on None = true
-goes_on (Some c) = c.returns

@@ -1,5 +1,5 @@
 -- The text of a statement: its lines, each with its line feed. This project's own.
-use Rattle.std.specs.Prelude.{ℕ, Bool, true, false, not, if◌then◌else◌, List, [], ◌∷◌, ◌++◌, map, codes, Option, Some, None}
+use Rattle.std.specs.Prelude.{ℕ, Bool, true, false, if◌then◌else◌, List, [], ◌∷◌, ◌++◌, map, codes, Option, Some, None}
 use Rattle.std.specs.Fmt.{decimal}
 use Rattle.cmeaning.specs.declared.tree.StatementDivision.{StatementDivision}
 use Rattle.cmeaning.specs.declared.tree.StatementDivision.TheVariants as D
@@ -7,7 +7,9 @@ use Rattle.cmeaning.specs.declared.tree.Expr.{Expr}
 use Rattle.cmeaning.specs.declared.tree.Arm.{Arm, Arm-F, fold-Arm}
 use Rattle.cmeaning.specs.declared.tree.Stmt.{Stmt, fold-Stmt}
 use Rattle.cmeaning.specs.declared.tree.Stmt.TheOpen.{Stmt-F}
-use Rattle.ctext.specs.Names.{Scope, Variable, variable, hex, unsigned_type, separated, further, callee_at, name_at, goes_on}
+use Rattle.cmeaning.specs.Callees.{declared_in, returns_by}
+use Rattle.cmeaning.specs.Leaves.{leaves_step, ends_in_break}
+use Rattle.ctext.specs.Names.{Scope, Variable, variable, hex, unsigned_type, separated, further, name_at}
 use Rattle.ctext.specs.Expressions.{Form, form, call_of_two}
 
 -- A statement's text behind the spaces of its first line, from the spaces before each of its outer lines; and whether
@@ -24,11 +26,6 @@ deeper d = codes "  " ++ d
 abbrev pub all_lines : List Lines → List ℕ → List ℕ
 all_lines [] d = []
 all_lines (l ∷ ls) d = d ++ (l.text d ++ all_lines ls d)
-
--- whether the last of these statements leaves, or `b` where there is none
-abbrev pub last_leaves : Bool → List Lines → Bool
-last_leaves b [] = b
-last_leaves b (l ∷ ls) = last_leaves l.leaves ls
 
 -- ---- simple statements
 
@@ -49,7 +46,8 @@ assigned v e = if v.signed then e.signed else e.plain
 -- so many bytes of the first ram space, or of the ram space with this name
 abbrev pub access_text : Option (List ℕ) → ℕ → Form → List ℕ
 access_text None w a = codes "*(" ++ (unsigned_type w ++ (codes " *)(" ++ (a.plain ++ codes ")")))
-access_text (Some name) w a = codes "MEM" ++ (decimal w ++ (codes "(" ++ (name ++ (codes ", " ++ (a.plain ++ codes ")")))))
+access_text (Some name) w a = codes "MEM"
+    ++ (decimal w ++ (codes "(" ++ (name ++ (codes ", " ++ (a.plain ++ codes ")")))))
 
 abbrev pub plain_texts : Scope → List Expr → List (List ℕ)
 plain_texts sc es = map (λ e. (form sc e).plain) es
@@ -65,28 +63,37 @@ return_text sc None = codes "return;\n"
 return_text sc (Some e) = codes "return " ++ ((form sc e).plain ++ codes ";\n")
 
 abbrev pub load_text : Scope → ℕ → Option (List ℕ) → Expr → List ℕ
-load_text sc v space a = (variable sc v).name ++ (codes " = " ++ (access_text space (variable sc v).width (form sc a) ++ codes ";\n"))
+load_text sc v space a = (variable sc v).name
+    ++ (codes " = " ++ (access_text space (variable sc v).width (form sc a) ++ codes ";\n"))
 
 abbrev pub store_text : Scope → Option (List ℕ) → Expr → Expr → List ℕ
-store_text sc space a e = access_text space (form sc e).width (form sc a) ++ (codes " = " ++ ((form sc e).plain ++ codes ";\n"))
+store_text sc space a e = access_text space (form sc e).width (form sc a)
+    ++ (codes " = " ++ ((form sc e).plain ++ codes ";\n"))
 
 abbrev pub assign_text : Scope → ℕ → Expr → List ℕ
 assign_text sc v e = (variable sc v).name ++ (codes " = " ++ (assigned (variable sc v) (form sc e) ++ codes ";\n"))
 
 abbrev pub call_text : Scope → Option ℕ → ℕ → List Expr → List ℕ
-call_text sc v address es = target_text sc v ++ (name_at (callee_at sc.callees address) ++ (codes "(" ++ (separated (plain_texts sc es) ++ codes ");\n")))
+call_text sc v address es = target_text sc v
+    ++ (name_at (declared_in sc.callees address) ++ (codes "(" ++ (separated (plain_texts sc es) ++ codes ");\n")))
 
 abbrev pub call_ind_text : Scope → Option ℕ → Expr → List Expr → List ℕ
-call_ind_text sc v e es = target_text sc v ++ (codes "CALLIND" ++ (decimal (target_width sc v) ++ (codes "(" ++ ((form sc e).plain ++ (further (plain_texts sc es) ++ codes ");\n")))))
+call_ind_text sc v e es = target_text sc v
+    ++ (codes "CALLIND" ++ (decimal (target_width sc v)
+    ++ (codes "(" ++ ((form sc e).plain ++ (further (plain_texts sc es) ++ codes ");\n")))))
 
 abbrev pub other_text : Scope → Option ℕ → ℕ → List Expr → List ℕ
-other_text sc v index es = target_text sc v ++ (codes "OTHER" ++ (decimal (target_width sc v) ++ (codes "(0x" ++ (hex index ++ (further (plain_texts sc es) ++ codes ");\n")))))
+other_text sc v index es = target_text sc v
+    ++ (codes "OTHER" ++ (decimal (target_width sc v)
+    ++ (codes "(0x" ++ (hex index ++ (further (plain_texts sc es) ++ codes ");\n")))))
 
 abbrev pub extra_text : Scope → ℕ → ℕ → List ℕ
-extra_text sc v offset = target_text sc (Some v) ++ (codes "EXTRAOUT" ++ (decimal (target_width sc (Some v)) ++ (codes "(0x" ++ (hex offset ++ codes ");\n"))))
+extra_text sc v offset = target_text sc (Some v)
+    ++ (codes "EXTRAOUT" ++ (decimal (target_width sc (Some v)) ++ (codes "(0x" ++ (hex offset ++ codes ");\n"))))
 
 abbrev pub divide_text : Scope → ℕ → StatementDivision → Expr → Expr → List ℕ
-divide_text sc v op a b = target_text sc (Some v) ++ (call_of_two (division_word op) (form sc a) (form sc b) ++ codes ";\n")
+divide_text sc v op a b = target_text sc (Some v)
+    ++ (call_of_two (division_word op) (form sc a) (form sc b) ++ codes ";\n")
 
 -- ---- statements with bodies
 
@@ -95,10 +102,13 @@ abbrev pub block_text : List ℕ → Form → List Lines → List ℕ → List �
 block_text word e body d = word ++ (e.test ++ (codes ") {\n" ++ (all_lines body (deeper d) ++ (d ++ codes "}\n"))))
 
 abbrev pub if_else_text : Form → List Lines → List Lines → List ℕ → List ℕ
-if_else_text e body other d = codes "if (" ++ (e.test ++ (codes ") {\n" ++ (all_lines body (deeper d) ++ (d ++ (codes "} else {\n" ++ (all_lines other (deeper d) ++ (d ++ codes "}\n")))))))
+if_else_text e body other d = codes "if ("
+    ++ (e.test ++ (codes ") {\n" ++ (all_lines body (deeper d)
+    ++ (d ++ (codes "} else {\n" ++ (all_lines other (deeper d) ++ (d ++ codes "}\n")))))))
 
 abbrev pub do_while_text : List Lines → Form → List ℕ → List ℕ
-do_while_text body e d = codes "do {\n" ++ (all_lines body (deeper d) ++ (d ++ (codes "} while (" ++ (e.test ++ codes ");\n"))))
+do_while_text body e d = codes "do {\n"
+    ++ (all_lines body (deeper d) ++ (d ++ (codes "} while (" ++ (e.test ++ codes ");\n"))))
 
 unfoldable pub loop_head : List ℕ
 loop_head = codes "while (1) {\n"
@@ -110,14 +120,17 @@ abbrev pub case_lines : List ℕ → List ℕ → List ℕ
 case_lines [] d = []
 case_lines (n ∷ ns) d = d ++ (codes "case 0x" ++ (hex n ++ (codes ":\n" ++ case_lines ns d)))
 
--- the switch's own break, which stands unless the arm's last statement leaves
+-- the switch's own break, where the arm ends in one
 abbrev pub break_line : Bool → List ℕ → List ℕ
-break_line true d = []
-break_line false d = d ++ codes "break;\n"
+break_line true d = d ++ codes "break;\n"
+break_line false d = []
+
+abbrev pub breaks : List Lines → Bool
+breaks body = ends_in_break (λ (l : Lines). l.leaves) body
 
 -- one arm: its case lines, and its body one level deeper
 abbrev pub arm_step : Arm-F Lines (List ℕ → List ℕ) → List ℕ → List ℕ
-arm_step arm d = case_lines arm.cases d ++ (all_lines arm.body (deeper d) ++ break_line (last_leaves false arm.body) (deeper d))
+arm_step arm d = case_lines arm.cases d ++ (all_lines arm.body (deeper d) ++ break_line (breaks arm.body) (deeper d))
 
 abbrev pub all_arms : List (List ℕ → List ℕ) → List ℕ → List ℕ
 all_arms [] d = []
@@ -127,33 +140,32 @@ abbrev pub switch_text : Form → List (List ℕ → List ℕ) → List ℕ → 
 switch_text e arms d = codes "switch (" ++ (e.plain ++ (codes ") {\n" ++ (all_arms arms d ++ (d ++ codes "}\n"))))
 
 -- a statement of one line
-abbrev pub single : List ℕ → Bool → Lines
-single t leaves = record { text = λ d. t; leaves = leaves }
-
--- a statement with bodies, behind which the run may go on
-abbrev pub nested : (List ℕ → List ℕ) → Lines
-nested t = record { text = t; leaves = false }
+abbrev pub single : List ℕ → List ℕ → List ℕ
+single t d = t
 
 -- the text of one statement from those of the statements inside it
+abbrev pub text_step : Scope → Stmt-F Lines (List ℕ → List ℕ) → List ℕ → List ℕ
+text_step sc (Stmt-F.Assign v e) = single (assign_text sc v e)
+text_step sc (Stmt-F.Load v space a) = single (load_text sc v space a)
+text_step sc (Stmt-F.Store space a e) = single (store_text sc space a e)
+text_step sc (Stmt-F.Call v address es) = single (call_text sc v address es)
+text_step sc (Stmt-F.CallInd v e es) = single (call_ind_text sc v e es)
+text_step sc (Stmt-F.Other v index es) = single (other_text sc v index es)
+text_step sc (Stmt-F.Extra v offset) = single (extra_text sc v offset)
+text_step sc (Stmt-F.Divide v op a b) = single (divide_text sc v op a b)
+text_step sc (Stmt-F.If e body) = block_text (codes "if (") (form sc e) body
+text_step sc (Stmt-F.IfElse e body other) = if_else_text (form sc e) body other
+text_step sc (Stmt-F.While e body) = block_text (codes "while (") (form sc e) body
+text_step sc (Stmt-F.DoWhile body e) = do_while_text body (form sc e)
+text_step sc (Stmt-F.Loop body) = loop_text body
+text_step sc Stmt-F.Break = single (codes "break;\n")
+text_step sc (Stmt-F.Switch e arms) = switch_text (form sc e) arms
+text_step sc (Stmt-F.Goto label) = single (codes "goto L" ++ (decimal label ++ codes ";\n"))
+text_step sc (Stmt-F.Label label) = single (codes "L" ++ (decimal label ++ codes ":\n"))
+text_step sc (Stmt-F.Return e) = single (return_text sc e)
+
 abbrev pub lines_step : Scope → Stmt-F Lines (List ℕ → List ℕ) → Lines
-lines_step sc (Stmt-F.Assign v e) = single (assign_text sc v e) false
-lines_step sc (Stmt-F.Load v space a) = single (load_text sc v space a) false
-lines_step sc (Stmt-F.Store space a e) = single (store_text sc space a e) false
-lines_step sc (Stmt-F.Call v address es) = single (call_text sc v address es) (not (goes_on (callee_at sc.callees address)))
-lines_step sc (Stmt-F.CallInd v e es) = single (call_ind_text sc v e es) false
-lines_step sc (Stmt-F.Other v index es) = single (other_text sc v index es) false
-lines_step sc (Stmt-F.Extra v offset) = single (extra_text sc v offset) false
-lines_step sc (Stmt-F.Divide v op a b) = single (divide_text sc v op a b) false
-lines_step sc (Stmt-F.If e body) = nested (block_text (codes "if (") (form sc e) body)
-lines_step sc (Stmt-F.IfElse e body other) = nested (if_else_text (form sc e) body other)
-lines_step sc (Stmt-F.While e body) = nested (block_text (codes "while (") (form sc e) body)
-lines_step sc (Stmt-F.DoWhile body e) = nested (do_while_text body (form sc e))
-lines_step sc (Stmt-F.Loop body) = nested (loop_text body)
-lines_step sc Stmt-F.Break = single (codes "break;\n") false
-lines_step sc (Stmt-F.Switch e arms) = nested (switch_text (form sc e) arms)
-lines_step sc (Stmt-F.Goto label) = single (codes "goto L" ++ (decimal label ++ codes ";\n")) true
-lines_step sc (Stmt-F.Label label) = single (codes "L" ++ (decimal label ++ codes ":\n")) false
-lines_step sc (Stmt-F.Return e) = single (return_text sc e) true
+lines_step sc s = record { text = text_step sc s; leaves = leaves_step (returns_by sc.callees) s }
 
 unfoldable pub lines : Scope → Stmt → Lines
 lines sc s = fold-Stmt Lines (List ℕ → List ℕ) (lines_step sc) arm_step s
@@ -162,9 +174,9 @@ lines sc s = fold-Stmt Lines (List ℕ → List ℕ) (lines_step sc) arm_step s
 unfoldable pub body_text : Scope → List Stmt → List ℕ → List ℕ
 body_text sc body d = all_lines (map (lines sc) body) d
 
--- whether the last of these statements leaves
-unfoldable pub body_leaves : Scope → List Stmt → Bool
-body_leaves sc body = last_leaves false (map (lines sc) body)
+-- whether an arm of these statements ends in a break
+unfoldable pub body_breaks : Scope → List Stmt → Bool
+body_breaks sc body = breaks (map (lines sc) body)
 
 -- the text of an arm
 unfoldable pub arm_text : Scope → Arm → List ℕ → List ℕ

@@ -38,11 +38,16 @@ param_text p = type_text p.signed p.width.bytes ++ (codes " " ++ param_name p)
 -- the declarations of locals, of which `n` stand before
 abbrev pub local_lines : ℕ → List Local → List ℕ
 local_lines n [] = []
-local_lines n (l ∷ ls) = codes "  " ++ (type_text l.signed l.width.bytes ++ (codes " " ++ (local_name (n + 1) ++ (codes ";\n" ++ local_lines (n + 1) ls))))
+local_lines n (l ∷ ls) = codes "  "
+    ++ (type_text l.signed l.width.bytes
+    ++ (codes " " ++ (local_name (n + 1) ++ (codes ";\n" ++ local_lines (n + 1) ls))))
 
 abbrev pub function_line : CFunction → List ℕ
-function_line f = result_type f.gives ++ (codes " f_" ++ (f.name ++ (codes "(" ++ (separated_or_void (map param_text f.params) ++ codes ")\n"))))
+function_line f = result_type f.gives
+    ++ (codes " f_" ++ (f.name ++ (codes "(" ++ (separated_or_void (map param_text f.params) ++ codes ")\n"))))
 
 -- the whole text
 unfoldable pub text_of : CFunction → List ℕ
-text_of f = callee_lines f.callees ++ (function_line f ++ (codes "{\n" ++ (local_lines 0 f.locals ++ (body_text (scope_of f) f.body (codes "  ") ++ codes "}\n"))))
+text_of f = callee_lines f.callees
+    ++ (function_line f ++ (codes "{\n"
+    ++ (local_lines 0 f.locals ++ (body_text (scope_of f) f.body (codes "  ") ++ codes "}\n"))))

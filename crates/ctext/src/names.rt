@@ -1,7 +1,8 @@
 //! The names and types of the C text.
 
 ghost use Rattle.std.specs.Prelude.{◌≡◌, ◌++◌, ◌-◌, length, slice_get, option_copied, OnOk};
-ghost use Rattle.ctext.specs.Names.{type_text, result_type, param_name, storage_text, callee_name, scope_of, variable, callee_at, name_at, goes_on};
+ghost use Rattle.cmeaning.specs.Callees.{declared_in, returns_by};
+ghost use Rattle.ctext.specs.Names.{type_text, result_type, param_name, storage_text, callee_name, scope_of, variable, name_at};
 
 use crate::digits::{put, put_decimal, put_hex};
 use bits_core::{Memory, Width};
@@ -134,16 +135,15 @@ pub fn put_variable(alloc: Global, out: &mut Vec<u8>, f: &CFunction, n: u32) -> 
 }
 
 /// The first of the callees with an address.
-#[tactic(auto, using(crate::proofs::Callees::declared_is))]
 pub fn find_callee(callees: &CalleeDecls, address: u64) -> Option<&CalleeDecl>
-    ensures { option_copied result ≡ callee_at callees.now address }
+    ensures { option_copied result ≡ declared_in callees.now address }
 {
     callees.declared(address)
 }
 
 /// Whether a call of the callee with this address goes on.
 pub fn call_goes_on(f: &CFunction, address: u64) -> bool
-    ensures { result ≡ goes_on (callee_at f.now.callees address) }
+    ensures { result ≡ returns_by f.now.callees address }
 {
     match find_callee(&f.callees, address) {
         Some(c) => c.returns,
@@ -153,7 +153,7 @@ pub fn call_goes_on(f: &CFunction, address: u64) -> bool
 
 /// The name of the callee with an address.
 pub fn put_name_at(out: &mut Vec<u8>, f: &CFunction, address: u64) -> Result<(), Memory>
-    ensures { OnOk result (out.new.items ≡ out.old.items ++ name_at (callee_at f.now.callees address)) }
+    ensures { OnOk result (out.new.items ≡ out.old.items ++ name_at (declared_in f.now.callees address)) }
 {
     match find_callee(&f.callees, address) {
         Some(c) => put_callee_name(out, &c.name, c.address),

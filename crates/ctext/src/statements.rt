@@ -4,7 +4,7 @@ ghost use Rattle.std.specs.Prelude.{◌≡◌, ◌++◌, ℕ, List, true, false,
 ghost use Rattle.cmeaning.specs.Kinds.{kind_of, computes, calls, nests};
 ghost use Rattle.ctext.specs.Names.{scope_of};
 ghost use Rattle.ctext.specs.Expressions.{form, shown};
-ghost use Rattle.ctext.specs.Statements.{lines, body_text, body_leaves, arm_text, arms_text, deeper, case_lines, break_line, loop_head};
+ghost use Rattle.ctext.specs.Statements.{lines, body_text, body_breaks, arm_text, arms_text, deeper, case_lines, break_line, loop_head};
 
 use crate::digits::{put, put_hex};
 use crate::expressions::{Mode, print_expr};
@@ -39,16 +39,16 @@ fn leaves(f: &CFunction, s: &Stmt) -> bool
     }
 }
 
-/// Whether the last of these statements leaves.
-#[tactic(auto, unfolding(crate::specs::Statements::body_leaves))]
-fn last_leaves(f: &CFunction, body: &[Stmt]) -> bool
-    ensures { result ≡ body_leaves (scope_of f.now) body.now }
+/// Whether an arm of these statements ends in a break: whether the last of them goes on.
+#[tactic(auto, unfolding(crate::specs::Statements::body_breaks))]
+fn breaks(f: &CFunction, body: &[Stmt]) -> bool
+    ensures { result ≡ body_breaks (scope_of f.now) body.now }
 {
     let mut last = false;
     for s in body {
         last = leaves(f, s);
     }
-    last
+    !last
 }
 
 fn print_cases(out: &mut Vec<u8>, cases: &[u128], indent: &[u8]) -> Result<(), Memory>
@@ -63,10 +63,10 @@ fn print_cases(out: &mut Vec<u8>, cases: &[u128], indent: &[u8]) -> Result<(), M
     Ok(())
 }
 
-fn print_break(out: &mut Vec<u8>, left: bool, indent: &[u8]) -> Result<(), Memory>
-    ensures { OnOk result (out.new.items ≡ out.old.items ++ break_line left indent.now) }
+fn print_break(out: &mut Vec<u8>, breaks: bool, indent: &[u8]) -> Result<(), Memory>
+    ensures { OnOk result (out.new.items ≡ out.old.items ++ break_line breaks indent.now) }
 {
-    if left {
+    if !breaks {
         return Ok(());
     }
     put(out, indent)?;
@@ -209,12 +209,12 @@ fn print_arm_lines(
     body: &[Stmt],
     indent: &[u8],
 ) -> Result<(), Memory>
-    ensures { OnOk result (out.new.items ≡ out.old.items ++ (case_lines cases.now indent.now ++ (body_text (scope_of f.now) body.now (deeper indent.now) ++ break_line (body_leaves (scope_of f.now) body.now) (deeper indent.now)))) }
+    ensures { OnOk result (out.new.items ≡ out.old.items ++ (case_lines cases.now indent.now ++ (body_text (scope_of f.now) body.now (deeper indent.now) ++ break_line (body_breaks (scope_of f.now) body.now) (deeper indent.now)))) }
 {
     let more = longer(alloc, indent)?;
     print_cases(out, cases, indent)?;
     print_body(alloc, out, f, body, more.as_slice())?;
-    print_break(out, last_leaves(f, body), more.as_slice())
+    print_break(out, breaks(f, body), more.as_slice())
 }
 
 #[cycle(bodies)]

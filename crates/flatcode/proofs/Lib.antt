@@ -1,3 +1,4 @@
 pub mod Turns
 pub mod Adds
+pub mod Sums
 pub mod Tables

@@ -10,7 +10,7 @@ use Rattle.cmeaning.specs.declared.tree.Stmt.{Stmt}
 use Rattle.cmeaning.specs.declared.tree.Stmt.TheVariants as S
 use Rattle.cmeaning.specs.declared.tree.CFunction.{CFunction}
 use Rattle.cmeaning.specs.Do.{Local, do_simple, widths_in}
-use Rattle.cmeaning.specs.Flat.{Flat, Do, Test, Jump, flat_of, returns_by, piece_of}
+use Rattle.cmeaning.specs.Flat.{Flat, Do, Jump, flat_of, returns_by, piece_of}
 use Rattle.cmeaning.specs.Step.{CState, carry_out, c_step, c_machine}
 use Rattle.cmeaning.proofs.Do.{do_by_callee}
 use Rattle.cmeaning.proofs.Flat.{piece_of_goto}

@@ -4,35 +4,28 @@ use Rattle.std.specs.Prelude.{◌==◌, cond, slice_get}
 use Rattle.std.specs.List.{slice_index_or}
 use Rattle.std.proofs.lemmas.Bool.Decides.{nat_tests}
 use Rattle.std.proofs.Math.Path.{fun_ext}
-use Rattle.machine.specs.TwoWay.{TwoWay}
-use Rattle.machine.specs.Trace.{Trace}
-use Rattle.machine.specs.Machine.{Machine, after, seen, IsMonotone}
-use Rattle.machine.proofs.Ranked.{two_way_ranked}
 use Rattle.bits_core.specs.declared.word.Width.{Width}
 use Rattle.pcode_model.specs.declared.storage.ParamStorage.{ParamStorage}
 use Rattle.pcode_model.specs.declared.listing.Listing.{Listing}
 use Rattle.pcode_model.specs.Spaces.{or}
-use Rattle.pcode_model.specs.World.{Entry, first_world}
+use Rattle.pcode_model.specs.World.{Entry}
 use Rattle.cmeaning.specs.declared.tree.Param.{Param}
 use Rattle.cmeaning.specs.declared.tree.Local as tree
-use Rattle.cmeaning.specs.Do.{Local, widths_in, variable_width, local_width}
-use Rattle.cmeaning.specs.Flat.{Jump, flat_of, found_in, returns_by}
-use Rattle.cmeaning.specs.Step.{c_step, c_machine, start_c, seen_c, first_word as c_first_word}
+use Rattle.cmeaning.specs.Do.{widths_in, variable_width, local_width}
+use Rattle.cmeaning.specs.Flat.{flat_of, found_in, returns_by}
+use Rattle.cmeaning.specs.Step.{first_word as c_first_word}
 use Rattle.blockcode.specs.declared.code.Variable.{Variable}
 use Rattle.blockcode.specs.declared.code.Exit.{Exit}
 use Rattle.blockcode.specs.declared.code.Exit.TheVariants as X
 use Rattle.blockcode.specs.declared.code.Block.{Block}
 use Rattle.blockcode.specs.declared.code.Code.{Code}
-use Rattle.blockcode.specs.Run.{width_in, widths, first_word, word_in, start_code, seen_code, code_machine}
+use Rattle.blockcode.specs.Run.{width_in, widths, first_word, word_in}
 use Rattle.blockcode.specs.Laid.{jump_names, exit_names, blocks_name, is_named, flags_from, numbered, labels_of, label_at, goto, laid_from, laid_body, params_of, param_of, locals_of, laid_out}
-use Rattle.blockcode.specs.Numbers.{ExitBelow, ExitsBelow, AreNumbered}
+use Rattle.blockcode.specs.Numbers.{ExitBelow, ExitsBelow}
 use Rattle.blockcode.specs.Plain.{AllSimple, AreParams, AreSimple, CanLay, IsDirect, IsParam}
-use Rattle.cmeaning.proofs.Grows.{c_grows}
-use Rattle.blockcode.proofs.Grows.{code_grows}
 use Rattle.layout_laws.proofs.Pieces.{span_of, labels_in, steps_of, steps_append, labels_append, drop_past}
 use Rattle.layout_laws.proofs.Positions.{measured_jump, unlabelled_jump, position, placed, numbered_once, label_leads}
-use Rattle.layout_laws.proofs.Follows.{Given, StandsFrom, Leads, JumpLeads, IsLaid, Related, arrives}
-use Rattle.layout_laws.proofs.Ends.{simulates, two_way_after}
+use Rattle.layout_laws.proofs.Follows.{StandsFrom, Leads, JumpLeads, IsLaid}
 
 -- ---- blocks that a goto names have a label
 

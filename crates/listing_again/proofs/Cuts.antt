@@ -50,7 +50,7 @@ cut : (x : ℕ) (part rest : Line) → Without x part → parts_of x (part ++ x 
 cut x [] rest h = ap (λ (t : Bool). if t then [] ∷ parts_of x rest else with_front x (parts_of x rest)) (same_is x)
 cut x (b ∷ part) rest h =
     ap (λ (t : Bool). if t then [] ∷ parts_of x (part ++ x ∷ rest) else with_front b (parts_of x (part ++ x ∷ rest)))
-      h.0
+    h.0
     ∙ ap (with_front b) (cut x part rest h.1)
 
 alone : (x : ℕ) (part : Line) → Without x part → parts_of x part ≡ part ∷ []
@@ -109,7 +109,7 @@ line_then : (line rest : Line) → IsLine line → lines_of (line ++ 10 ∷ rest
 line_then [] rest h = refl
 line_then (b ∷ line) rest h =
     neither (b == 10) (b == 13) (starts_with_lf (line ++ 10 ∷ rest)) _ _ _ (not_lf b h.0) (not_cr b h.0)
-      ∙ ap (with_front b) (line_then line rest h.1)
+    ∙ ap (with_front b) (line_then line rest h.1)
 
 pub lines_are : (lines : List Line) → AllByRecursion IsLine lines → lines_of (ended lines) ≡ lines
 lines_are [] h = refl

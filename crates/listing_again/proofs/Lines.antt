@@ -66,7 +66,7 @@ hexadecimal_part n small = token_is_part (hexadecimal n) (hexadecimal_token n sm
 pub pcode_again : (s : PartialListing) (n : ℕ) → n < 10 ^ 5 → IsReadAs s (version_line n) (form.Pcode n)
 pcode_again s n small =
     made_of s _ (codes "pcode") (decimal n ∷ []) _ refl (search rules) (decimal_part n small, tt)
-      (ap pcode_made (decimal_back n small))
+    (ap pcode_made (decimal_back n small))
 
 -- ---- `space`
 
@@ -102,7 +102,7 @@ two_is (Some n) = refl
 word_parts_by : (two : Bool) (l : SpaceLine)
     → IsSpaceTold two l
     → (AllByRecursion IsPart (if two then decimal l.word ∷ [] else []))
-      × (word_by two (if two then decimal l.word ∷ [] else []) ≡ Some l.word)
+    × (word_by two (if two then decimal l.word ∷ [] else []) ≡ Some l.word)
 word_parts_by true l h = ((decimal_part l.word h.word, tt), decimal_back l.word h.word)
 word_parts_by false l h = (tt, ap Some (sym (h.one refl)))
 
@@ -115,20 +115,20 @@ space_again s l h =
     let both = word_parts_by (is_two s.version) l h in
     let line : space_line (version_of s.version) (space_of l) ≡ codes "space" ++ spaced (front ++ word) =
     ap (λ (t : Bool). codes "space" ++ spaced front ++ spaced (if t then decimal l.word ∷ [] else []))
-      (two_is s.version)
-      ∙ ap (λ (r : Line). codes "space" ++ r) (sym (spaced_append front word)) in
+    (two_is s.version)
+    ∙ ap (λ (r : Line). codes "space" ++ r) (sym (spaced_append front word)) in
     made_of s _ (codes "space") (front ++ word) _ line (search rules)
-      (name_part l.name h.name, (kind_part l.kind, (decimal_part l.size h.size, (order_part l.big, both.0))))
+    (name_part l.name h.name, (kind_part l.kind, (decimal_part l.size h.size, (order_part l.big, both.0))))
     (ap
-       (λ (k : Option SpaceKind).
-           space_made l.name k (decimal_of (decimal l.size)) (order_of (order_word l.big))
-             (word_by (is_two s.version) word)) (kind_back l.kind h.kind)
+    (λ (k : Option SpaceKind).
+    space_made l.name k (decimal_of (decimal l.size)) (order_of (order_word l.big))
+    (word_by (is_two s.version) word)) (kind_back l.kind h.kind)
     ∙ ap
-      (λ (n : Option ℕ).
-          space_made l.name (Some l.kind) n (order_of (order_word l.big)) (word_by (is_two s.version) word))
-      (decimal_back l.size h.size)
+    (λ (n : Option ℕ).
+    space_made l.name (Some l.kind) n (order_of (order_word l.big)) (word_by (is_two s.version) word))
+    (decimal_back l.size h.size)
     ∙ ap (λ (b : Option Bool). space_made l.name (Some l.kind) (Some l.size) b (word_by (is_two s.version) word))
-      (order_back l.big)
+    (order_back l.big)
     ∙ ap (space_made l.name (Some l.kind) (Some l.size) (Some l.big)) both.1
     ∙ ap (λ (t : Bool). if t then form.Space l else form.Nothing) h.name)
 
@@ -142,7 +142,7 @@ pub stack_again : (s : PartialListing) (w : Written)
 stack_again s w a h kind =
     let back = register_back s.spaces w a h kind in
     made_of s _ (codes "stack") (range_part s.spaces (varnode w) ∷ []) _ refl (search rules) (back.part, tt)
-      (ap stack_made back.read)
+    (ap stack_made back.read)
 
 -- ---- `at HEX LENGTH`
 
@@ -152,9 +152,9 @@ pub at_again : (s : PartialListing) (l : AtLine)
     → IsReadAs s (at_line (record { address = l.address; length = l.length; ops = [] })) (form.At l)
 at_again s l far long =
     made_of s _ (codes "at") (hexadecimal l.address ∷ decimal l.length ∷ []) _ refl (search rules)
-      (hexadecimal_part _ far, (decimal_part _ long, tt))
+    (hexadecimal_part _ far, (decimal_part _ long, tt))
     (ap (λ (o : Option ℕ). at_made o (decimal_of (decimal l.length))) (hexadecimal_back _ far)
-     ∙ ap (at_made (Some l.address)) (decimal_back _ long))
+    ∙ ap (at_made (Some l.address)) (decimal_back _ long))
 
 -- ---- `end`
 
@@ -167,12 +167,12 @@ bytes_by : (s : PartialListing) (space : Named) (offset : ℕ) (bytes : List ℕ
     → is_of_kind Ram s.spaces space ≡ true
     → IsBytesTold s.spaces (record { space = space; offset = offset; bytes = bytes })
     → IsReadAs s (bytes_line s.spaces (record { space = number space; offset = offset; bytes = bytes }))
-      (form.Bytes (record { space = space; offset = offset; bytes = bytes }))
+    (form.Bytes (record { space = space; offset = offset; bytes = bytes }))
 bytes_by s (named.Space n) offset bytes kind h =
     made_of s _ (codes "bytes") (place_part (name_of s.spaces n) offset ∷ pairs bytes ∷ []) _ refl (search rules)
-      (place_part_is _ offset h.space.0 h.offset, (pairs_part bytes h.bytes, tt))
+    (place_part_is _ offset h.space.0 h.offset, (pairs_part bytes h.bytes, tt))
     (ap (λ (p : Option (Named × ℕ)). bytes_made p (bytes_of (pairs bytes)))
-       (place_back s.spaces (name_of s.spaces n) offset h.space.0 h.offset)
+    (place_back s.spaces (name_of s.spaces n) offset h.space.0 h.offset)
     ∙ ap (bytes_made (Some (_, offset))) (bytes_back bytes h.some h.bytes)
     ∙ ap (λ (space : Named). form.Bytes (record { space = space; offset = offset; bytes = bytes })) h.space.1)
 bytes_by s named.Stack offset bytes kind h = absurd (never (sym kind))
@@ -180,7 +180,7 @@ bytes_by s named.Unknown offset bytes kind h = absurd (never (sym kind))
 
 pub bytes_again : (s : PartialListing) (l : BytesLine) → is_of_kind Ram s.spaces l.space ≡ true → IsBytesTold s.spaces l
     → IsReadAs s (bytes_line s.spaces (record { space = number l.space; offset = l.offset; bytes = l.bytes }))
-      (form.Bytes l)
+    (form.Bytes l)
 bytes_again s l kind h = bytes_by s l.space l.offset l.bytes kind h
 
 -- ---- `func` and `callee`
@@ -194,8 +194,8 @@ record IsFunctionBack (spaces : List Space) (protos : List Proto) (l : FunctionL
   parts : AllByRecursion IsPart (function_parts spaces protos l.name l.address (proto_number l.proto))
   read : (returns : Option Bool) → returns ≡ Some l.returns
       → function_made protos l.name (printed.proto_name (slice_get protos (proto_number l.proto)))
-        (place_of spaces (place_part (name_of spaces (number_of Ram spaces)) l.address)) returns
-        ≡ Some l
+      (place_of spaces (place_part (name_of spaces (number_of Ram spaces)) l.address)) returns
+      ≡ Some l
 
 function_by : (spaces : List Space) (protos : List Proto) (name : Line) (space : Named) (address : ℕ) (proto : Option ℕ) (returns : Bool)
     → is_name name ≡ true
@@ -203,7 +203,7 @@ function_by : (spaces : List Space) (protos : List Proto) (name : Line) (space :
     → address < 16 ^ 16
     → IfSome proto (IsCalled protos) → is_first_ram spaces space ≡ true → is_none proto ≡ false
     → IsFunctionBack spaces protos
-      (record { name = name; space = space; address = address; proto = proto; returns = returns })
+    (record { name = name; space = space; address = address; proto = proto; returns = returns })
 function_by spaces protos name named.Stack address proto returns n s far c first known = absurd (never (sym first))
 function_by spaces protos name named.Unknown address proto returns n s far c first known = absurd (never (sym first))
 function_by spaces protos name (named.Space k) address None returns n s far c first known = absurd (never known)
@@ -213,38 +213,41 @@ function_by spaces protos name (named.Space k) address (Some p) returns n s far 
     let stands : named_by spaces (name_of spaces (number_of Ram spaces)) ≡ named.Space k = ap (λ (m : ℕ). named_by spaces (name_of spaces m)) same ∙ s.1 in
     let called : Line = printed.proto_name (slice_get protos p) in
     record {
-      parts =
-          (name_part name n,
-           (place_part_is (name_of spaces (number_of Ram spaces)) address is far, (name_part called c.name, tt)));
+      parts = (
+        name_part name n,
+        (place_part_is (name_of spaces (number_of Ram spaces)) address is far, (name_part called c.name, tt)),
+      );
       read =
           λ r e.
-            ap
-              (function_made protos name called
-                 (place_of spaces (place_part (name_of spaces (number_of Ram spaces)) address))) e
+          ap
+          (function_made protos name called
+          (place_of spaces (place_part (name_of spaces (number_of Ram spaces)) address))) e
           ∙ ap (λ (o : Option (Named × ℕ)). function_made protos name called o (Some returns))
-            (place_back spaces (name_of spaces (number_of Ram spaces)) address is far)
+          (place_back spaces (name_of spaces (number_of Ram spaces)) address is far)
           ∙ ap
-            (λ (t : Bool).
-                if t then Some
-                  (record {
-                     name = name;
-                     space = named_by spaces (name_of spaces (number_of Ram spaces));
-                     address = address;
-                     proto = place_in called (map proto_name protos);
-                     returns = returns }) else None) (and_from _ _ n c.name)
+          (λ (t : Bool).
+          if t then Some
+          (record {
+            name = name;
+            space = named_by spaces (name_of spaces (number_of Ram spaces));
+            address = address;
+            proto = place_in called (map proto_name protos);
+            returns = returns;
+          }) else None) (and_from _ _ n c.name)
           ∙ ap
-            (λ (space : Named).
-                Some
-                  (record {
-                     name = name;
-                     space = space;
-                     address = address;
-                     proto = place_in called (map proto_name protos);
-                     returns = returns })) stands
+          (λ (space : Named).
+          Some
+          (record {
+            name = name;
+            space = space;
+            address = address;
+            proto = place_in called (map proto_name protos);
+            returns = returns;
+          })) stands
           ∙ ap
-            (λ (o : Option ℕ).
-                Some (record { name = name; space = named.Space k; address = address; proto = o; returns = returns }))
-            c.known;
+          (λ (o : Option ℕ).
+          Some (record { name = name; space = named.Space k; address = address; proto = o; returns = returns }))
+          c.known;
     }
 
 function_back : (spaces : List Space) (protos : List Proto) (l : FunctionLine)
@@ -254,18 +257,18 @@ function_back : (spaces : List Space) (protos : List Proto) (l : FunctionLine)
     → IsFunctionBack spaces protos l
 function_back spaces protos l h placed known =
     function_by spaces protos l.name l.space l.address l.proto l.returns h.name h.space h.address h.proto
-      (not-false _ (left_false _ _ placed)) known
+    (not-false _ (left_false _ _ placed)) known
 
 function_line_is : (word : Line) (spaces : List Space) (protos : List Proto) (l : FunctionLine)
     → function_line word spaces protos (function_of l)
-      ≡ word ++ spaced (function_parts spaces protos l.name l.address (proto_number l.proto) ++ returns_parts l.returns)
+    ≡ word ++ spaced (function_parts spaces protos l.name l.address (proto_number l.proto) ++ returns_parts l.returns)
 function_line_is word spaces protos l =
     append_assoc word (spaced (function_parts spaces protos l.name l.address (proto_number l.proto)))
-      (spaced (returns_parts l.returns))
+    (spaced (returns_parts l.returns))
     ∙ ap (λ (r : Line). word ++ r)
-        (sym
-           (spaced_append (function_parts spaces protos l.name l.address (proto_number l.proto))
-              (returns_parts l.returns)))
+    (sym
+    (spaced_append (function_parts spaces protos l.name l.address (proto_number l.proto))
+    (returns_parts l.returns)))
 
 pub func_again : (s : PartialListing) (l : FunctionLine)
     → IsFunctionTold s.spaces s.protos l
@@ -278,7 +281,7 @@ func_again s l h returns placed known =
     let parts : List Line = function_parts s.spaces s.protos l.name l.address (proto_number l.proto) in
     let line = function_line_is (codes "func") s.spaces s.protos l ∙ ap (λ (r : Bool). codes "func" ++ spaced (parts ++ returns_parts r)) returns in
     made_of s _ (codes "func") parts _ line (search rules) back.parts
-      (ap func_made (back.read (Some true) (ap Some (sym returns))))
+    (ap func_made (back.read (Some true) (ap Some (sym returns))))
 
 pub callee_again : (s : PartialListing) (l : FunctionLine)
     → IsFunctionTold s.spaces s.protos l
@@ -292,7 +295,7 @@ callee_again s l h returns placed known =
     let line = function_line_is (codes "callee") s.spaces s.protos l in
     let last = ends l.returns (is_two s.version) returns in
     made_of s _ (codes "callee") (parts ++ returns_parts l.returns) _ line (search rules)
-      (all_append IsPart parts (returns_parts l.returns) back.parts last.0) (ap callee_made (back.read _ last.1))
+    (all_append IsPart parts (returns_parts l.returns) back.parts last.0) (ap callee_made (back.read _ last.1))
   where
     ends : (r two : Bool)
         → (two ≡ false → r ≡ true)

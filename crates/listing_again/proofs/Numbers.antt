@@ -116,8 +116,8 @@ length_onto (suc k) (suc m) n acc some small =
 
     by_end : (0 < m → n / 16 < 16 ^ m → length (digits_onto k 16 false (n / 16) first) ≤ m + length first)
         → (t : Bool)
-          → (n / 16 == 0) ≡ t
-          → length (if t then first else digits_onto k 16 false (n / 16) first) ≤ suc m + length acc
+        → (n / 16 == 0) ≡ t
+        → length (if t then first else digits_onto k 16 false (n / 16) first) ≤ suc m + length acc
     by_end next true e = omega arith
     by_end next false e =
         let more : n / 16 < 16 ^ m = omega (arith, power_step m, small) in
@@ -170,7 +170,7 @@ decimal_back n small =
     let numeral = decimal_is_IsNumeral n (omega arith) in
     ap (λ (t : Bool). if t then None else number_of 10 5 (decimal n)) (no_leading n small)
     ∙ number_is 10 5 (decimal n) numeral.0.0 (length-decimal-le 5 n (omega arith) small (omega arith)) numeral.0.1
-      ∙ ap Some numeral.1
+    ∙ ap Some numeral.1
 
 pub decimal_small : (part : Line) → IfSome (decimal_of part) (λ n. n < 10 ^ 5)
 decimal_small part = by_zero (has_leading_zero part)
@@ -228,8 +228,8 @@ pairs_small (a ∷ b ∷ part) = by_digits (is_digit a 16) (is_digit b 16) refl 
 
     by_digits : (t u : Bool) → is_digit a 16 ≡ t → is_digit b 16 ≡ u → (more : Option (List ℕ)) → IfSome more AreBytes
         → IfSome
-          (if t && u then option_map (λ (bytes : List ℕ). (digit_value a * 16 + digit_value b) ∷ bytes) more else None)
-          AreBytes
+        (if t && u then option_map (λ (bytes : List ℕ). (digit_value a * 16 + digit_value b) ∷ bytes) more else None)
+        AreBytes
     by_digits true true p q more h = by_more (omega (arith, digit_small a p, digit_small b q)) more h
     by_digits true false p q more h = tt
     by_digits false u p q more h = tt
@@ -247,8 +247,8 @@ bytes_small (a ∷ b ∷ part) =
 
     some : (t : Bool)
         → IfSome
-            (if t then option_map (λ (bytes : List ℕ). (digit_value a * 16 + digit_value b) ∷ bytes) (pairs_of part)
-               else None) (λ bytes. 0 < length bytes)
+        (if t then option_map (λ (bytes : List ℕ). (digit_value a * 16 + digit_value b) ∷ bytes) (pairs_of part)
+        else None) (λ bytes. 0 < length bytes)
     some true = grown (pairs_of part)
     some false = tt
 

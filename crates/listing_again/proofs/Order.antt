@@ -83,11 +83,11 @@ before_func : (s : PartialListing)
     → is_none s.func ≡ true
     → (front : List Line) (spaces : List Space)
     → late_lines front spaces s.protos s.func s.callees s.fixed (s.done ++ option_to_list s.last) s.ended
-      ≡ front ++ map (proto_line spaces) s.protos
+    ≡ front ++ map (proto_line spaces) s.protos
 before_func s f o e front spaces =
     let none = o.last e in
     up_to_protos front spaces s.protos s.func s.callees s.fixed _ s.ended (none_is s.func (none_some s.func e))
-      (o.callees e) (o.fixed e) (no_code s f none) (not_ended s f none)
+    (o.callees e) (o.fixed e) (no_code s f none) (not_ended s f none)
 
 -- without a prototype nothing stands after the stack pointer
 before_protos : (s : PartialListing) → IsFormed s → length s.protos ≡ 0 → (front : List Line) (spaces : List Space)
@@ -116,7 +116,7 @@ pcode_kept s n f o h =
       ordered = record { version = λ e. absurd (never (sym e)); callees = o.callees; fixed = o.fixed; last = o.last };
       lines = before_protos s f empty.1.1 (early_lines (Some n) s.spaces s.stack) s.spaces ∙ first
           ∙ ap (λ (r : List Line). r ++ version_line n ∷ [])
-            (sym (before_protos s f empty.1.1 (early_lines s.version s.spaces s.stack) s.spaces ∙ old));
+          (sym (before_protos s f empty.1.1 (early_lines s.version s.spaces s.stack) s.spaces ∙ old));
     }
   where
     none_early : (v : Option ℕ) (spaces : List Space) (stack : Option Varnode)
@@ -149,12 +149,13 @@ space_kept s l f o h =
         version = λ e. absurd (never_both _ e (left_false _ _ (left_false _ _ p.0)));
         callees = o.callees;
         fixed = o.fixed;
-        last = o.last };
+        last = o.last;
+      };
       lines = before_protos s f none (early_lines s.version spaces s.stack) spaces
           ∙ space_grows s.version s.spaces (space_of l) s.stack (some_spaces s.spaces f.spaces.formed)
-            (right_false _ _ (left_false _ _ p.0))
+          (right_false _ _ (left_false _ _ p.0))
           ∙ ap (λ (r : List Line). r ++ space_line (version_of s.version) (space_of l) ∷ [])
-            (sym (before_protos s f none (early_lines s.version s.spaces s.stack) s.spaces));
+          (sym (before_protos s f none (early_lines s.version s.spaces s.stack) s.spaces));
     }
 
 -- the constant space alone is no complete list
@@ -175,18 +176,19 @@ stack_kept s w f o h =
         version = λ e. absurd (not_complete s.spaces (o.version e).0 complete);
         callees = o.callees;
         fixed = o.fixed;
-        last = o.last };
+        last = o.last;
+      };
       lines =
           before_protos s f none (early_lines s.version s.spaces (Some (varnode w))) s.spaces
           ∙ grows s.stack (right_false _ _ (left_false _ _ p.0))
           ∙ ap (λ (r : List Line). r ++ stack_line s.spaces (varnode w) ∷ [])
-            (sym (before_protos s f none (early_lines s.version s.spaces s.stack) s.spaces));
+          (sym (before_protos s f none (early_lines s.version s.spaces s.stack) s.spaces));
     }
   where
     grows : (stack : Option Varnode)
         → is_some stack ≡ false
         → early_lines s.version s.spaces (Some (varnode w))
-          ≡ early_lines s.version s.spaces stack ++ stack_line s.spaces (varnode w) ∷ []
+        ≡ early_lines s.version s.spaces stack ++ stack_line s.spaces (varnode w) ∷ []
     grows None e = ap (λ (r : List Line). r ++ stack_line s.spaces (varnode w) ∷ []) (sym (append-nil _))
     grows (Some v) e = absurd (never e)
 
@@ -206,14 +208,15 @@ proto_kept s l f o h =
         version = λ e. absurd (not_complete s.spaces (o.version e).0 complete);
         callees = o.callees;
         fixed = o.fixed;
-        last = o.last };
+        last = o.last;
+      };
       lines =
           up_to_protos front s.spaces (s.protos ++ proto_of l ∷ []) s.func s.callees s.fixed code s.ended
-            (none_is s.func (right_false _ _ p.1.0)) (o.callees none) (o.fixed none) (no_code s f (o.last none))
-            (not_ended s f (o.last none))
+          (none_is s.func (right_false _ _ p.1.0)) (o.callees none) (o.fixed none) (no_code s f (o.last none))
+          (not_ended s f (o.last none))
           ∙ protos_grow front s.spaces s.protos (proto_of l)
-            ∙ ap (λ (r : List Line). r ++ proto_line s.spaces (proto_of l) ∷ [])
-              (sym (before_func s f o none front s.spaces));
+          ∙ ap (λ (r : List Line). r ++ proto_line s.spaces (proto_of l) ∷ [])
+          (sym (before_func s f o none front s.spaces));
     }
 
 no_protos : (n : ℕ) → 0 < n → n ≡ 0 → ⊥
@@ -236,15 +239,16 @@ func_kept s l f o h =
         version = λ e. absurd (no_protos (length s.protos) some (o.version e).1.1);
         callees = λ e. absurd (never (sym e));
         fixed = λ e. absurd (never (sym e));
-        last = λ e. absurd (never (sym e)) };
+        last = λ e. absurd (never (sym e));
+      };
       lines =
           up_to_callees front s.spaces s.protos (Some (function_of l)) s.callees s.fixed code s.ended (o.fixed none)
-            (no_code s f (o.last none)) (not_ended s f (o.last none))
+          (no_code s f (o.last none)) (not_ended s f (o.last none))
           ∙ ap
-            (λ (cs : List Function).
-                ((front ++ map (proto_line s.spaces) s.protos) ++ line ∷ []) ++ map
-                  (function_line (codes "callee") s.spaces s.protos) cs) (o.callees none)
-            ∙ append-nil _
+          (λ (cs : List Function).
+          ((front ++ map (proto_line s.spaces) s.protos) ++ line ∷ []) ++ map
+          (function_line (codes "callee") s.spaces s.protos) cs) (o.callees none)
+          ∙ append-nil _
           ∙ ap (λ (r : List Line). r ++ line ∷ []) (sym (before_func s f o none front s.spaces));
     }
 
@@ -266,15 +270,16 @@ callee_kept s l f o h =
         version = o.version;
         callees = λ e. absurd (never_both _ e some);
         fixed = o.fixed;
-        last = o.last };
+        last = o.last;
+      };
       lines =
           up_to_callees front s.spaces s.protos s.func (s.callees ++ function_of l ∷ []) s.fixed code s.ended fixed
-            (no_code s f none) (not_ended s f none)
+          (no_code s f none) (not_ended s f none)
           ∙ callees_grow _ s.spaces s.protos s.callees (function_of l)
           ∙ ap (λ (r : List Line). r ++ line ∷ [])
-            (sym
-               (up_to_callees front s.spaces s.protos s.func s.callees s.fixed code s.ended fixed (no_code s f none)
-                  (not_ended s f none)));
+          (sym
+          (up_to_callees front s.spaces s.protos s.func s.callees s.fixed code s.ended fixed (no_code s f none)
+          (not_ended s f none)));
     }
 
 pub bytes_kept : (s : PartialListing) (l : BytesLine)
@@ -282,7 +287,7 @@ pub bytes_kept : (s : PartialListing) (l : BytesLine)
     → IsOrdered s
     → first_fault (faults s (form.Bytes l)) ≡ None
     → IsKept s (after s (form.Bytes l))
-      (bytes_line s.spaces (record { space = number l.space; offset = l.offset; bytes = l.bytes }))
+    (bytes_line s.spaces (record { space = number l.space; offset = l.offset; bytes = l.bytes }))
 bytes_kept s l f o h =
     let p : AllFalse (faults s (form.Bytes l)) = all_false (faults s (form.Bytes l)) h in
     let some = left_false _ _ p.0 in
@@ -294,17 +299,18 @@ bytes_kept s l f o h =
         version = o.version;
         callees = o.callees;
         fixed = λ e. absurd (never_both _ e some);
-        last = o.last };
+        last = o.last;
+      };
       lines =
           up_to_bytes front s.spaces s.protos s.func s.callees
-            (s.fixed ++ record { space = number l.space; offset = l.offset; bytes = l.bytes } ∷ []) code s.ended
-            (no_code s f none) (not_ended s f none)
+          (s.fixed ++ record { space = number l.space; offset = l.offset; bytes = l.bytes } ∷ []) code s.ended
+          (no_code s f none) (not_ended s f none)
           ∙ bytes_grow _ s.spaces s.fixed (record { space = number l.space; offset = l.offset; bytes = l.bytes })
           ∙ ap (λ (r : List Line).
-              r ++ bytes_line s.spaces (record { space = number l.space; offset = l.offset; bytes = l.bytes }) ∷ [])
+          r ++ bytes_line s.spaces (record { space = number l.space; offset = l.offset; bytes = l.bytes }) ∷ [])
           (sym
-             (up_to_bytes front s.spaces s.protos s.func s.callees s.fixed code s.ended (no_code s f none)
-                (not_ended s f none)));
+          (up_to_bytes front s.spaces s.protos s.func s.callees s.fixed code s.ended (no_code s f none)
+          (not_ended s f none)));
     }
 
 pub at_kept : (s : PartialListing) (l : AtLine)
@@ -319,7 +325,8 @@ at_kept s l o h =
         version = o.version;
         callees = o.callees;
         fixed = o.fixed;
-        last = λ e. absurd (never_both _ e some) };
+        last = λ e. absurd (never_both _ e some);
+      };
       lines = at_grows _ s.spaces (s.done ++ option_to_list s.last) l.address l.length s.ended (right_false _ _ p.0);
     }
 
@@ -329,14 +336,15 @@ op_kept_by : (s : PartialListing) (l : OpLine) (code : Opcode) (last : Option In
     → s.ended ≡ false
     → IsOrdered (record s { last = last })
     → IsKept (record s { last = last }) (record s { last = with_op l (Some code) last; ops = s.ops + 1 })
-      (op_line s.spaces (op_of l code))
+    (op_line s.spaces (op_of l code))
 op_kept_by s l code None opened some going o = absurd (never opened)
 op_kept_by s l code (Some i) opened some going o = record {
   ordered = record {
     version = o.version;
     callees = o.callees;
     fixed = o.fixed;
-    last = λ e. absurd (never_both _ e some) };
+    last = λ e. absurd (never_both _ e some);
+  };
   lines = op_grows _ s.spaces s.done i (op_of l code) s.ended going;
 }
 
@@ -357,8 +365,8 @@ op_kept s l code is o h =
     let p : AllFalse (faults s (form.Op l)) = all_false (faults s (form.Op l)) h in
     let opened = left_false _ _ p.0 in
     subst
-      (λ (c : Option Opcode).
-          IsKept s (record s { last = with_op l c s.last; ops = s.ops + 1 }) (op_line s.spaces (op_of l code))) (sym is)
+    (λ (c : Option Opcode).
+    IsKept s (record s { last = with_op l c s.last; ops = s.ops + 1 }) (op_line s.spaces (op_of l code))) (sym is)
     (op_kept_by s l code s.last opened (has_func s o opened) (right_false _ _ p.0) o)
 
 pub end_kept : (s : PartialListing)

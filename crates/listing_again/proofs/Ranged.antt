@@ -8,9 +8,8 @@ use Rattle.std.proofs.lemmas.Slice.Eq.{bytes_eq-Decides}
 use Rattle.listing_lines.specs.Text.{Line}
 use Rattle.listing_lines.specs.Tokens.{hexadecimal_of, is_name}
 use Rattle.listing_print.specs.Printed.{hexadecimal, op_line, proto_line, range_part, result_part, spaced, storage_part}
-use Rattle.listing_print.specs.Words.{word_of}
+use Rattle.operations.specs.Words.{word_of}
 use Rattle.pcode_model.specs.declared.listing.Op.{Op}
-use Rattle.pcode_model.specs.declared.listing.Proto.{Proto}
 use Rattle.pcode_model.specs.declared.listing.Space.{Space}
 use Rattle.pcode_model.specs.declared.opcode.Opcode.{Opcode}
 use Rattle.pcode_model.specs.WellFormed.{AreSpaces}
@@ -22,7 +21,7 @@ use Rattle.pcodetext.specs.declared.form.Written.{Written}
 use Rattle.pcodetext.specs.Faults.{is_foreign, is_unknown_proto, of_no_argument, of_other, of_some, of_unknown}
 use Rattle.pcodetext.specs.Forms.{op_assigned, op_by, op_made, proto_args, proto_made}
 use Rattle.pcodetext.specs.Meaning.{storage_of, varnode}
-use Rattle.pcodetext.specs.Opcodes.{opcode_of}
+use Rattle.operations.specs.Operations.{opcode_of}
 use Rattle.pcodetext.specs.Written.{before, range_of, range_or_none, ranges_of, ranges_until, with_first}
 use Rattle.pcodetext.proofs.Passing.{left_false, right_false}
 use Rattle.pcodetext.proofs.Prototypes.{proto_of}
@@ -69,14 +68,14 @@ until_back : (word : Line) (rest : List Line) (spaces : List Space)
     → ranges_until word spaces (parts ++ word ∷ rest) ≡ Some (ws, rest)
 until_back word rest spaces none [] [] h =
     ap (λ (t : Bool). if t then Some ([], rest) else before (range_of spaces word) (ranges_until word spaces rest))
-      (same_word word)
+    (same_word word)
 until_back word rest spaces none [] (w ∷ ws) h = absurd h
 until_back word rest spaces none (part ∷ parts) [] h = absurd h
 until_back word rest spaces none (part ∷ parts) (w ∷ ws) h =
     ap
-      (λ (t : Bool).
-          if t then Some ([], parts ++ word ∷ rest) else before (range_of spaces part)
-            (ranges_until word spaces (parts ++ word ∷ rest))) (not_word spaces part word w none h.0.read)
+    (λ (t : Bool).
+    if t then Some ([], parts ++ word ∷ rest) else before (range_of spaces part)
+    (ranges_until word spaces (parts ++ word ∷ rest))) (not_word spaces part word w none h.0.read)
     ∙ ap (λ (o : Option Written). before o (ranges_until word spaces (parts ++ word ∷ rest))) h.0.read
     ∙ ap (before (Some w)) (until_back word rest spaces none parts ws h.1)
 
@@ -89,9 +88,10 @@ arguments_back : (spaces : List Space) (ws : List Written)
     → list_any of_no_argument ws ≡ false
     → AreReadBack spaces (map (storage_part spaces) (map storage_of ws)) ws
 arguments_back spaces [] a h other known = tt
-arguments_back spaces (w ∷ ws) a h other known =
-    (argument_back spaces w a h.0 (left_false _ _ other) (left_false _ _ known),
-     arguments_back spaces ws a h.1 (right_false _ _ other) (right_false _ _ known))
+arguments_back spaces (w ∷ ws) a h other known = (
+  argument_back spaces w a h.0 (left_false _ _ other) (left_false _ _ known),
+  arguments_back spaces ws a h.1 (right_false _ _ other) (right_false _ _ known),
+)
 
 keeps_back : (spaces : List Space) (ws : List Written)
     → AreSpaces spaces
@@ -100,9 +100,10 @@ keeps_back : (spaces : List Space) (ws : List Written)
     → list_any of_unknown ws ≡ false
     → AreReadBack spaces (map (range_part spaces) (map varnode ws)) ws
 keeps_back spaces [] a h other known = tt
-keeps_back spaces (w ∷ ws) a h other known =
-    (kept_back spaces w a h.0 (left_false _ _ other) (left_false _ _ known),
-     keeps_back spaces ws a h.1 (right_false _ _ other) (right_false _ _ known))
+keeps_back spaces (w ∷ ws) a h other known = (
+  kept_back spaces w a h.0 (left_false _ _ other) (left_false _ _ known),
+  keeps_back spaces ws a h.1 (right_false _ _ other) (right_false _ _ known),
+)
 
 result_back : (spaces : List Space) (o : Option Written)
     → AreSpaces spaces
@@ -110,14 +111,15 @@ result_back : (spaces : List Space) (o : Option Written)
     → of_some (of_other spaces) o ≡ false
     → of_some of_unknown o ≡ false
     → (range_or_none spaces (result_part spaces (option_map varnode o)) ≡ Some o)
-      × IsPart (result_part spaces (option_map varnode o))
+    × IsPart (result_part spaces (option_map varnode o))
 result_back spaces None a h other known = (refl, search rules)
 result_back spaces (Some w) a h other known =
-    let back = kept_back spaces w a h other known in
-    (ap (λ (t : Bool). if t then Some None else option_map Some (range_of spaces (range_part spaces (varnode w))))
-       (not_word spaces (range_part spaces (varnode w)) (codes "none") w refl back.read)
-     ∙ ap (option_map Some) back.read,
-     back.part)
+    let back = kept_back spaces w a h other known in (
+      ap (λ (t : Bool). if t then Some None else option_map Some (range_of spaces (range_part spaces (varnode w))))
+          (not_word spaces (range_part spaces (varnode w)) (codes "none") w refl back.read)
+          ∙ ap (option_map Some) back.read,
+      back.part,
+    )
 
 args_word : IsPart (codes "args")
 args_word = search rules
@@ -141,15 +143,15 @@ proto_parts name args gives pop keep =
 
 proto_line_is : (name : Line) (args : List Line) (gives : Line) (pop : ℕ) (keep : List Line)
     → (codes "proto" ++ spaced (name ∷ codes "args" ∷ []) ++ spaced args) ++
-      (spaced (codes "result" ∷ gives ∷ codes "pop" ∷ hexadecimal pop ∷ codes "keep" ∷ []) ++ spaced keep)
+    (spaced (codes "result" ∷ gives ∷ codes "pop" ∷ hexadecimal pop ∷ codes "keep" ∷ []) ++ spaced keep)
     ≡ codes "proto" ++ spaced (proto_parts name args gives pop keep)
 proto_line_is name args gives pop keep =
     let front : List Line = name ∷ codes "args" ∷ [] in
     let back : List Line = codes "result" ∷ gives ∷ codes "pop" ∷ hexadecimal pop ∷ codes "keep" ∷ [] in
     ap (λ (r : Line). codes "proto" ++ r) (append_assoc (spaced front) (spaced args) (spaced back ++ spaced keep)
     ∙ ap (λ (r : Line). spaced front ++ (spaced args ++ r)) (sym (spaced_append back keep))
-      ∙ ap (λ (r : Line). spaced front ++ r) (sym (spaced_append args (back ++ keep)))
-      ∙ sym (spaced_append front (args ++ (back ++ keep))))
+    ∙ ap (λ (r : Line). spaced front ++ r) (sym (spaced_append args (back ++ keep)))
+    ∙ sym (spaced_append front (args ++ (back ++ keep))))
 
 pub proto_again : (s : PartialListing) (l : ProtoLine)
     → AreSpaces s.spaces
@@ -168,16 +170,17 @@ proto_again s l a h foreign unknown =
     let rest : List Line = gives ∷ codes "pop" ∷ hexadecimal l.pop ∷ codes "keep" ∷ keep in
     let rest_parts : AllByRecursion IsPart (codes "result" ∷ rest) = (result_word, (gives_back.1, (pop_word, (hexadecimal_part l.pop h.pop, (keep_word, all_parts spaces keep l.keep keep_back))))) in
     made_of s _ (codes "proto") (proto_parts l.name args gives l.pop keep) _
-      (proto_line_is l.name args gives l.pop keep) proto_word
-    (name_part l.name h.name,
-     (args_word, all_append IsPart args (codes "result" ∷ rest) (all_parts spaces args l.args args_back) rest_parts))
+    (proto_line_is l.name args gives l.pop keep) proto_word (
+      name_part l.name h.name,
+      (args_word, all_append IsPart args (codes "result" ∷ rest) (all_parts spaces args l.args args_back) rest_parts),
+    )
     (ap (λ (t : Bool). if t && true then proto_args spaces l.name (ranges_until (codes "result") spaces (args ++ codes "result" ∷ rest)) else form.Nothing) h.name
     ∙ ap (proto_args spaces l.name) (until_back (codes "result") rest spaces refl args l.args args_back)
     ∙ ap
-      (λ (g : Option (Option Written)).
-          proto_made l.name l.args g (hexadecimal_of (hexadecimal l.pop)) (ranges_of spaces keep)) gives_back.0
+    (λ (g : Option (Option Written)).
+    proto_made l.name l.args g (hexadecimal_of (hexadecimal l.pop)) (ranges_of spaces keep)) gives_back.0
     ∙ ap (λ (p : Option ℕ). proto_made l.name l.args (Some l.gives) p (ranges_of spaces keep))
-      (hexadecimal_back l.pop h.pop)
+    (hexadecimal_back l.pop h.pop)
     ∙ ap (proto_made l.name l.args (Some l.gives) (Some l.pop)) (ranges_back spaces keep l.keep keep_back))
 
 -- ---- operations
@@ -208,8 +211,8 @@ op_made_is : (out : Option Written) (word : Line) (code : Opcode) (inputs : List
     → op_made out word (Some inputs) ≡ form.Op (record { out = out; code = Some code; inputs = inputs })
 op_made_is out word code inputs name known =
     ap
-      (λ (t : Bool). if t then form.Op (record { out = out; code = opcode_of word; inputs = inputs }) else form.Nothing)
-      name
+    (λ (t : Bool). if t then form.Op (record { out = out; code = opcode_of word; inputs = inputs }) else form.Nothing)
+    name
     ∙ ap (λ (o : Option Opcode). form.Op (record { out = out; code = o; inputs = inputs })) known
 
 -- without an output
@@ -221,9 +224,9 @@ op_without spaces word [] (w ∷ ws) h = absurd h
 op_without spaces word (part ∷ parts) [] h = absurd h
 op_without spaces word (part ∷ parts) (w ∷ ws) h =
     ap
-      (λ (t : Bool).
-          if t then op_assigned spaces (range_of spaces word) parts else op_made None word
-            (ranges_of spaces (part ∷ parts))) (not_word spaces part (codes "=") w refl h.0.read)
+    (λ (t : Bool).
+    if t then op_assigned spaces (range_of spaces word) parts else op_made None word
+    (ranges_of spaces (part ∷ parts))) (not_word spaces part (codes "=") w refl h.0.read)
     ∙ ap (op_made None word) (ranges_back spaces (part ∷ parts) (w ∷ ws) h)
 
 op_lines_by : (s : PartialListing) (out : Option Written) (code : Opcode) (inputs : List Written)
@@ -232,14 +235,14 @@ op_lines_by : (s : PartialListing) (out : Option Written) (code : Opcode) (input
     → AllByRecursion (IsRange s.spaces) inputs
     → of_some of_unknown out ≡ false → list_any of_unknown inputs ≡ false
     → IsReadAs s (op_line s.spaces (record { code = code; out = option_map varnode out; inputs = map varnode inputs }))
-      (form.Op (record { out = option_map canonical out; code = Some code; inputs = map canonical inputs }))
+    (form.Op (record { out = option_map canonical out; code = Some code; inputs = map canonical inputs }))
 op_lines_by s None code inputs o c h known_out known =
     let spaces : List Space = s.spaces in
     let ranges : List Line = map (range_part spaces) (map varnode inputs) in
     let back = inputs_back spaces inputs h known in
     made_of s _ [] ([] ∷ word_of code ∷ ranges) _
-      (ap (λ (r : Line). 32 ∷ r) (sym (spaced_append (word_of code ∷ []) ranges))) tt
-      (tt, (name_part _ c.name, all_parts spaces ranges _ back))
+    (ap (λ (r : Line). 32 ∷ r) (sym (spaced_append (word_of code ∷ []) ranges))) tt
+    (tt, (name_part _ c.name, all_parts spaces ranges _ back))
     (op_without spaces (word_of code) ranges _ back ∙ op_made_is None (word_of code) code _ c.name c.known)
 op_lines_by s (Some w) code inputs o c h known_out known =
     let spaces : List Space = s.spaces in
@@ -250,10 +253,10 @@ op_lines_by s (Some w) code inputs o c h known_out known =
     let front : List Line = out ∷ codes "=" ∷ [] in
     let line : spaced front ++ spaced (word_of code ∷ []) ++ spaced ranges ≡ spaced (front ++ word_of code ∷ ranges) =
     append_assoc (spaced front) (spaced (word_of code ∷ [])) (spaced ranges)
-      ∙ ap (λ (r : Line). spaced front ++ r) (sym (spaced_append (word_of code ∷ []) ranges))
-      ∙ sym (spaced_append front (word_of code ∷ ranges)) in
+    ∙ ap (λ (r : Line). spaced front ++ r) (sym (spaced_append (word_of code ∷ []) ranges))
+    ∙ sym (spaced_append front (word_of code ∷ ranges)) in
     made_of s _ [] ([] ∷ front ++ word_of code ∷ ranges) _ (ap (λ (r : Line). 32 ∷ r) line) tt
-      (tt, (first.part, (search rules, (name_part _ c.name, all_parts spaces ranges _ back))))
+    (tt, (first.part, (search rules, (name_part _ c.name, all_parts spaces ranges _ back))))
     (ap (λ (o : Option Written). op_assigned spaces o (word_of code ∷ ranges)) first.read
     ∙ ap (op_made (Some (canonical w)) (word_of code)) (ranges_back spaces ranges _ back)
     ∙ op_made_is (Some (canonical w)) (word_of code) code _ c.name c.known)
@@ -267,7 +270,7 @@ pub op_again : (s : PartialListing) (l : OpLine) (code : Opcode)
 op_again s l code is h known_out known =
     let word : IsWord code = subst (λ (o : Option Opcode). IfSome o IsWord) is h.code in
     subst
-      (λ (o : Option Opcode).
-          IsReadAs s (op_line s.spaces (op_of l code))
-            (form.Op (record { out = option_map canonical l.out; code = o; inputs = map canonical l.inputs }))) (sym is)
+    (λ (o : Option Opcode).
+    IsReadAs s (op_line s.spaces (op_of l code))
+    (form.Op (record { out = option_map canonical l.out; code = o; inputs = map canonical l.inputs }))) (sym is)
     (op_lines_by s l.out code l.inputs h.out word h.inputs known_out known)

@@ -1,5 +1,5 @@
 -- Ranges, places and names are read back from their canonical text.
-use Rattle.std.proofs.Common.{◌≡◌, ◌∙◌, ◌<◌, ◌+◌, ◌%◌, ◌^◌, ℕ, zero, suc, Bool, true, false, List, [], ◌∷◌, ◌++◌, map, ap, sym, refl, arith, subst, append_assoc}
+use Rattle.std.proofs.Common.{◌≡◌, ◌∙◌, ◌<◌, ◌+◌, ◌%◌, ◌^◌, ℕ, suc, Bool, true, false, List, [], ◌∷◌, ◌++◌, map, ap, sym, refl, arith, subst, append_assoc}
 use Rattle.std.proofs.Math.Nat.{mod-mod}
 use Rattle.std.specs.Prelude.{◌==◌, codes, decimal, Option, Some, None, IfSome, if◌then◌else◌, slice_get}
 use Rattle.std.specs.Fmt.{digits}
@@ -20,8 +20,6 @@ use Rattle.pcodetext.specs.declared.form.Named.TheVariants as named
 use Rattle.pcodetext.specs.declared.form.Written.{Written}
 use Rattle.pcode_model.specs.declared.listing.SpaceKind.{SpaceKind}
 use Rattle.pcode_model.specs.declared.listing.SpaceKind.TheVariants.{Register}
-use Rattle.pcode_model.specs.Ranges.{is_kind}
-use Rattle.pcode_model.specs.Spaces.{same_kind}
 use Rattle.pcode_model.specs.WellFormed.{AreSpaces}
 use Rattle.pcodetext.specs.Faults.{is_no_argument, is_of_kind, is_other, is_unknown, of_no_argument, of_other, of_unknown}
 use Rattle.pcodetext.specs.Meaning.{number, reduced, storage_of, varnode}
@@ -100,7 +98,7 @@ IsSpelled spaces named.Unknown = Unit {0}
 pub spelled : (spaces : List Space) (name : Line) → is_name name ≡ true → IsSpelled spaces (named_by spaces name)
 spelled spaces name is =
     by_stack (bytes_eq name (codes "stack")) refl (place_in name (map space_name spaces)) refl
-      (found space_name name spaces)
+    (found space_name name spaces)
   where
     by_stack : (t : Bool)
         → bytes_eq name (codes "stack") ≡ t
@@ -114,7 +112,7 @@ spelled spaces name is =
         let same : name_of spaces n ≡ name = space_of (slice_get spaces n) name h in
         let known : named_by spaces name ≡ named.Space n =
         ap (λ (t : Bool). if t then named.Stack else numbered (place_in name (map space_name spaces))) e
-          ∙ ap numbered q in
+        ∙ ap numbered q in
         (ap is_name same ∙ is, ap (named_by spaces) same ∙ known)
 
 -- a prototype's name stands for its number
@@ -163,7 +161,7 @@ range_by_is spaces (a ∷ b ∷ c ∷ []) = by_name (is_name a) refl
         → IfSome (if t then written (named_by spaces a) (hexadecimal_of b) (decimal_of c) else None) (IsRange spaces)
     by_name true e =
         written_is spaces (named_by spaces a) (hexadecimal_of b) (decimal_of c) (spelled spaces a e)
-          (hexadecimal_small b) (decimal_small c)
+        (hexadecimal_small b) (decimal_small c)
     by_name false e = tt
 range_by_is spaces (a ∷ b ∷ c ∷ d ∷ parts) = tt
 
@@ -174,7 +172,7 @@ sized_is : (name : Line) (offset size : ℕ)
     → sized_part name offset size ≡ name ++ 58 ∷ (hexadecimal offset ++ 58 ∷ decimal size)
 sized_is name offset size =
     append_assoc (name ++ codes ":0x" ++ digits 16 false offset) (codes ":") (decimal size)
-      ∙ append_assoc (name ++ codes ":0x") (digits 16 false offset) (58 ∷ decimal size)
+    ∙ append_assoc (name ++ codes ":0x") (digits 16 false offset) (58 ∷ decimal size)
     ∙ append_assoc name (codes ":0x") (digits 16 false offset ++ 58 ∷ decimal size)
 
 place_part_to : (name : Line) (offset : ℕ) → place_part name offset ≡ name ++ 58 ∷ hexadecimal offset
@@ -186,18 +184,18 @@ pub sized_back : (spaces : List Space) (name : Line) (offset size : ℕ)
     → offset < 16 ^ 16
     → size < 10 ^ 5
     → range_of spaces (sized_part name offset size)
-      ≡ Some (record { space = named_by spaces name; offset = offset; size = size })
+    ≡ Some (record { space = named_by spaces name; offset = offset; size = size })
 sized_back spaces name offset size is far long =
     let cut : parts_of 58 (sized_part name offset size) ≡ name ∷ hexadecimal offset ∷ decimal size ∷ [] =
     ap (parts_of 58) (sized_is name offset size)
-      ∙ token_then name (hexadecimal offset ++ 58 ∷ decimal size) (name_token name is)
+    ∙ token_then name (hexadecimal offset ++ 58 ∷ decimal size) (name_token name is)
     ∙ ap (λ (r : List Line). name ∷ r) (token_then (hexadecimal offset) (decimal size) (hexadecimal_token offset far)
     ∙ ap (λ (r : List Line). hexadecimal offset ∷ r) (one_token (decimal size) (decimal_token size long))) in
     ap (range_by spaces) cut
-      ∙ ap
-        (λ (t : Bool).
-            if t then written (named_by spaces name) (hexadecimal_of (hexadecimal offset)) (decimal_of (decimal size))
-              else None) is
+    ∙ ap
+    (λ (t : Bool).
+    if t then written (named_by spaces name) (hexadecimal_of (hexadecimal offset)) (decimal_of (decimal size))
+    else None) is
     ∙ ap (λ (o : Option ℕ). written (named_by spaces name) o (decimal_of (decimal size))) (hexadecimal_back offset far)
     ∙ ap (written (named_by spaces name) (Some offset)) (decimal_back size long)
 
@@ -210,8 +208,8 @@ sized_part_is name offset size is far long =
     let last : IsPart (58 ∷ decimal size) = (omega arith, token_is_part (decimal size) (decimal_token size long)) in
     let more : IsPart (hexadecimal offset ++ 58 ∷ decimal size) = all_append (λ b. 32 < b) (hexadecimal offset) (58 ∷ decimal size) (token_is_part (hexadecimal offset) (hexadecimal_token offset far)) last in
     subst IsPart (sym (sized_is name offset size))
-      (all_append (λ b. 32 < b) name (58 ∷ (hexadecimal offset ++ 58 ∷ decimal size))
-         (token_is_part name (name_token name is)) (omega arith, more))
+    (all_append (λ b. 32 < b) name (58 ∷ (hexadecimal offset ++ 58 ∷ decimal size))
+    (token_is_part name (name_token name is)) (omega arith, more))
 
 -- ---- places
 
@@ -246,10 +244,10 @@ pub place_back : (spaces : List Space) (name : Line) (offset : ℕ)
 place_back spaces name offset is far =
     let cut : parts_of 58 (place_part name offset) ≡ name ∷ hexadecimal offset ∷ [] =
     ap (parts_of 58) (place_part_to name offset)
-      ∙ token_then name (hexadecimal offset) (name_token name is)
-      ∙ ap (λ (r : List Line). name ∷ r) (one_token (hexadecimal offset) (hexadecimal_token offset far)) in
+    ∙ token_then name (hexadecimal offset) (name_token name is)
+    ∙ ap (λ (r : List Line). name ∷ r) (one_token (hexadecimal offset) (hexadecimal_token offset far)) in
     ap (place_by spaces) cut
-      ∙ ap (λ (t : Bool). if t then placed (named_by spaces name) (hexadecimal_of (hexadecimal offset)) else None) is
+    ∙ ap (λ (t : Bool). if t then placed (named_by spaces name) (hexadecimal_of (hexadecimal offset)) else None) is
     ∙ ap (placed (named_by spaces name)) (hexadecimal_back offset far)
 
 pub place_part_is : (name : Line) (offset : ℕ)
@@ -259,7 +257,7 @@ pub place_part_is : (name : Line) (offset : ℕ)
 place_part_is name offset is far =
     subst IsPart (sym (place_part_to name offset))
     (all_append (λ b. 32 < b) name (58 ∷ hexadecimal offset) (token_is_part name (name_token name is))
-       (omega arith, token_is_part (hexadecimal offset) (hexadecimal_token offset far)))
+    (omega arith, token_is_part (hexadecimal offset) (hexadecimal_token offset far)))
 
 -- ---- constants
 
@@ -272,21 +270,22 @@ reduced_twice n offset size = by_space (n == 0)
   where
     by_space : (t : Bool)
         → (if t then (if t then offset % 256 ^ size else offset) % 256 ^ size else
-             (if t then offset % 256 ^ size else offset))
-          ≡ (if t then offset % 256 ^ size else offset)
+        (if t then offset % 256 ^ size else offset))
+        ≡ (if t then offset % 256 ^ size else offset)
     by_space true = mod-mod offset (256 ^ size)
     by_space false = refl
 
 pub same_varnode : (w : Written) → varnode (canonical w) ≡ varnode w
 same_varnode w =
     ap (λ (o : ℕ). record { space = number w.space; offset = o; size = w.size })
-      (reduced_twice (number w.space) w.offset w.size)
+    (reduced_twice (number w.space) w.offset w.size)
 
 pub canonical_is : (spaces : List Space) (w : Written) → IsRange spaces w → IsRange spaces (canonical w)
 canonical_is spaces w h = record {
   space = h.space;
   offset = omega (arith, reduced_le (number w.space) w.offset w.size, h.offset);
-  size = h.size }
+  size = h.size;
+}
 
 -- ---- ranges of known spaces
 
@@ -296,13 +295,14 @@ known_back : (spaces : List Space) (space : Named) (offset size : ℕ)
     → offset < 16 ^ 16
     → size < 10 ^ 5
     →
-      (range_of spaces (sized_part (name_of spaces (number space)) offset size)
-       ≡ Some (record { space = space; offset = offset; size = size }))
-      × IsPart (sized_part (name_of spaces (number space)) offset size)
-known_back spaces (named.Space n) offset size known s far long =
-    (sized_back spaces (name_of spaces n) offset size s.0 far long
-     ∙ ap (λ (space : Named). Some (record { space = space; offset = offset; size = size })) s.1,
-     sized_part_is (name_of spaces n) offset size s.0 far long)
+    (range_of spaces (sized_part (name_of spaces (number space)) offset size)
+    ≡ Some (record { space = space; offset = offset; size = size }))
+    × IsPart (sized_part (name_of spaces (number space)) offset size)
+known_back spaces (named.Space n) offset size known s far long = (
+  sized_back spaces (name_of spaces n) offset size s.0 far long
+      ∙ ap (λ (space : Named). Some (record { space = space; offset = offset; size = size })) s.1,
+  sized_part_is (name_of spaces n) offset size s.0 far long,
+)
 known_back spaces named.Stack offset size known s far long = absurd (never known)
 known_back spaces named.Unknown offset size known s far long = absurd (never known)
 
@@ -344,14 +344,15 @@ argument_by : (spaces : List Space) (space : Named) (offset size : ℕ)
     → size < 10 ^ 5
     → is_other spaces space ≡ false → is_no_argument space ≡ false
     → IsReadBack spaces (storage_part spaces (storage_of (record { space = space; offset = offset; size = size })))
-      (record { space = space; offset = offset; size = size })
+    (record { space = space; offset = offset; size = size })
 argument_by spaces (named.Space n) offset size a s far long other known =
     register_back spaces (record { space = named.Space n; offset = offset; size = size }) a
-      (record { space = s; offset = far; size = long }) (not-false _ other)
+    (record { space = s; offset = far; size = long }) (not-false _ other)
 argument_by spaces named.Stack offset size a s far long other known =
     record {
       read = sized_back spaces (codes "stack") offset size refl far long;
-      part = sized_part_is (codes "stack") offset size refl far long }
+      part = sized_part_is (codes "stack") offset size refl far long;
+    }
 argument_by spaces named.Unknown offset size a s far long other known = absurd (never known)
 
 pub argument_back : (spaces : List Space) (w : Written)

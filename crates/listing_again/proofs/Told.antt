@@ -25,8 +25,9 @@ use Rattle.pcodetext.specs.declared.form.ProtoLine.{ProtoLine}
 use Rattle.pcodetext.specs.declared.form.SpaceLine.{SpaceLine}
 use Rattle.pcodetext.specs.declared.form.Written.{Written}
 use Rattle.pcodetext.specs.Forms.{at_form, at_made, bytes_form, bytes_made, callee_form, callee_made, end_form, form_by, form_of, func_form, func_made, function_made, head_form, is_two, kind_of, op_assigned, op_by, op_form, op_made, order_of, pcode_form, pcode_made, proto_args, proto_form, proto_made, proto_rest, returns_by, space_form, space_made, stack_form, stack_made, word_by}
-use Rattle.pcodetext.specs.Opcodes as opcodes
-use Rattle.pcodetext.specs.Opcodes.{analyses, analysis_word, arithmetics, binary_of, binary_word, comparisons, controls, conversion_word, conversions, divide_word, divides, float_of, foreign_of, left_out_word, left_outs, opcode_of, or_else, shifts, unaries, unary_word, word_of}
+use Rattle.operations.specs.Operations.{opcode_of}
+use Rattle.operations.specs.Words.{word_of}
+use Rattle.operations.proofs.Exact.{opcode_is}
 use Rattle.pcodetext.specs.Tables.{place_in, proto_name}
 use Rattle.pcodetext.specs.Written.{before, place_of, range_of, range_or_none, ranges_of, ranges_until, with_first}
 use Rattle.listing_again.proofs.Numbers.{AreBytes, bytes_small, decimal_small, hexadecimal_small, right_true}
@@ -84,69 +85,6 @@ IsTold two spaces protos form.Nothing = Unit {0}
 
 -- ---- operations
 
-named_is : {A : Type 0} (f : A → Line) (word : Line) (xs : List A)
-    → IfSome (opcodes.named_by f word xs) (λ a. f a ≡ word)
-named_is f word [] = tt
-named_is f word (x ∷ xs) = by_word (bytes_eq word (f x)) refl (opcodes.named_by f word xs) (named_is f word xs)
-  where
-    by_word : (t : Bool)
-        → bytes_eq word (f x) ≡ t
-        → (o : Option _)
-        → IfSome o (λ a. f a ≡ word)
-        → IfSome (if t then Some x else o) (λ a. f a ≡ word)
-    by_word true e o h = sym ((bytes_eq-Decides word (f x)).0 e)
-    by_word false e o h = h
-
-mapped : {A : Type 0} (f : A → Line) (word : Line) (g : A → Opcode) → ((a : A) → word_of (g a) ≡ f a) → (o : Option A)
-    → IfSome o (λ a. f a ≡ word)
-    → IfSome (option_map g o) (λ c. word_of c ≡ word)
-mapped f word g same None h = tt
-mapped f word g same (Some a) h = same a ∙ h
-
-either : {A : Type 0} (P : A → Type 0) (o p : Option A) → IfSome o P → IfSome p P → IfSome (or_else o p) P
-either P None p h g = g
-either P (Some a) p h g = h
-
-binary_is : (word : Line) → IfSome (binary_of word) (λ b. binary_word b ≡ word)
-binary_is word = either (λ b. binary_word b ≡ word) _ _ (named_is binary_word word arithmetics)
-    (either (λ b. binary_word b ≡ word) _ _ (named_is binary_word word comparisons) (named_is binary_word word shifts))
-
-float_is : (word : Line) → IfSome (float_of word) (λ more. codes "FLOAT_" ++ more ≡ word)
-float_is [] = tt
-float_is (a ∷ []) = tt
-float_is (a ∷ b ∷ []) = tt
-float_is (a ∷ b ∷ c ∷ []) = tt
-float_is (a ∷ b ∷ c ∷ d ∷ []) = tt
-float_is (a ∷ b ∷ c ∷ d ∷ e ∷ []) = tt
-float_is (a ∷ b ∷ c ∷ d ∷ e ∷ f ∷ more) = by_front (bytes_eq (a ∷ b ∷ c ∷ d ∷ e ∷ f ∷ []) (codes "FLOAT_")) refl
-  where
-    by_front : (t : Bool)
-        → bytes_eq (a ∷ b ∷ c ∷ d ∷ e ∷ f ∷ []) (codes "FLOAT_") ≡ t
-        → IfSome (if t then Some more else None) (λ rest. codes "FLOAT_" ++ rest ≡ a ∷ b ∷ c ∷ d ∷ e ∷ f ∷ more)
-    by_front true is =
-        sym
-          (ap (λ (front : Line). front ++ more) ((bytes_eq-Decides (a ∷ b ∷ c ∷ d ∷ e ∷ f ∷ []) (codes "FLOAT_")).0 is))
-    by_front false is = tt
-
-foreign_is : (word : Line) → IfSome (foreign_of word) (λ c. word_of c ≡ word)
-foreign_is word =
-    either (λ c. word_of c ≡ word) _ _
-      (mapped (λ more. codes "FLOAT_" ++ more) word opcode.Float (λ more. refl) _ (float_is word))
-    (either (λ c. word_of c ≡ word) _ _
-       (mapped conversion_word word opcode.FloatConversion (λ op. refl) _ (named_is conversion_word word conversions))
-    (either (λ c. word_of c ≡ word) _ _
-       (mapped analysis_word word opcode.Analysis (λ op. refl) _ (named_is analysis_word word analyses))
-    (mapped left_out_word word opcode.LeftOut (λ op. refl) _ (named_is left_out_word word left_outs))))
-
-opcode_is : (word : Line) → IfSome (opcode_of word) (λ c. word_of c ≡ word)
-opcode_is word =
-    either (λ c. word_of c ≡ word) _ _
-      (mapped unary_word word opcode.Unary (λ op. refl) _ (named_is unary_word word unaries))
-    (either (λ c. word_of c ≡ word) _ _ (mapped binary_word word opcode.Binary (λ op. refl) _ (binary_is word))
-    (either (λ c. word_of c ≡ word) _ _
-       (mapped divide_word word opcode.Divide (λ op. refl) _ (named_is divide_word word divides))
-    (either (λ c. word_of c ≡ word) _ _ (named_is word_of word controls) (foreign_is word))))
-
 word_is : (word : Line) → is_name word ≡ true → IfSome (opcode_of word) IsWord
 word_is word is = by_code (opcode_of word) refl (opcode_is word)
   where
@@ -175,7 +113,7 @@ until_is : (word : Line) (spaces : List Space) (parts : List Line)
 until_is word spaces [] = tt
 until_is word spaces (part ∷ parts) =
     by_word (bytes_eq part word) (range_of spaces part) (ranges_until word spaces parts) (range_is spaces part)
-      (until_is word spaces parts)
+    (until_is word spaces parts)
   where
     joined : (o : Option Written) (more : Option (List Written × List Line))
         → IfSome o (IsRange spaces)
@@ -239,10 +177,10 @@ word_told false (a ∷ b ∷ parts) = tt
 
 space_made_told :
     (two : Bool) (spaces : List Space) (protos : List Proto) (name : Line) (kind : Option SpaceKind) (size : Option ℕ)
-      (big : Option Bool) (word : Option ℕ)
+    (big : Option Bool) (word : Option ℕ)
     → IfSome kind (λ k. same_kind Constant k ≡ false)
-      → IfSome size (λ n. n < 10 ^ 5)
-      → IfSome word (λ n. (n < 10 ^ 5) × (two ≡ false → n ≡ 1))
+    → IfSome size (λ n. n < 10 ^ 5)
+    → IfSome word (λ n. (n < 10 ^ 5) × (two ≡ false → n ≡ 1))
     → IsTold two spaces protos (space_made name kind size big word)
 space_made_told two spaces protos name None size big word h g k = tt
 space_made_told two spaces protos name (Some kind) None big word h g k = tt
@@ -259,7 +197,7 @@ space_told two spaces protos (a ∷ b ∷ []) = tt
 space_told two spaces protos (a ∷ b ∷ c ∷ []) = tt
 space_told two spaces protos (a ∷ b ∷ c ∷ d ∷ parts) =
     space_made_told two spaces protos a (kind_of b) (decimal_of c) (order_of d) (word_by two parts) (kind_is b)
-      (decimal_small c) (word_told two parts)
+    (decimal_small c) (word_told two parts)
 
 stack_told : (two : Bool) (spaces : List Space) (protos : List Proto) (parts : List Line)
     → IsTold two spaces protos (stack_form spaces parts)
@@ -273,12 +211,12 @@ stack_told two spaces protos (a ∷ b ∷ parts) = tt
 
 proto_made_told :
     (two : Bool) (spaces : List Space) (protos : List Proto) (name : Line) (args : List Written)
-      (gives : Option (Option Written)) (pop : Option ℕ) (keep : Option (List Written))
+    (gives : Option (Option Written)) (pop : Option ℕ) (keep : Option (List Written))
     → is_name name ≡ true
-      → AllByRecursion (IsRange spaces) args
-      → IfSome gives (λ g. IfSome g (IsRange spaces))
-      → IfSome pop (λ n. n < 16 ^ 16)
-      → IfSome keep (AllByRecursion (IsRange spaces))
+    → AllByRecursion (IsRange spaces) args
+    → IfSome gives (λ g. IfSome g (IsRange spaces))
+    → IfSome pop (λ n. n < 16 ^ 16)
+    → IfSome keep (AllByRecursion (IsRange spaces))
     → IsTold two spaces protos (proto_made name args gives pop keep)
 proto_made_told two spaces protos name args None pop keep n a g p k = tt
 proto_made_told two spaces protos name args (Some gives) None keep n a g p k = tt
@@ -288,7 +226,8 @@ proto_made_told two spaces protos name args (Some gives) (Some pop) (Some keep) 
   args = a;
   gives = g;
   pop = p;
-  keep = k }
+  keep = k;
+}
 
 proto_rest_told : (two : Bool) (spaces : List Space) (protos : List Proto) (name : Line) (args : List Written) (parts : List Line)
     → is_name name ≡ true
@@ -301,7 +240,7 @@ proto_rest_told two spaces protos name args (a ∷ b ∷ c ∷ []) n h = tt
 proto_rest_told two spaces protos name args (a ∷ b ∷ c ∷ d ∷ parts) n h =
     when two spaces protos (bytes_eq b (codes "pop") && bytes_eq d (codes "keep")) _ _
     (λ e. proto_made_told two spaces protos name args _ _ _ n h (or_none_is spaces a) (hexadecimal_small c) (ranges_are spaces parts))
-      tt
+    tt
 
 proto_told : (two : Bool) (spaces : List Space) (protos : List Proto) (parts : List Line)
     → IsTold two spaces protos (proto_form spaces parts)
@@ -309,7 +248,7 @@ proto_told two spaces protos [] = tt
 proto_told two spaces protos (a ∷ []) = tt
 proto_told two spaces protos (a ∷ b ∷ parts) = when two spaces protos (is_name a && bytes_eq b (codes "args")) _ _
     (λ e. args_told (left_true _ _ e) (ranges_until (codes "result") spaces parts) (until_is (codes "result") spaces parts))
-      tt
+    tt
   where
     args_told : is_name a ≡ true
         → (o : Option (List Written × List Line))
@@ -327,16 +266,18 @@ function_told spaces protos name proto (Some place) (Some returns) h = by_names 
   where
     by_names : (t : Bool) → (is_name name && is_name proto) ≡ t
         → IfSome
-          (if t then Some
-             (record {
-                name = name;
-                space = place.0;
-                address = place.1;
-                proto = place_in proto (map proto_name protos);
-                returns = returns }) else None) (λ l. IsFunctionTold spaces protos l × (Some l.returns ≡ Some returns))
-    by_names true e =
-        (record { name = left_true _ _ e; space = h.0; address = h.1; proto = called protos proto (right_true _ _ e) },
-         refl)
+        (if t then Some
+        (record {
+          name = name;
+          space = place.0;
+          address = place.1;
+          proto = place_in proto (map proto_name protos);
+          returns = returns;
+        }) else None) (λ l. IsFunctionTold spaces protos l × (Some l.returns ≡ Some returns))
+    by_names true e = (
+      record { name = left_true _ _ e; space = h.0; address = h.1; proto = called protos proto (right_true _ _ e) },
+      refl,
+    )
     by_names false e = tt
 
 func_told : (two : Bool) (spaces : List Space) (protos : List Proto) (parts : List Line)
@@ -346,7 +287,7 @@ func_told two spaces protos (a ∷ []) = tt
 func_told two spaces protos (a ∷ b ∷ []) = tt
 func_told two spaces protos (a ∷ b ∷ c ∷ []) =
     made (function_made protos a c (place_of spaces b) (Some true))
-      (function_told spaces protos a c (place_of spaces b) (Some true) (place_is spaces b))
+    (function_told spaces protos a c (place_of spaces b) (Some true) (place_is spaces b))
   where
     same : (r : Bool) → Some r ≡ Some true → r ≡ true
     same r e = cc
@@ -365,8 +306,8 @@ callee_told two spaces protos (a ∷ []) = tt
 callee_told two spaces protos (a ∷ b ∷ []) = tt
 callee_told two spaces protos (a ∷ b ∷ c ∷ parts) =
     made (returns_by two parts) (returns_told two parts)
-      (function_made protos a c (place_of spaces b) (returns_by two parts))
-      (function_told spaces protos a c (place_of spaces b) (returns_by two parts) (place_is spaces b))
+    (function_made protos a c (place_of spaces b) (returns_by two parts))
+    (function_told spaces protos a c (place_of spaces b) (returns_by two parts) (place_is spaces b))
   where
     returns_told : (t : Bool) (ps : List Line) → t ≡ false → IfSome (returns_by t ps) (λ r. r ≡ true)
     returns_told t [] e = refl
@@ -469,9 +410,9 @@ head_told s word parts =
     let spaces : List Space = s.spaces in
     let protos : List Proto = s.protos in
     when two spaces protos (bytes_eq word (codes "pcode")) _ _ (λ e. pcode_told two spaces protos parts)
-      (when two spaces protos (bytes_eq word (codes "space")) _ _ (λ e. space_told two spaces protos parts)
+    (when two spaces protos (bytes_eq word (codes "space")) _ _ (λ e. space_told two spaces protos parts)
     (when two spaces protos (bytes_eq word (codes "stack")) _ _ (λ e. stack_told two spaces protos parts)
-       (when two spaces protos (bytes_eq word (codes "proto")) _ _ (λ e. proto_told two spaces protos parts)
+    (when two spaces protos (bytes_eq word (codes "proto")) _ _ (λ e. proto_told two spaces protos parts)
     (when two spaces protos (bytes_eq word (codes "func")) _ _ (λ e. func_told two spaces protos parts) (when two spaces protos (bytes_eq word (codes "end")) _ _ (λ e. end_told two spaces protos parts) tt)))))
 
 by_told : (s : PartialListing) (parts : List Line) → IsTold (is_two s.version) s.spaces s.protos (form_by s parts)
@@ -481,9 +422,9 @@ by_told s (word ∷ parts) =
     let spaces : List Space = s.spaces in
     let protos : List Proto = s.protos in
     when two spaces protos (length word == 0) _ _ (λ e. op_told two spaces protos parts)
-      (when two spaces protos (bytes_eq word (codes "at")) _ _ (λ e. at_told two spaces protos parts)
+    (when two spaces protos (bytes_eq word (codes "at")) _ _ (λ e. at_told two spaces protos parts)
     (when two spaces protos (bytes_eq word (codes "bytes")) _ _ (λ e. bytes_told two spaces protos parts)
-       (when two spaces protos (bytes_eq word (codes "callee")) _ _ (λ e. callee_told two spaces protos parts)
+    (when two spaces protos (bytes_eq word (codes "callee")) _ _ (λ e. callee_told two spaces protos parts)
     (head_told s word parts))))
 
 pub told : (s : PartialListing) (line : Line) → IsTold (is_two s.version) s.spaces s.protos (form_of s line)

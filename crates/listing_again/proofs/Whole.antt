@@ -60,9 +60,9 @@ says : (s t : PartialListing) (line : Line) (g : Form)
     → step s line ≡ Goes t
 says s t line g skipped h none is =
     ap (λ (b : Bool). if b then Goes s else step_by s (form_of s line)) skipped
-      ∙ ap (step_by s) h.read
-      ∙ ap (stepped s g) none
-      ∙ ap Goes is
+    ∙ ap (step_by s) h.read
+    ∙ ap (stepped s g) none
+    ∙ ap Goes is
 
 -- a line that is read as the form that it was made of
 same_form : (s : PartialListing) (f : Form) (line : Line)
@@ -74,7 +74,8 @@ same_form : (s : PartialListing) (f : Form) (line : Line)
 same_form s f line skipped none k r = record {
   kept = k;
   clean = r.clean;
-  said = says s (after s f) line f skipped r none refl }
+  said = says s (after s f) line f skipped r none refl;
+}
 
 some_same : (test : Written → Bool) → ((w : Written) → test (canonical w) ≡ test w) → (o : Option Written)
     → of_some test (option_map canonical o) ≡ of_some test o
@@ -89,14 +90,14 @@ any_same test same (w ∷ ws) = ap₂ (λ (a b : Bool). a || b) (same w) (any_sa
 op_faults : (s : PartialListing) (l : OpLine) → faults s (form.Op (canonical_op l)) ≡ faults s (form.Op l)
 op_faults s l =
     ap₂ (λ (a b : Bool).
-        (is_none s.last || s.ended, why.Order) ∷ ((is_none l.code || a) || b, why.Unknown) ∷
-          (nat_le 16384 s.ops, why.Range)
+    (is_none s.last || s.ended, why.Order) ∷ ((is_none l.code || a) || b, why.Unknown) ∷
+    (nat_le 16384 s.ops, why.Range)
     ∷ (of_some is_empty (option_map canonical l.out) || list_any is_empty (map canonical l.inputs), why.Range) ∷ [])
     (some_same of_unknown (λ w. refl) l.out) (any_same of_unknown (λ w. refl) l.inputs)
     ∙ ap₂ (λ (a b : Bool).
-        (is_none s.last || s.ended, why.Order) ∷
-          ((is_none l.code || of_some of_unknown l.out) || list_any of_unknown l.inputs, why.Unknown) ∷
-          (nat_le 16384 s.ops, why.Range) ∷ (a || b, why.Range) ∷ [])
+    (is_none s.last || s.ended, why.Order) ∷
+    ((is_none l.code || of_some of_unknown l.out) || list_any of_unknown l.inputs, why.Unknown) ∷
+    (nat_le 16384 s.ops, why.Range) ∷ (a || b, why.Range) ∷ [])
     (some_same is_empty (λ w. refl) l.out) (any_same is_empty (λ w. refl) l.inputs)
 
 out_same : (o : Option Written) → option_map varnode (option_map canonical o) ≡ option_map varnode o
@@ -113,9 +114,9 @@ with_same l None last = refl
 with_same l (Some code) None = refl
 with_same l (Some code) (Some i) =
     ap₂
-      (λ (out : Option Varnode) (inputs : List Varnode).
-          Some (record i { ops = i.ops ++ record { code = code; out = out; inputs = inputs } ∷ [] })) (out_same l.out)
-      (inputs_same l.inputs)
+    (λ (out : Option Varnode) (inputs : List Varnode).
+    Some (record i { ops = i.ops ++ record { code = code; out = out; inputs = inputs } ∷ [] })) (out_same l.out)
+    (inputs_same l.inputs)
 
 op_said : (s : PartialListing) (l : OpLine)
     → IsOrdered s
@@ -140,9 +141,9 @@ op_said s l o h none = by_code l.code refl (left_false _ _ (left_false _ _ p.1.0
             clean = read.clean;
             said =
                 says s (after s (form.Op l)) _ (form.Op (canonical_op l)) refl read
-                  (ap first_fault (op_faults s l) ∙ none)
-                  (ap (λ (last : Option Instruction). record s { last = last; ops = s.ops + 1 })
-                     (with_same l l.code s.last));
+                (ap first_fault (op_faults s l) ∙ none)
+                (ap (λ (last : Option Instruction). record s { last = last; ops = s.ops + 1 })
+                (with_same l l.code s.last));
           },
         )
 
@@ -155,35 +156,42 @@ said_again : (s : PartialListing) (f : Form)
 said_again s form.Nothing g o h none = absurd (never (all_false (faults s form.Nothing) none).0)
 said_again s (form.Pcode n) g o h none =
     (version_line n, same_form s (form.Pcode n) _ refl none (pcode_kept s n g o none) (pcode_again s n h))
-said_again s (form.Space l) g o h none =
-    (space_line (version_of s.version) (space_of l),
-     same_form s (form.Space l) _ refl none (space_kept s l g o none) (space_again s l h))
+said_again s (form.Space l) g o h none = (
+  space_line (version_of s.version) (space_of l),
+  same_form s (form.Space l) _ refl none (space_kept s l g o none) (space_again s l h),
+)
 said_again s (form.Stack w) g o h none =
-    let p : AllFalse (faults s (form.Stack w)) = all_false (faults s (form.Stack w)) none in
-    (stack_line s.spaces (varnode w),
-     same_form s (form.Stack w) _ refl none (stack_kept s w g o none)
-       (stack_again s w g.spaces.formed h (not-false _ p.1.1.0)))
+    let p : AllFalse (faults s (form.Stack w)) = all_false (faults s (form.Stack w)) none in (
+      stack_line s.spaces (varnode w),
+      same_form s (form.Stack w) _ refl none (stack_kept s w g o none)
+          (stack_again s w g.spaces.formed h (not-false _ p.1.1.0)),
+    )
 said_again s (form.Proto l) g o h none =
-    let p : AllFalse (faults s (form.Proto l)) = all_false (faults s (form.Proto l)) none in
-    (proto_line s.spaces (proto_of l),
-     same_form s (form.Proto l) _ refl none (proto_kept s l g o none) (proto_again s l g.spaces.formed h p.0 p.1.1.0))
+    let p : AllFalse (faults s (form.Proto l)) = all_false (faults s (form.Proto l)) none in (
+      proto_line s.spaces (proto_of l),
+      same_form s (form.Proto l) _ refl none (proto_kept s l g o none) (proto_again s l g.spaces.formed h p.0 p.1.1.0),
+    )
 said_again s (form.Func l) g o h none =
-    let p : AllFalse (faults s (form.Func l)) = all_false (faults s (form.Func l)) none in
-    (function_line (codes "func") s.spaces s.protos (function_of l),
-     same_form s (form.Func l) _ refl none (func_kept s l g o none)
-       (func_again s l h.0 h.1 p.1.1.1.0 (left_false _ _ p.1.0)))
+    let p : AllFalse (faults s (form.Func l)) = all_false (faults s (form.Func l)) none in (
+      function_line (codes "func") s.spaces s.protos (function_of l),
+      same_form s (form.Func l) _ refl none (func_kept s l g o none)
+          (func_again s l h.0 h.1 p.1.1.1.0 (left_false _ _ p.1.0)),
+    )
 said_again s (form.Callee l) g o h none =
-    let p : AllFalse (faults s (form.Callee l)) = all_false (faults s (form.Callee l)) none in
-    (function_line (codes "callee") s.spaces s.protos (function_of l),
-     same_form s (form.Callee l) _ refl none (callee_kept s l g o none)
-       (callee_again s l h.0 h.1 (right_false _ _ p.1.1.1.0) (left_false _ _ p.1.0)))
+    let p : AllFalse (faults s (form.Callee l)) = all_false (faults s (form.Callee l)) none in (
+      function_line (codes "callee") s.spaces s.protos (function_of l),
+      same_form s (form.Callee l) _ refl none (callee_kept s l g o none)
+          (callee_again s l h.0 h.1 (right_false _ _ p.1.1.1.0) (left_false _ _ p.1.0)),
+    )
 said_again s (form.Bytes l) g o h none =
-    let p : AllFalse (faults s (form.Bytes l)) = all_false (faults s (form.Bytes l)) none in
-    (bytes_line s.spaces (record { space = number l.space; offset = l.offset; bytes = l.bytes }),
-     same_form s (form.Bytes l) _ refl none (bytes_kept s l g o none) (bytes_again s l (not-false _ p.1.1.1.1.1.0) h))
-said_again s (form.At l) g o h none =
-    (at_line (record { address = l.address; length = l.length; ops = [] }),
-     same_form s (form.At l) _ refl none (at_kept s l o none) (at_again s l h.0 h.1))
+    let p : AllFalse (faults s (form.Bytes l)) = all_false (faults s (form.Bytes l)) none in (
+      bytes_line s.spaces (record { space = number l.space; offset = l.offset; bytes = l.bytes }),
+      same_form s (form.Bytes l) _ refl none (bytes_kept s l g o none) (bytes_again s l (not-false _ p.1.1.1.1.1.0) h),
+    )
+said_again s (form.At l) g o h none = (
+  at_line (record { address = l.address; length = l.length; ops = [] }),
+  same_form s (form.At l) _ refl none (at_kept s l o none) (at_again s l h.0 h.1),
+)
 said_again s (form.Op l) g o h none = op_said s l o h none
 said_again s form.End g o h none = (codes "end", same_form s form.End _ refl none (end_kept s o none) (end_again s))
 
@@ -208,7 +216,7 @@ line_reread s t line h formed g = record {
   ordered = g.kept.ordered;
   clean =
       subst (AllByRecursion IsLine) (sym g.kept.lines)
-        (all_append IsLine (said_lines s) (line ∷ []) h.clean (g.clean, tt));
+      (all_append IsLine (said_lines s) (line ∷ []) h.clean (g.clean, tt));
   number = h.number + 1;
   read =
       ap (advanced step (Going 1 start)) g.kept.lines
@@ -228,7 +236,7 @@ step_reread s t line h = by_skip (is_skipped line)
     by_fault None is e =
         let again = said_again s f h.formed h.ordered (told s line) is in
         subst IsReread (goes_same _ _ e)
-          (line_reread s (after s f) again.0 h (kept s f h.formed (form_is s line) is) again.1)
+        (line_reread s (after s f) again.0 h (kept s f h.formed (form_is s line) is) again.1)
 
     by_skip : (b : Bool) → (if b then Goes s else step_by s f) ≡ Goes t → IsReread t
     by_skip true e = subst IsReread (goes_same _ _ e) h

@@ -15,7 +15,7 @@ use Rattle.pcode_model.specs.declared.listing.Storage.{Storage}
 use Rattle.pcode_model.specs.declared.listing.Storage.TheVariants as storage
 use Rattle.pcode_model.specs.declared.listing.Varnode.{Varnode}
 use Rattle.pcode_model.specs.Spaces.{number_of}
-use Rattle.listing_print.specs.Words.{word_of}
+use Rattle.operations.specs.Words.{word_of}
 
 -- ---- parts
 

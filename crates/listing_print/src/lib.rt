@@ -4,6 +4,5 @@
 mod lines;
 mod parts;
 mod print;
-mod words;
 
 pub use print::print_listing;

@@ -3,11 +3,9 @@
 ghost use Rattle.std.specs.Prelude.{◌≡◌, ◌<◌, ◌∷◌, ◌++◌, [], OnOk, decimal, false, map, slice_get};
 ghost use Rattle.std.specs.Fmt.{digit_glyph};
 ghost use Rattle.listing_print.specs.Printed.{hexadecimal, name_of, pairs, place_part, proto_name, range_part, sized_part, spaced, storage_part};
-ghost use Rattle.listing_print.specs.Words.{word_of};
+ghost use Rattle.operations.specs.Words.{word_of};
 
-use crate::words::{
-    analysis_word, binary_word, conversion_word, divide_word, left_out_word, unary_word,
-};
+use operations::Operation;
 use pcode_model::{Opcode, Proto, Space, Storage, Varnode};
 use std::alloc::{AllocError, Global};
 
@@ -165,24 +163,24 @@ pub fn word(out: &mut Vec<u8>, code: &Opcode) -> Result<(), AllocError>
     ensures { OnOk result (out.new.items ≡ out.old.items ++ spaced (word_of code.now ∷ [])) }
 {
     match code {
-        Opcode::Unary(op) => part(out, unary_word(*op)),
-        Opcode::Binary(op) => part(out, binary_word(*op)),
-        Opcode::Divide(op) => part(out, divide_word(*op)),
-        Opcode::Load => part(out, b"LOAD"),
-        Opcode::Store => part(out, b"STORE"),
-        Opcode::Branch => part(out, b"BRANCH"),
-        Opcode::CBranch => part(out, b"CBRANCH"),
-        Opcode::BranchInd => part(out, b"BRANCHIND"),
-        Opcode::Call => part(out, b"CALL"),
-        Opcode::CallInd => part(out, b"CALLIND"),
-        Opcode::CallOther => part(out, b"CALLOTHER"),
-        Opcode::Return => part(out, b"RETURN"),
+        Opcode::Unary(op) => part(out, Operation::Unary(*op).word()),
+        Opcode::Binary(op) => part(out, Operation::Binary(*op).word()),
+        Opcode::Divide(op) => part(out, Operation::Divide(*op).word()),
+        Opcode::Load => part(out, Operation::Load.word()),
+        Opcode::Store => part(out, Operation::Store.word()),
+        Opcode::Branch => part(out, Operation::Branch.word()),
+        Opcode::CBranch => part(out, Operation::CBranch.word()),
+        Opcode::BranchInd => part(out, Operation::BranchInd.word()),
+        Opcode::Call => part(out, Operation::Call.word()),
+        Opcode::CallInd => part(out, Operation::CallInd.word()),
+        Opcode::CallOther => part(out, Operation::CallOther.word()),
+        Opcode::Return => part(out, Operation::Return.word()),
         Opcode::Float(more) => {
             part(out, b"FLOAT_")?;
             put(out, more.as_slice())
         }
-        Opcode::FloatConversion(op) => part(out, conversion_word(*op)),
-        Opcode::Analysis(op) => part(out, analysis_word(*op)),
-        Opcode::LeftOut(op) => part(out, left_out_word(*op)),
+        Opcode::FloatConversion(op) => part(out, Operation::FloatConversion(*op).word()),
+        Opcode::Analysis(op) => part(out, Operation::Analysis(*op).word()),
+        Opcode::LeftOut(op) => part(out, Operation::LeftOut(*op).word()),
     }
 }

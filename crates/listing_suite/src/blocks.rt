@@ -5,7 +5,7 @@ use crate::texts::{file, show_refusal};
 use flow::follow;
 use pcode_model::{Block, Exit, Flow, Tables};
 use pcodetext::read_listing;
-use pipeline::Refusal;
+use refusals::Refusal;
 use std::alloc::{AllocError, Global};
 use std::io;
 

@@ -4,7 +4,8 @@ ghost use Rattle.std.specs.Prelude.{◌≤◌, ◌^◌, length, IfOk};
 use listing_again::canonical_text;
 use outside::{Bytes, FileShelf, Shelf, StdSink, Words, read_all, write_all};
 use pcodetext::read_listing;
-use pipeline::{Refusal, decompile_words, put_words};
+use pipeline::decompile_words;
+use refusals::{Refusal, put_words};
 use std::io::{self, ErrorKind};
 
 /// The greatest number of bytes of a file.

@@ -3,6 +3,7 @@
 #![tactic(auto)]
 
 mod calls;
+mod command_line;
 mod file_shelf;
 mod files;
 mod mem_shelf;
@@ -14,6 +15,7 @@ mod std_streams;
 mod traits;
 mod writing;
 
+pub use command_line::words_of;
 pub use file_shelf::FileShelf;
 pub use files::{File, Files};
 pub use mem_shelf::MemShelf;

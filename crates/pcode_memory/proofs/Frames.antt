@@ -293,10 +293,13 @@ module _ (size c : ℕ) (some : 0 < size) where
   byte_above n k low high = ⊎_elim before from (cases_lt (c % size) n) where
     below_zero : (int_le (pos n) y && int_lt y (pos (n + k))) ≡ false
     below_zero = under (pos n) (pos (n + k)) y (omega (arith, ints, m_low))
+
     at : (v : ℕ) → (c + (size - n)) % size ≡ v → (c + size - n % size) % size ≡ v
     at v e = ap (λ (z : ℕ). z % size) (above n low) ∙ e
+
     value : (v : ℕ) (b : Bool) → (c + size - n % size) % size ≡ v → nat_lt v k ≡ b → nat_lt ((c + size - n % size) % size) k ≡ b
     value v b e f = ap (λ (z : ℕ). nat_lt z k) e ∙ f
+
     before : c % size < n → nat_lt ((c + size - n % size) % size) k ≡ or (int_le (pos n) x && int_lt x (pos (n + k))) (int_le (pos n) y && int_lt y (pos (n + k)))
     before lt =
         let v : ℕ = c % size + (size - n) in
@@ -304,6 +307,7 @@ module _ (size c : ℕ) (some : 0 < size) where
         (value v false (at v (wrap_low (size - n) (omega (arith, lt, low)))) (le-ltb v k (omega (arith, lt, low, high))))
         (under (pos n) (pos (n + k)) x (omega (arith, ints, lt)))
         below_zero
+
     from : n ≤ c % size → nat_lt ((c + size - n % size) % size) k ≡ or (int_le (pos n) x && int_lt x (pos (n + k))) (int_le (pos n) y && int_lt y (pos (n + k)))
     from ge =
         let v : ℕ = c % size + (size - n) - size in
@@ -320,8 +324,10 @@ module _ (size c : ℕ) (some : 0 < size) where
   byte_beneath n k low = ⊎_elim before from (cases_lt (c % size + suc n) size) where
     at : (v : ℕ) → (c + suc n) % size ≡ v → (c + size - (size - suc (n % size))) % size ≡ v
     at v is = ap (λ (z : ℕ). z % size) (beneath n low) ∙ is
+
     value : (v : ℕ) (b : Bool) → (c + size - (size - suc (n % size))) % size ≡ v → nat_lt v k ≡ b → nat_lt ((c + size - (size - suc (n % size))) % size) k ≡ b
     value v b is f = ap (λ (z : ℕ). nat_lt z k) is ∙ f
+
     before : c % size + suc n < size → nat_lt ((c + size - (size - suc (n % size))) % size) k ≡ or (int_le (negsuc n) x && int_lt x (negsuc n +ℤ pos k)) (int_le (negsuc n) y && int_lt y (negsuc n +ℤ pos k))
     before lt =
         let v : ℕ = c % size + suc n in
@@ -330,6 +336,7 @@ module _ (size c : ℕ) (some : 0 < size) where
         (λ less. one_true _ _ _ (value v true is (lt-ltb v k less)) (inl (inside (negsuc n) (negsuc n +ℤ pos k) x (omega (arith, ints)) (omega (arith, ints, less)))))
         (λ past. none_true _ _ _ (value v false is (le-ltb v k past)) (over (negsuc n) (negsuc n +ℤ pos k) x (omega (arith, ints, past))) (under (negsuc n) (negsuc n +ℤ pos k) y (omega (arith, ints, lt))))
         (cases_lt (c % size + suc n) k)
+
     from : size ≤ c % size + suc n → nat_lt ((c + size - (size - suc (n % size))) % size) k ≡ or (int_le (negsuc n) x && int_lt x (negsuc n +ℤ pos k)) (int_le (negsuc n) y && int_lt y (negsuc n +ℤ pos k))
     from ge =
         let v : ℕ = c % size + suc n - size in

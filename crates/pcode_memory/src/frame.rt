@@ -38,12 +38,7 @@ fn is_at(access: &FrameAccess, address: u128, index: u32, argument: u32) -> bool
 }
 
 // How many accesses come before the one at a place with a number.
-fn accesses_before(
-    accesses: &[FrameAccess],
-    address: u128,
-    index: u32,
-    argument: u32,
-) -> usize
+fn accesses_before(accesses: &[FrameAccess], address: u128, index: u32, argument: u32) -> usize
     requires { Rise ComesBefore accesses.now }
     ensures { slice_get accesses.now result ≡ first_past (λ a. comes_before a (place address index) argument) accesses.now }
 {

@@ -1,9 +1,8 @@
 -- The functions of the lines so far: that of the listing, and its callees.
-use Rattle.std.proofs.Common.{◌≡◌, ◌<◌, ◌≤◌, ◌+◌, ℕ, Bool, true, false, List, [], ◌∷◌, ◌++◌, length, ap, sym, refl, arith, subst}
+use Rattle.std.proofs.Common.{◌≡◌, ◌<◌, ◌≤◌, ℕ, Bool, true, false, List, [], ◌∷◌, ◌++◌, length, ap, sym, arith, subst}
 use Rattle.std.specs.Prelude.{◌==◌, ◌&&◌, ◌||◌, not, Option, Some, None, IfSome}
 use Rattle.std.specs.List.{AllByRecursion, list_any}
 use Rattle.std.specs.Option.{is_none, is_some, option_to_list}
-use Rattle.std.specs.Str.{bytes_eq}
 use Rattle.std.proofs.lemmas.Bool.{not-false, eqb-true}
 use Rattle.pcode_model.specs.declared.listing.Function.{Function}
 use Rattle.pcode_model.specs.declared.listing.Space.{Space}
@@ -20,7 +19,7 @@ use Rattle.pcodetext.specs.Meaning.{function_of, proto_number}
 use Rattle.pcodetext.specs.Tables.{function_address, function_name}
 use Rattle.pcodetext.proofs.Distinct.{distinct_after, other_number, other_text}
 use Rattle.pcodetext.proofs.FormIs.{IsFunctionLine, NamesProto}
-use Rattle.pcodetext.proofs.Passing.{all_map, all_snoc, if_none, left_false, length_snoc, never, right_false, some_map}
+use Rattle.pcodetext.proofs.Passing.{all_map, all_snoc, left_false, length_snoc, never, right_false, some_map}
 
 -- the rules that functions keep to, where there are so many prototypes
 pub record KeepFunctions (two : Bool) (spaces : List Space) (protos : ℕ) (main : Option Function) (others : List Function) : Type 0 where

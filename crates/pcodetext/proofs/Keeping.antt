@@ -50,6 +50,9 @@ not_both (Some x) e g = never g
 pub has_protos : (s : PartialListing) → IsFormed s → is_none s.func ≡ false → length s.protos ≡ 0 → ⊥
 has_protos s f some z = not_both s.func some (f.no_func z)
 
+le_snoc : {A : Type 0} (xs : List A) (y : A) → length xs ≤ length (xs ++ y ∷ [])
+le_snoc xs y = let one = length_snoc xs y in omega (arith, one)
+
 -- ---- the version
 
 is_one : (n : ℕ) (a b : Bool) → (n == 1) ≡ a → (n == 2) ≡ b → not (a || b) ≡ false → (n ≡ 1) ⊎ (n ≡ 2)
@@ -135,14 +138,12 @@ proto_kept s l f named h =
     let p : AllFalse (faults s (form.Proto l)) = all_false (faults s (form.Proto l)) h in
     let no_func : is_some s.func ≡ false = right_false _ _ p.1.0 in
     let e = f.early no_func in
-    let one = length_snoc s.protos (proto_of l) in
-    let more : length s.protos ≤ length (s.protos ++ proto_of l ∷ []) = omega (arith, one) in
     record {
       version = f.version;
       spaces = f.spaces;
       stack = f.stack;
       protos = keep_proto s l f.spaces.formed f.protos named p.0 (not-false _ (left_false _ _ p.1.0)) p.1.1.0 (others proto_name l.name s.protos p.1.1.1.0) (le_false _ _ p.1.1.1.1.0) p.1.1.1.1.1.0 p.1.1.1.1.1.1.0 p.1.1.1.1.1.1.1.0;
-      functions = functions_more (is_two s.version) s.spaces (length s.protos) _ s.func s.callees more f.functions;
+      functions = functions_more (is_two s.version) s.spaces (length s.protos) _ s.func s.callees (le_snoc s.protos (proto_of l)) f.functions;
       fixed = f.fixed;
       code = f.code;
       no_func = λ z. absurd (some_length s.protos _ z);

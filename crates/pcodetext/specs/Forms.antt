@@ -13,7 +13,7 @@ use Rattle.pcodetext.specs.declared.form.Form.TheVariants as form
 use Rattle.pcodetext.specs.declared.form.FunctionLine.{FunctionLine}
 use Rattle.pcodetext.specs.declared.form.Named.{Named}
 use Rattle.pcodetext.specs.declared.form.Written.{Written}
-use Rattle.pcodetext.specs.Opcodes.{opcode_of}
+use Rattle.operations.specs.Operations.{opcode_of}
 use Rattle.pcodetext.specs.Tables.{place_in, proto_name}
 use Rattle.pcodetext.specs.Written.{place_of, range_of, range_or_none, ranges_of, ranges_until}
 

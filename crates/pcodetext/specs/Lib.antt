@@ -1,5 +1,4 @@
 pub mod Tables
-pub mod Opcodes
 pub mod Written
 pub mod Forms
 pub mod Faults

@@ -6,11 +6,11 @@ ghost use Rattle.pcodetext.specs.Forms.{at_form, bytes_form, callee_form, end_fo
 ghost use Rattle.pcodetext.specs.Written.{place_of, ranges_of, ranges_until};
 
 use crate::form::{AtLine, BytesLine, Form, FunctionLine, OpLine, ProtoLine, SpaceLine, Written};
-use crate::opcodes::opcode;
 use crate::partial_listing::PartialListing;
 use crate::tables::{ProtoTable, SpaceTable};
 use crate::written::{place, range, range_or_none, ranges, ranges_until};
 use listing_lines::{decimal, first_part, hexadecimal, is_name, next_part, pairs};
+use operations::opcode;
 use pcode_model::SpaceKind;
 use sqlite_items::Items;
 use std::alloc::{AllocError, Global};
@@ -41,7 +41,12 @@ pub fn form(alloc: Global, said: &PartialListing, line: &[u8]) -> Result<Form, A
     head_form(alloc, said, word, rest)
 }
 
-fn head_form(alloc: Global, said: &PartialListing, word: &[u8], rest: &[u8]) -> Result<Form, AllocError>
+fn head_form(
+    alloc: Global,
+    said: &PartialListing,
+    word: &[u8],
+    rest: &[u8],
+) -> Result<Form, AllocError>
     ensures { IfOk result (λ form. form ≡ head_form said.now word.now (left 32 rest.now)) }
 {
     if word == b"pcode".as_slice() {

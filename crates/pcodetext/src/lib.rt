@@ -1,4 +1,16 @@
-//! The text of a listing: read, with the first fault of its least faulty line, and printed.
+//! The text of a listing: read, with the first fault of its least faulty line.
+//!
+//! The reader is a fold over lines. What the lines so far have said is one value, `PartialListing`; a line is first put
+//! into its form, which takes the words apart and looks names up, and only then tested for faults, in one order that is
+//! the same in code and definition, so that the first test that holds is the fault that counts. Where no test holds, the
+//! line says its part, and the value grows by it.
+//!
+//! That what is read is well formed is an invariant of this fold: each line without a fault keeps the rules of what it
+//! declares, and the tests are exactly what that needs. A few rules hold since a line stands in its place: nothing is
+//! declared before the prototypes but spaces and the stack pointer, so a new space changes no range that was tested.
+//!
+//! Names and addresses are looked up in tables by their text and number, and read-only bytes by two tables that hold
+//! where each space's bytes end, so that reading is linear in the text.
 #![tactic(auto)]
 
 pub mod callees;
@@ -8,9 +20,8 @@ pub mod fault;
 pub mod fixed;
 pub mod form;
 pub mod forms;
-pub mod opcodes;
-pub mod reader;
 pub mod partial_listing;
+pub mod reader;
 pub mod steps;
 pub mod tables;
 pub mod written;
@@ -19,6 +30,5 @@ pub use fault::{LineFault, TextFault, Why};
 pub use form::{
     AtLine, BytesLine, Form, FunctionLine, Named, OpLine, ProtoLine, SpaceLine, Written,
 };
-pub use listing_print::print_listing;
-pub use reader::read_listing;
 pub use partial_listing::PartialListing;
+pub use reader::read_listing;

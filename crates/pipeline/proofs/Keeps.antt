@@ -25,7 +25,11 @@ use Rattle.plaincode.proofs.Keeps as lowering
 
 -- ---- how the run of the listing may end
 
-ends_unless : {A : Type 0} (Q : End → Type 0) (b : Bool) (d : End) (r : Result A End) (e : End) → Q d → ((e : End) → r ≡ Err e → Q e) → unless b d r ≡ Err e → Q e
+ends_unless : {A : Type 0} (Q : End → Type 0) (b : Bool) (d : End) (r : Result A End) (e : End)
+    → Q d
+    → ((e : End) → r ≡ Err e → Q e)
+    → unless b d r ≡ Err e
+    → Q e
 ends_unless Q true d r e q h f = let s : d ≡ e = cc in subst Q s q
 ends_unless Q false d r e q h f = h e f
 
@@ -60,11 +64,14 @@ never_undefined l f e n over =
     ends_within (whole (layout_of l f e)) l f Q h (start l e (first_whole e)) refl n Undefined over refl
 
 -- It returns a word only where the prototype has a result
-pub never_word : (l : Listing) (f : Frame) (e : Entry) (w : ℕ) → (proto_of l None).gives ≡ None → NeverEnds (Returned (Some w)) (seen_p l f e)
+pub never_word : (l : Listing) (f : Frame) (e : Entry) (w : ℕ)
+    → (proto_of l None).gives ≡ None
+    → NeverEnds (Returned (Some w)) (seen_p l f e)
 never_word l f e w none n over =
     let Q : End → Type 0 = λ d. d ≢ Returned (Some w) in
     let returned : (b : Bytes) → Q (Returned (result_of l b (proto_of l None).gives)) =
-        λ b d. let g : Returned (result_of l b (proto_of l None).gives) ≡ Returned None = ap (λ o. Returned (result_of l b o)) none in absurd (cc) in
+        λ b d. let g : Returned (result_of l b (proto_of l None).gives) ≡ Returned None =
+            ap (λ o. Returned (result_of l b o)) none in absurd (cc) in
     let h = allows (layout_of l f e) l Q (λ d. absurd (cc)) (λ d. absurd (cc)) (λ d a b. b (Some w)) returned in
     ends_within (whole (layout_of l f e)) l f Q h (start l e (first_whole e)) refl n (Returned (Some w)) over refl
 
@@ -77,9 +84,13 @@ wordless_end (Some (Returned (Some w))) h = absurd (h w refl)
 wordless_end (Some e) h = refl
 
 wordless : (r : ℕ → Trace) → ((w : ℕ) → NeverEnds (Returned (Some w)) r) → (n : ℕ) → bare (r n) ≡ r n
-wordless r h n = ap (λ o. let t : Trace = record { events = (r n).events; over = o } in t) (wordless_end (r n).over (λ w e. h w n e))
+wordless r h n = ap (λ o. let t : Trace = record { events = (r n).events; over = o } in t)
+    (wordless_end (r n).over (λ w e. h w n e))
 
-drops : (gives : Option Varnode) (l : Listing) (s : ℕ → Trace) → ((w : ℕ) → gives ≡ None → NeverEnds (Returned (Some w)) s) → (n : ℕ) → seen_as (is_some (width_of_result gives)) (s n) ≡ s n
+drops : (gives : Option Varnode) (l : Listing) (s : ℕ → Trace)
+    → ((w : ℕ) → gives ≡ None → NeverEnds (Returned (Some w)) s)
+    → (n : ℕ)
+    → seen_as (is_some (width_of_result gives)) (s n) ≡ s n
 drops None l s h n = wordless s (λ w. h w refl) n
 drops (Some v) l s h n = refl
 

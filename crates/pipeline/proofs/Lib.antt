@@ -1,9 +1,7 @@
-pub mod Rows
-pub mod Exact
+pub mod Keeps
 pub mod Forms
-pub mod Names
 pub mod Spaces
 pub mod Formed
 pub mod Ordered
 pub mod Verdicts
-pub mod Keeps
+pub mod Outcomes

@@ -46,24 +46,37 @@ differ j k h e = let P : SpaceKind → Type 0 = λ x. same_kind j x ≡ false in
 
 -- ---- constants
 
-none_constant : (declared : List Space) → AllByRecursion IsDeclared declared → (n : ℕ) → n < length declared → kind_at declared n ≡ Constant → ⊥
+none_constant : (declared : List Space)
+    → AllByRecursion IsDeclared declared
+    → (n : ℕ)
+    → n < length declared
+    → kind_at declared n ≡ Constant
+    → ⊥
 none_constant [] h n small e = absurd (omega arith)
 none_constant (s ∷ declared) h zero small e = differ Constant s.kind h.0.kind e
 none_constant (s ∷ declared) h (suc n) small e = none_constant declared h.1 n (omega arith) e
 
 -- only space 0 is a constant space
-pub constant_is : (spaces : List Space) → AreSpaces spaces → (n : ℕ) → n < length spaces → kind_at spaces n ≡ Constant → n ≡ 0
+pub constant_is : (spaces : List Space)
+    → AreSpaces spaces
+    → (n : ℕ)
+    → n < length spaces
+    → kind_at spaces n ≡ Constant
+    → n ≡ 0
 constant_is [] h n small e = absurd h
 constant_is (s ∷ declared) h zero small e = refl
 constant_is (s ∷ declared) h (suc n) small e = absurd (none_constant declared h.1 n (omega arith) e)
 
 pub first_constant : (spaces : List Space) → AreSpaces spaces → kind_at spaces 0 ≡ Constant
 first_constant [] h = absurd h
-first_constant (s ∷ declared) h = h.0
+first_constant (s ∷ declared) h = ap (λ x. x.kind) h.0
 
 -- ---- sizes
 
-declared_low : (declared : List Space) → AllByRecursion IsDeclared declared → (n : ℕ) → size_in (slice_get declared n) ≤ 2 ^ 64
+declared_low : (declared : List Space)
+    → AllByRecursion IsDeclared declared
+    → (n : ℕ)
+    → size_in (slice_get declared n) ≤ 2 ^ 64
 declared_low [] h n = omega arith
 declared_low (s ∷ declared) h zero =
     let power : 256 ^ s.size ≤ 256 ^ 8 = pow-le-pow_right (lit< tt) h.0.few in
@@ -71,38 +84,65 @@ declared_low (s ∷ declared) h zero =
 declared_low (s ∷ declared) h (suc n) = declared_low declared h.1 n
 
 -- a space that isn't the constant space has at most 2^64 bytes
-pub low : (spaces : List Space) → AreSpaces spaces → (n : ℕ) → (kind_at spaces n ≡ Constant → ⊥) → size_in (slice_get spaces n) ≤ 2 ^ 64
+pub low : (spaces : List Space)
+    → AreSpaces spaces
+    → (n : ℕ)
+    → (kind_at spaces n ≡ Constant → ⊥)
+    → size_in (slice_get spaces n) ≤ 2 ^ 64
 low [] h n not = absurd h
-low (s ∷ declared) h zero not = absurd (not h.0)
+low (s ∷ declared) h zero not = absurd (not (ap (λ x. x.kind) h.0))
 low (s ∷ declared) h (suc n) not = declared_low declared h.1 n
 
 -- ---- the first space of a kind
 
-pub kind_of_first : (k : SpaceKind) (spaces : List Space) → 1 ≤ how_many k spaces → kind_at spaces (number_of k spaces) ≡ k
+pub kind_of_first : (k : SpaceKind) (spaces : List Space)
+    → 1 ≤ how_many k spaces
+    → kind_at spaces (number_of k spaces) ≡ k
 kind_of_first k [] h = absurd (omega arith)
 kind_of_first k (s ∷ rest) h = by_kind (same_kind k s.kind) refl (kind_of_first k rest) h
   where
-    by_kind : (t : Bool) → same_kind k s.kind ≡ t → (1 ≤ how_many k rest → kind_at rest (number_of k rest) ≡ k) → 1 ≤ (if t then suc (how_many k rest) else how_many k rest)
+    by_kind : (t : Bool)
+        → same_kind k s.kind ≡ t
+        → (1 ≤ how_many k rest → kind_at rest (number_of k rest) ≡ k)
+        → 1 ≤ (if t then suc (how_many k rest) else how_many k rest)
         → kind_at (s ∷ rest) (if t then 0 else suc (number_of k rest)) ≡ k
     by_kind true e more h = sym (same_is k s.kind e)
     by_kind false e more h = more h
 
-none_there : (k : SpaceKind) → (k ≡ Constant → ⊥) → (spaces : List Space) → how_many k spaces ≡ 0 → (n : ℕ) → kind_at spaces n ≡ k → ⊥
+none_there : (k : SpaceKind)
+    → (k ≡ Constant → ⊥)
+    → (spaces : List Space)
+    → how_many k spaces ≡ 0
+    → (n : ℕ)
+    → kind_at spaces n ≡ k
+    → ⊥
 none_there k other [] h n e = other (sym e)
 none_there k other (s ∷ rest) h n e = by_kind (same_kind k s.kind) refl (none_there k other rest) h n e
   where
-    by_kind : (t : Bool) → same_kind k s.kind ≡ t → (how_many k rest ≡ 0 → (n : ℕ) → kind_at rest n ≡ k → ⊥) → (if t then suc (how_many k rest) else how_many k rest) ≡ 0
+    by_kind : (t : Bool)
+        → same_kind k s.kind ≡ t
+        → (how_many k rest ≡ 0 → (n : ℕ) → kind_at rest n ≡ k → ⊥)
+        → (if t then suc (how_many k rest) else how_many k rest) ≡ 0
         → (n : ℕ) → kind_at (s ∷ rest) n ≡ k → ⊥
     by_kind true f more h n e = absurd (omega arith)
     by_kind false f more h zero e = differ k s.kind f e
     by_kind false f more h (suc n) e = more h n e
 
 -- where there is one space of a kind, it is the first one
-pub only : (k : SpaceKind) → (k ≡ Constant → ⊥) → (spaces : List Space) → how_many k spaces ≡ 1 → (n : ℕ) → kind_at spaces n ≡ k → n ≡ number_of k spaces
+pub only : (k : SpaceKind)
+    → (k ≡ Constant → ⊥)
+    → (spaces : List Space)
+    → how_many k spaces ≡ 1
+    → (n : ℕ)
+    → kind_at spaces n ≡ k
+    → n ≡ number_of k spaces
 only k other [] h n e = absurd (omega arith)
 only k other (s ∷ rest) h n e = by_kind (same_kind k s.kind) refl (only k other rest) h n e
   where
-    by_kind : (t : Bool) → same_kind k s.kind ≡ t → (how_many k rest ≡ 1 → (n : ℕ) → kind_at rest n ≡ k → n ≡ number_of k rest) → (if t then suc (how_many k rest) else how_many k rest) ≡ 1
+    by_kind : (t : Bool)
+        → same_kind k s.kind ≡ t
+        → (how_many k rest ≡ 1 → (n : ℕ) → kind_at rest n ≡ k → n ≡ number_of k rest)
+        → (if t then suc (how_many k rest) else how_many k rest) ≡ 1
         → (n : ℕ) → kind_at (s ∷ rest) n ≡ k → n ≡ (if t then 0 else suc (number_of k rest))
     by_kind true f more h zero e = refl
     by_kind true f more h (suc n) e = absurd (none_there k other rest (omega arith) n e)

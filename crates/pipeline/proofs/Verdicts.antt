@@ -13,32 +13,41 @@ use Rattle.pcode_model.specs.Flow.{AreStarts, IsIn}
 use Rattle.pcode_model.specs.Rules.{first_bad}
 use Rattle.pcodetext.specs.declared.fault.TextFault.{TextFault}
 use Rattle.pcodetext.specs.Meaning.{Good, Bad}
-use Rattle.pcodetext.proofs.Whole.{is_read, good_same}
+use Rattle.pcodetext.proofs.Whole.{is_well_formed, good_same}
 use Rattle.flow.specs.declared.answer.FlowFault.TheVariants as F
 use Rattle.stackvars.specs.Accessed as listed
 use Rattle.stackvars.specs.Accessed.{AccessesSoMany, ListsAccessed}
 use Rattle.stackvars.specs.declared.accessed.AtomFault.TheVariants as A
 use Rattle.plain_form.proofs.Form.{spaces_differ}
 use Rattle.plain_form.proofs.Formed.{IsFormed}
-use Rattle.pipeline.specs.Verdict.{Accepts, Bytes, IsAccepted, IsRefused, RefusedBy}
-use Rattle.pipeline.specs.declared.refusal.Refusal.{Refusal}
-use Rattle.pipeline.specs.declared.refusal.Refusal.TheVariants as R
+use Rattle.refusals.specs.Good.{Bytes, RefusedBy}
+use Rattle.refusals.specs.declared.refusal.Refusal.{Refusal}
+use Rattle.refusals.specs.declared.refusal.Refusal.TheVariants as R
+use Rattle.pipeline.specs.Verdict.{Accepts, IsAccepted, IsRefused}
 use Rattle.pipeline.proofs.Formed.{formed_is}
 use Rattle.pipeline.proofs.Ordered.{same_atoms, same_places}
 
 -- ---- as many blocks, and as many atoms
 
 starts_same : (l : Listing) (ps qs : List Place) → AreStarts l [] ps → AreStarts l [] qs → ps ≡ qs
-starts_same l ps qs a b = same_places ps qs a.rising b.rising (λ p is. (b.each p).1 ((a.each p).0 is)) (λ p is. (a.each p).1 ((b.each p).0 is))
+starts_same l ps qs a b = same_places ps qs a.rising b.rising (λ p is. (b.each p).1 ((a.each p).0 is))
+    (λ p is. (a.each p).1 ((b.each p).0 is))
 
 -- one range at two storages is one storage
-storage_same : (l : Listing) → IsFormed l → (s t : ParamStorage) (j k : ℕ) (v : Varnode) → listed.range_at l s j ≡ Some v → listed.range_at l t k ≡ Some v → (s ≡ t) × (j ≡ k)
+storage_same : (l : Listing)
+    → IsFormed l
+    → (s t : ParamStorage) (j k : ℕ) (v : Varnode)
+    → listed.range_at l s j ≡ Some v
+    → listed.range_at l t k ≡ Some v
+    → (s ≡ t) × (j ≡ k)
 storage_same l formed (P.Register o) (P.Register p) j k v e f =
     let same = same_Some _ _ (e ∙ sym f) in (ap P.Register (ap (λ x. x.offset) same), ap (λ x. x.size) same)
 storage_same l formed (P.Unique o) (P.Unique p) j k v e f =
     let same = same_Some _ _ (e ∙ sym f) in (ap P.Unique (ap (λ x. x.offset) same), ap (λ x. x.size) same)
-storage_same l formed (P.Register o) (P.Unique p) j k v e f = absurd (spaces_differ l formed (ap (λ x. x.space) (same_Some _ _ (e ∙ sym f))))
-storage_same l formed (P.Unique o) (P.Register p) j k v e f = absurd (spaces_differ l formed (sym (ap (λ x. x.space) (same_Some _ _ (e ∙ sym f)))))
+storage_same l formed (P.Register o) (P.Unique p) j k v e f =
+    absurd (spaces_differ l formed (ap (λ x. x.space) (same_Some _ _ (e ∙ sym f))))
+storage_same l formed (P.Unique o) (P.Register p) j k v e f =
+    absurd (spaces_differ l formed (sym (ap (λ x. x.space) (same_Some _ _ (e ∙ sym f)))))
 storage_same l formed (P.Stack o) t j k v e f = absurd (none-some v e)
 storage_same l formed (P.Register o) (P.Stack p) j k v e f = absurd (none-some v f)
 storage_same l formed (P.Unique o) (P.Stack p) j k v e f = absurd (none-some v f)
@@ -49,7 +58,14 @@ atom_same a b e f =
     let right : ℕ → Atom = λ n. record { storage = b.storage; size = n } in
     ap left e ∙ ap right f
 
-also_in : (l : Listing) → IsFormed l → (xs ys : List Atom) → ListsAccessed l xs → ListsAccessed l ys → (a : Atom) → IsIn a xs → IsIn a ys
+also_in : (l : Listing)
+    → IsFormed l
+    → (xs ys : List Atom)
+    → ListsAccessed l xs
+    → ListsAccessed l ys
+    → (a : Atom)
+    → IsIn a xs
+    → IsIn a ys
 also_in l formed xs ys x y a is =
     let from = x.accessed a is in
     let found = y.all from.0 from.1.1 in
@@ -58,7 +74,8 @@ also_in l formed xs ys x y a is =
 
 atoms_same : (l : Listing) → IsFormed l → (m n : ℕ) → AccessesSoMany l m → AccessesSoMany l n → m ≡ n
 atoms_same l formed m n (xs, x) (ys, y) =
-    sym x.1 ∙ ap length (same_atoms xs ys x.0.in_order y.0.in_order (also_in l formed xs ys x.0 y.0) (also_in l formed ys xs y.0 x.0)) ∙ y.1
+    sym x.1 ∙ ap length (same_atoms xs ys x.0.in_order y.0.in_order (also_in l formed xs ys x.0 y.0)
+        (also_in l formed ys xs y.0 x.0)) ∙ y.1
 
 -- ---- verdicts
 
@@ -73,7 +90,7 @@ module _ (bytes : Bytes) (l : Listing) (a : Accepts bytes l) where
   the_listing Q (m, (good, q)) = subst Q (good_same m l (sym good.read ∙ a.good.read)) q
 
   formed : IsFormed l
-  formed = formed_is l (is_read bytes l a.good.read) a.good.ops
+  formed = formed_is l (is_well_formed bytes l a.good.read) a.good.ops
 
   not_refused : (fault : Refusal) → IsRefused bytes fault → ⊥
   not_refused (R.Text fault) h = good_not_bad l fault (sym a.good.read ∙ h)
@@ -92,7 +109,7 @@ module _ (bytes : Bytes) (l : Listing) (a : Accepts bytes l) where
       omega (arith, same, many.1.1.0, many.1.1.1, a.blocks.1.1)
   not_refused (R.Flow F.Memory) h = h
   not_refused (R.Atoms (A.TooManyAtoms n)) h =
-      let many = (the_listing _ h).1.1 in
+      let many = (the_listing _ h).1.1.1 in
       let same = atoms_same l formed a.atoms.0 n a.atoms.1.0 many.0 in
       omega (arith, same, many.1, a.atoms.1.1)
   not_refused (R.Atoms A.Memory) h = h

@@ -1,7 +1,7 @@
 pub mod Request
-pub mod Refused
+pub mod PlainForm
 pub mod Verdict
 pub mod Message
 pub mod Passed
-pub mod Outcome
+pub mod Cause
 pub mod Table

@@ -1,10 +1,8 @@
 // From the bytes of a listing to the text of its C: the passes in their order.
 ghost use Rattle.std.specs.Prelude.{◌-◌, ◌^◌, ◌≤◌, length, IfErr, IfOk, OnOk};
-ghost use Rattle.pipeline.specs.Outcome.{IsCause};
 ghost use Rattle.pipeline.specs.Passed.{HasPassed, Lowers};
-ghost use Rattle.pipeline.specs.Verdict.{IsAccepted, MayPrint};
+ghost use Rattle.pipeline.specs.Verdict.{IsAccepted, IsCause, MayPrint};
 
-use crate::refusal::Refusal;
 use crate::verdict::{Accepted, accept};
 use bits_core::Memory;
 use cmeaning::CFunction;
@@ -12,6 +10,7 @@ use ctext::print_c;
 use layout::laid_out;
 use pcode_model::{Name, Text};
 use plaincode::{plain, result_width};
+use refusals::Refusal;
 use std::alloc::Global;
 
 /// The C of a listing, or why there is none.

@@ -1,5 +1,6 @@
 // What the words of the command line ask for.
 ghost use Rattle.std.specs.Prelude.{◌≡◌};
+ghost use Rattle.std.specs.Option.{option_map};
 ghost use Rattle.pipeline.specs.Request.{asked_by, asked_for};
 
 use outside::Words;
@@ -9,17 +10,15 @@ use outside::Words;
 pub enum Request {
     /// To decompile the input.
     Decompile,
-    /// The words aren't taken.
-    Refused,
 }
 
-/// Reads the words. No word is taken yet.
-pub fn read_words(words: &Words) -> Request
-    ensures asked { asked_for result ≡ asked_by words.now }
+/// Reads the words, where they are taken. No word is taken yet.
+pub fn read_words(words: &Words) -> Option<Request>
+    ensures { option_map asked_for result ≡ asked_by words.now }
 {
     if words.as_slice().is_empty() {
-        Request::Decompile
+        Some(Request::Decompile)
     } else {
-        Request::Refused
+        None
     }
 }

@@ -1,19 +1,18 @@
 // Which inputs are accepted, and why the others are refused.
 ghost use Rattle.std.specs.Prelude.{◌≡◌, ◌-◌, ◌^◌, ◌≤◌, length, IfErr, IfOk, [], None, OnOk};
 ghost use Rattle.pcode_model.specs.Flow.{IsFlow, NoFault};
+ghost use Rattle.pcode_model.specs.Limits.{max_blocks};
 ghost use Rattle.pcode_model.specs.Rules.{first_bad};
 ghost use Rattle.pcode_model.specs.WellFormed.{IsWellFormed};
-ghost use Rattle.pcodetext.specs.Formed.{IsRead};
-ghost use Rattle.pipeline.specs.Outcome.{IsCause};
-ghost use Rattle.pipeline.specs.Verdict.{Accepts, Stops};
+ghost use Rattle.pipeline.specs.Verdict.{Accepts, IsCause, Stops};
 ghost use Rattle.pipeline.specs.Passed.{HasPassed};
 ghost use Rattle.stackvars.specs.Accessed.{AreAccessed};
 ghost use Rattle.supported.specs.Supported.{IsSupported};
 
-use crate::refusal::Refusal;
 use flow::follow;
 use pcode_model::{Atoms, Flow, Listing, Tables, check_ops};
 use pcodetext::read_listing;
+use refusals::Refusal;
 use stackvars::atoms;
 use std::alloc::Global;
 use supported::is_supported;
@@ -53,7 +52,7 @@ fn blocks(alloc: Global, listing: &Listing) -> Result<Flow, Refusal>
     requires formed { IsWellFormed listing.now }
     ensures blocks { IfOk result (λ flow. IsFlow listing.now [] flow) }
     ensures no_fault { OnOk result (NoFault listing.now []) }
-    ensures few { IfOk result (λ flow. length flow ≤ 2048) }
+    ensures few { IfOk result (λ flow. length flow ≤ max_blocks) }
     ensures stops { IfErr result (λ fault. Stops listing.now fault) }
 {
     let tables = Tables::new(alloc);
@@ -64,11 +63,12 @@ fn blocks(alloc: Global, listing: &Listing) -> Result<Flow, Refusal>
 }
 
 fn ranges(alloc: Global, listing: &Listing, flow: &Flow) -> Result<Atoms, Refusal>
-    requires read { IsRead listing.now }
+    requires formed { IsWellFormed listing.now }
     requires ops { first_bad listing.now ≡ None }
     requires supported { IsSupported listing.now }
     requires flow { IsFlow listing.now [] flow.now }
     requires no_fault { NoFault listing.now [] }
+    requires few { length flow.now ≤ max_blocks }
     ensures ok { IfOk result (λ atoms. AreAccessed listing.now atoms) }
     ensures stops { IfErr result (λ fault. Stops listing.now fault) }
 {

@@ -27,9 +27,11 @@ use Rattle.plain_form.proofs.Formed.{IsFormed}
 use Rattle.plain_form.proofs.Accessed.{accessed_apart, accessed_inside}
 use Rattle.plain_form.proofs.Plain.{plain_at}
 
+-- Each range that is accessed has a byte, and none past the greatest offset.
 pub accessed_sized : (l : Listing) → IsSupported l → IsFormed l → AreSized l
 accessed_sized l sup formed v acc = let i = accessed_inside l sup formed v acc in (i.some, i.low)
 
+-- Any two ranges that are accessed are equal or share no byte.
 pub accessed_equal_or_apart : (l : Listing) → IsSupported l → IsFormed l → AreEqualOrApart l
 accessed_equal_or_apart l sup formed v w a b = accessed_apart l sup formed v w a b
 
@@ -134,6 +136,7 @@ order_tail : (a : Atom) (rest : List Atom) → InOrder (a ∷ rest) → InOrder 
 order_tail a [] h = tt
 order_tail a (x ∷ rest) h = h.1
 
+-- The register space is not the unique space.
 pub spaces_differ : (l : Listing) → IsFormed l → register_space l ≡ unique_space l → ⊥
 spaces_differ l formed e =
     let P : ℕ → Type 0 = λ n. kind_of l n ≡ Unique in

@@ -33,7 +33,7 @@ use Rattle.blockcode.proofs.Straight.{run_all}
 use Rattle.plaincode.specs.Lowered.{operand, operand_by, statements_in, result, result_in, exit_by}
 use Rattle.plaincode.specs.Form.{IsNarrow, IsOutputBy, IsResult, IsPlainOp, IsPlain}
 use Rattle.plaincode.proofs.Nodes.{Means}
-use Rattle.plaincode.proofs.Operands.{over, Sees, Setting, reading, variable_means}
+use Rattle.plaincode.proofs.Operands.{Sees, Setting, reading, variable_means}
 use Rattle.plaincode.proofs.Ops.{Meets, op_of, op_meets}
 
 -- Both have left the block: they go together, and the code stands at the beginning of the block that begins at the place.

@@ -22,14 +22,13 @@ use Rattle.pcode_model.specs.Flow.{IsIn, IsFlow, Reached, RunsBlock, AllRun, sta
 use Rattle.pcode_laws.proofs.Grows.{pcode_grows}
 use Rattle.cmeaning.specs.Do.{Local}
 use Rattle.blockcode.specs.declared.code.Block.{Block}
-use Rattle.blockcode.specs.declared.code.Exit.{Exit}
 use Rattle.blockcode.specs.declared.code.Code.{Code}
-use Rattle.blockcode.specs.Run.{CodeState, at, widths, leave, code_step, code_machine}
+use Rattle.blockcode.specs.Run.{CodeState, widths, leave, code_step, code_machine}
 use Rattle.blockcode.proofs.Grows.{code_grows}
 use Rattle.blockcode.proofs.Straight.{step_in, still, Stands, arrives, returns_in}
 use Rattle.plaincode.specs.Lowered.{statements, body_of, exit_by, exit_of, block_of}
 use Rattle.plaincode.specs.Form.{IsPlain}
-use Rattle.plaincode.proofs.Operands.{over, Sees, Setting}
+use Rattle.plaincode.proofs.Operands.{Sees, Setting}
 use Rattle.plaincode.proofs.Members.{in_front, behind}
 use Rattle.plaincode.proofs.Exits.{Left, Leaving, goes_to, leaves}
 

@@ -50,6 +50,7 @@ variable_get : (atoms : List Atom) (n : ℕ) (a : Atom)
     → slice_get (map variable_for atoms) n ≡ Some (variable_for a)
 variable_get atoms n a e = slice_get-map variable_for atoms n ∙ ap (option_map variable_for) e
 
+-- A range has the size of its atom.
 pub range_size : (l : Listing) (s : ParamStorage) (k : ℕ) → (range_at l s k).size ≡ k
 range_size l (P.Register o) k = refl
 range_size l (P.Unique o) k = refl

@@ -180,6 +180,7 @@ as_many l t starts [] all = refl
 as_many l t starts (b ∷ blocks) all = first_length l t starts b.places b.exit (starts_of blocks) all.0
     ∙ ap suc (as_many l t starts blocks all.1)
 
+-- There are as many blocks of code as of the flow.
 pub map_length : (l : Listing) (ranges : List Varnode) (blocks : List flow_block.Block)
     → length (map (block_of l ranges) blocks) ≡ length blocks
 map_length l ranges [] = refl

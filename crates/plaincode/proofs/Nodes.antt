@@ -36,6 +36,7 @@ pub record Means (ws : ℕ → ℕ) (env : ℕ → Option ℕ) (e : Expr) (w n :
   pub width : width_of ws e ≡ w
   pub value : value_of ws env e ≡ Some n
 
+-- A width of 1 to 16 bytes is taken as it is.
 pub nearest_is : (w : ℕ) → 0 < w → w ≤ 16 → nearest w ≡ w
 nearest_is w some small = omega arith
 

@@ -45,6 +45,7 @@ found_at false a v rest is later h = ⊎_elim
     (λ (same : v ≡ a). let s : same_range a v ≡ true = ap (λ x. same_range x v) (sym same) ∙ same_self v in absurd (cc))
     later h
 
+-- The variable of a range stands for that range.
 pub found : (ranges : List Varnode) (v : Varnode) → IsIn v ranges → slice_get ranges (variable_of ranges v) ≡ Some v
 found [] v h = absurd h
 found (a ∷ rest) v h = found_at (same_range a v) a v rest refl (found rest v) h
@@ -162,6 +163,7 @@ module _ {M : Type 0} (m : Acts M) (l : Listing) (ranges : List Varnode) where
       → write_varnode m l (kind_of l z.space) z n s ≡ written l z n s
   writing z n s h = writes_by (kind_of l z.space) z n s h.1
 
+-- An output is one of the ranges that variables stand for.
 pub output_in : (k : SpaceKind) (ranges : List Varnode) (z : Varnode) → IsOutputBy k ranges z → IsIn z ranges
 output_in Constant ranges z h = absurd h
 output_in Ram ranges z h = absurd h

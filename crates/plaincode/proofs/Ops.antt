@@ -32,7 +32,7 @@ use Rattle.plaincode.specs.Nodes.{unary_node, binary_node}
 use Rattle.plaincode.specs.Lowered.{variable_of, operand, assigns, op_statements}
 use Rattle.plaincode.specs.Form.{IsOutput, IsPlainOp}
 use Rattle.plaincode.proofs.Nodes.{Means, unary_means, binary_means}
-use Rattle.plaincode.proofs.Operands.{over, Sees, Setting, reading, written, writing, output_found}
+use Rattle.plaincode.proofs.Operands.{Sees, Setting, reading, written, writing, output_found}
 
 -- The op's state and the code's go together, and the op has gone on to this place.
 pub record Meets {M : Type 0} (l : Listing) (ranges : List Varnode) (look : M → Bytes) (next : Place) (s : State M)

@@ -4,10 +4,10 @@ use Rattle.pcode_model.specs.declared.listing.Listing.{Listing}
 use Rattle.flow.specs.Answer.{IsFlowFault}
 use Rattle.flow.specs.declared.answer.FlowFault.{FlowFault}
 use Rattle.flow.specs.declared.answer.FlowFault.TheVariants as F
-use Rattle.pipeline.specs.Refused.{of_flow}
-use Rattle.pipeline.specs.Verdict.{IsGood}
-use Rattle.pipeline.specs.declared.refusal.Refusal.{Refusal}
-use Rattle.pipeline.specs.declared.refusal.Refusal.TheVariants as R
+use Rattle.refusals.specs.Refused.{of_flow}
+use Rattle.refusals.specs.Good.{IsGood}
+use Rattle.refusals.specs.declared.refusal.Refusal.{Refusal}
+use Rattle.refusals.specs.declared.refusal.Refusal.TheVariants as R
 use Rattle.run_verdict.specs.Runnable.{IsRunnable}
 use Rattle.run_verdict.specs.Runs.{IsCause, StopsFlow}
 
@@ -20,7 +20,12 @@ flow_stops l (F.TableEntered p) h = h
 flow_stops l (F.TooManyBlocks n) h = h
 flow_stops l F.Memory h = tt
 
-pub stops_refused : (bytes : List ℕ) (l : Listing) → IsGood bytes l → IsRunnable l → (fault : Refusal) → StopsFlow l fault → IsCause bytes fault
+pub stops_refused : (bytes : List ℕ) (l : Listing)
+    → IsGood bytes l
+    → IsRunnable l
+    → (fault : Refusal)
+    → StopsFlow l fault
+    → IsCause bytes fault
 stops_refused bytes l good runnable (R.Text fault) h = absurd h
 stops_refused bytes l good runnable (R.Op fault) h = absurd h
 stops_refused bytes l good runnable R.NotBuilt h = absurd h

@@ -19,12 +19,21 @@ no_code c h e = never (let P : Opcode → Type 0 = λ d. is_table_code d ≡ fal
 
 no_op : (ops : List Op) → names_table ops ≡ false → (op : Op) → IsIn op ops → op.code ≡ O.BranchInd → ⊥
 no_op [] h op is e = is
-no_op (x ∷ ops) h op (inl same) e = no_code x.code (neither _ _ h).0 (let P : Op → Type 0 = λ y. y.code ≡ O.BranchInd in subst P same e)
+no_op (x ∷ ops) h op (inl same) e =
+    no_code x.code (neither _ _ h).0 (let P : Op → Type 0 = λ y. y.code ≡ O.BranchInd in subst P same e)
 no_op (x ∷ ops) h op (inr is) e = no_op ops (neither _ _ h).1 op is e
 
-no_table : (code : List Instruction) → any_table code ≡ false → (i : Instruction) → IsIn i code → (op : Op) → IsIn op i.ops → op.code ≡ O.BranchInd → ⊥
+no_table : (code : List Instruction)
+    → any_table code ≡ false
+    → (i : Instruction)
+    → IsIn i code
+    → (op : Op)
+    → IsIn op i.ops
+    → op.code ≡ O.BranchInd
+    → ⊥
 no_table [] h i is op in_ops e = is
-no_table (x ∷ code) h i (inl same) op in_ops e = no_op x.ops (neither _ _ h).0 op (let P : Instruction → Type 0 = λ y. IsIn op y.ops in subst P same in_ops) e
+no_table (x ∷ code) h i (inl same) op in_ops e =
+    no_op x.ops (neither _ _ h).0 op (let P : Instruction → Type 0 = λ y. IsIn op y.ops in subst P same in_ops) e
 no_table (x ∷ code) h i (inr is) op in_ops e = no_table code (neither _ _ h).1 i is op in_ops e
 
 pub runnable : (l : Listing) → FindsNone l → IsRunnable l
@@ -53,11 +62,15 @@ code_none (O.LeftOut op) h = refl
 
 ops_none : (ops : List Op) → ((op : Op) → IsIn op ops → op.code ≡ O.BranchInd → ⊥) → names_table ops ≡ false
 ops_none [] h = refl
-ops_none (op ∷ ops) h = both_false (is_table op) (names_table ops) (code_none op.code (h op (inl refl))) (ops_none ops (λ o is. h o (inr is)))
+ops_none (op ∷ ops) h = both_false (is_table op) (names_table ops) (code_none op.code (h op (inl refl)))
+    (ops_none ops (λ o is. h o (inr is)))
 
-none_found : (code : List Instruction) → ((i : Instruction) → IsIn i code → (op : Op) → IsIn op i.ops → op.code ≡ O.BranchInd → ⊥) → any_table code ≡ false
+none_found : (code : List Instruction)
+    → ((i : Instruction) → IsIn i code → (op : Op) → IsIn op i.ops → op.code ≡ O.BranchInd → ⊥)
+    → any_table code ≡ false
 none_found [] h = refl
-none_found (i ∷ code) h = both_false (names_table i.ops) (any_table code) (ops_none i.ops (h i (inl refl))) (none_found code (λ j is. h j (inr is)))
+none_found (i ∷ code) h = both_false (names_table i.ops) (any_table code) (ops_none i.ops (h i (inl refl)))
+    (none_found code (λ j is. h j (inr is)))
 
 pub found_none : (l : Listing) → IsRunnable l → FindsNone l
 found_none l h = record { stack = h.stack; tables = none_found l.code h.tables }

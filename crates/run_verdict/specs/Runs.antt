@@ -1,23 +1,19 @@
 -- Which inputs are listings that are run, and why the others are refused. This project's own.
 -- The order of refusals: faults of the text, faults of ops, a `stack` line or a BRANCHIND, faults of the flow, too many
 -- blocks. How many ranges a listing accesses isn't asked, as a run keeps bytes.
-use Rattle.std.specs.Prelude.{◌≡◌, ◌≤◌, List, [], length, Some, ⊤}
+use Rattle.std.specs.Prelude.{◌≡◌, [], Some, ⊤}
 use Rattle.pcode_model.specs.declared.listing.Listing.{Listing}
-use Rattle.pcode_model.specs.declared.listing.Place.{Place}
-use Rattle.pcode_model.specs.Flow.{AreStarts, NoFault}
+use Rattle.pcode_model.specs.Flow.{NoFault}
 use Rattle.pcode_model.specs.Rules.{first_bad}
 use Rattle.pcodetext.specs.Meaning.{Good, Bad, reading}
 use Rattle.flow.specs.Answer.{IsFlowFault}
 use Rattle.flow.specs.declared.answer.FlowFault.TheVariants as flow
-use Rattle.pipeline.specs.Verdict.{Bytes, IsGood, RefusedBy}
-use Rattle.pipeline.specs.declared.refusal.Refusal.{Refusal}
-use Rattle.pipeline.specs.declared.refusal.Refusal.TheVariants as refusal
+use Rattle.refusals.specs.Good.{Bytes, HasFewBlocks, IsGood, RefusedBy}
+use Rattle.refusals.specs.declared.refusal.Refusal.{Refusal}
+use Rattle.refusals.specs.declared.refusal.Refusal.TheVariants as refusal
 use Rattle.run_verdict.specs.Runnable.{IsRunnable}
 
-abbrev pub HasFewBlocks : Listing → Type 0
-HasFewBlocks l = (starts : List Place) × (AreStarts l [] starts × (length starts ≤ 2048))
-
--- the input is a listing that is run, no place of its flow has a fault, and there are at most 2,048 blocks
+-- the input is a listing that is run, no place of its flow has a fault, and there are not too many blocks
 pub record Runs (bytes : Bytes) (l : Listing) : Type 0 where
   pub good : IsGood bytes l
   pub runnable : IsRunnable l

@@ -1,10 +1,9 @@
 //! The program: the words of the command line, the file system, the standard streams, and the top call.
 #![tactic(auto)]
 
-use outside::{FileShelf, StdSink, Words};
+use outside::{FileShelf, StdSink, words_of};
 use side_by_side::runboth_words;
-use std::env;
-use std::io::{self, ErrorKind};
+use std::io::ErrorKind;
 use std::process::ExitCode;
 
 const BAD_ARGUMENTS: u8 = 2;
@@ -22,15 +21,4 @@ fn main(rt: HostRuntime) -> ExitCode {
     let mut err = StdSink::new(rt.stderr());
     let status = runboth_words(rt.alloc(), &words, &mut shelf, &mut out, &mut err);
     ExitCode::from(status)
-}
-
-/// The words after the program's name.
-fn words_of(rt: &HostRuntime) -> io::Result<Words> {
-    let mut words = Words::new(rt.alloc());
-    for word in env::args(rt)?.skip(1) {
-        if words.push(word).is_err() {
-            return Err(io::Error::from(ErrorKind::OutOfMemory));
-        }
-    }
-    Ok(words)
 }

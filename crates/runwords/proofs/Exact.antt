@@ -26,20 +26,32 @@ long_not : ◌≡◌ {A = Result (List ℕ) ReadEnd} (Err TooLong) (Err Fault) �
 long_not h = cc
 
 module _ (files : Folder) where
-  named : (name : (List ℕ)) (told : Option Folder) (left : Option (List ℕ)) → told ≡ Some files → IsFile name told left → IsFile name (Some files) left
+  named : (name : (List ℕ)) (told : Option Folder) (left : Option (List ℕ))
+      → told ≡ Some files
+      → IsFile name told left
+      → IsFile name (Some files) left
   named name told left is file = subst (λ (f : Option Folder). IsFile name f left) is file
 
-  ok_is : (name : (List ℕ)) (old new : Told) (bytes : (List ℕ)) → old.files ≡ Some files → Fetched name old new (Ok bytes) → (in_folder files name ≡ Ok bytes) × (new.faults ≡ old.faults)
+  ok_is : (name : (List ℕ)) (old new : Told) (bytes : (List ℕ))
+      → old.files ≡ Some files
+      → Fetched name old new (Ok bytes)
+      → (in_folder files name ≡ Ok bytes) × (new.faults ≡ old.faults)
   ok_is name old new bytes is (inl (mid, (selected, gave))) =
       let file = named name old.files mid.left is selected.chosen in
       (ap file_whole file.1 ∙ sym (all_whole max_input mid new file.0 file.2 bytes gave), gave.3 ∙ selected.kept)
   ok_is name old new bytes is (inr (e, why)) = absurd (ok_not bytes Fault e)
 
-  err_is : (name : (List ℕ)) (old new : Told) (end : ReadEnd) → old.files ≡ Some files → Quiet old.faults new.faults → Fetched name old new (Err end) → (end ≡ Memory) ⊎ (in_folder files name ≡ Err end)
+  err_is : (name : (List ℕ)) (old new : Told) (end : ReadEnd)
+      → old.files ≡ Some files
+      → Quiet old.faults new.faults
+      → Fetched name old new (Err end)
+      → (end ≡ Memory) ⊎ (in_folder files name ≡ Err end)
   err_is name old new Memory is quiet fetched = inl refl
-  err_is name old new Fault is quiet (inl (mid, (selected, gave))) = no_fault old.faults new.faults quiet (let P : ℕ → Type 0 = λ n. Rose n new.faults in subst P selected.kept gave.1)
+  err_is name old new Fault is quiet (inl (mid, (selected, gave))) =
+      no_fault old.faults new.faults quiet (let P : ℕ → Type 0 = λ n. Rose n new.faults in subst P selected.kept gave.1)
   err_is name old new Fault is quiet (inr (e, inl rose)) = no_fault old.faults new.faults quiet rose
-  err_is name old new Fault is quiet (inr (e, inr missing)) = inr (ap file_whole (subst (λ (f : Option Folder). IsMissing name f) is missing))
+  err_is name old new Fault is quiet (inr (e, inr missing)) =
+      inr (ap file_whole (subst (λ (f : Option Folder). IsMissing name f) is missing))
   err_is name old new TooLong is quiet (inl (mid, (selected, gave))) =
       let file = named name old.files mid.left is selected.chosen in
       inr (ap file_whole file.1 ∙ sym (too_many max_input mid new file.0 file.2 gave))
@@ -48,40 +60,61 @@ module _ (files : Folder) where
   on : (old new : Told) (n : ℕ) → new.faults ≡ old.faults → Quiet old.faults n → Quiet new.faults n
   on old new n same quiet = (omega (arith, same, quiet.0), quiet.1 ∙ sym same)
 
-  stopped : (a : Asked) (end : ReadEnd) (came : Result Inputs ReadEnd) → came ≡ Err end → (end ≡ Memory) ⊎ (all_in files a ≡ Err end) → (came ≡ Err Memory) ⊎ (all_in files a ≡ came)
+  stopped : (a : Asked) (end : ReadEnd) (came : Result Inputs ReadEnd)
+      → came ≡ Err end
+      → (end ≡ Memory) ⊎ (all_in files a ≡ Err end)
+      → (came ≡ Err Memory) ⊎ (all_in files a ≡ came)
   stopped a end came is (inl e) = inl (is ∙ ap Err e)
   stopped a end came is (inr e) = inr (e ∙ sym is)
 
-  or_on : (end : ReadEnd) (x y : Result Inputs ReadEnd) → x ≡ y → (end ≡ Memory) ⊎ (y ≡ Err end) → (end ≡ Memory) ⊎ (x ≡ Err end)
+  or_on : (end : ReadEnd) (x y : Result Inputs ReadEnd)
+      → x ≡ y
+      → (end ≡ Memory) ⊎ (y ≡ Err end)
+      → (end ≡ Memory) ⊎ (x ≡ Err end)
   or_on end x y is (inl e) = inl e
   or_on end x y is (inr e) = inr (is ∙ e)
 
-  lift : (end : ReadEnd) (f : Result (List ℕ) ReadEnd → Result Inputs ReadEnd) (x : Result (List ℕ) ReadEnd) → f (Err end) ≡ Err end → (end ≡ Memory) ⊎ (x ≡ Err end) → (end ≡ Memory) ⊎ (f x ≡ Err end)
+  lift : (end : ReadEnd) (f : Result (List ℕ) ReadEnd → Result Inputs ReadEnd) (x : Result (List ℕ) ReadEnd)
+      → f (Err end) ≡ Err end
+      → (end ≡ Memory) ⊎ (x ≡ Err end)
+      → (end ≡ Memory) ⊎ (f x ≡ Err end)
   lift end f x passes (inl e) = inl e
   lift end f x passes (inr e) = inr (ap f e ∙ passes)
 
   module _ (a : Asked) (old new : Told) (told : old.files ≡ Some files) (quiet : Quiet old.faults new.faults) where
     -- the files, as they were read or not
-    pub all_is : (came : Result Inputs ReadEnd) → AllFetched a old new came → (came ≡ Err Memory) ⊎ (all_in files a ≡ came)
+    pub all_is : (came : Result Inputs ReadEnd)
+        → AllFetched a old new came
+        → (came ≡ Err Memory) ⊎ (all_in files a ≡ came)
     all_is (Ok inputs) (first, (second, (p, (q, r)))) =
         let one = ok_is a.listing old first inputs.listing told p.0 in
         let two = ok_is a.c_text first second inputs.c_text (p.1 ∙ told) q.0 in
         let three = ok_is a.entry second new inputs.entry (q.1 ∙ p.1 ∙ told) r.0 in
-        inr (ap (with_listing files a) one.0 ∙ ap (with_c_text files a inputs.listing) two.0 ∙ ap (with_entry inputs.listing inputs.c_text) three.0)
-    all_is (Err end) (inl f) = stopped a end (Err end) refl (lift end (with_listing files a) (in_folder files a.listing) refl (err_is a.listing old new end told quiet f))
+        inr (ap (with_listing files a) one.0 ∙ ap (with_c_text files a inputs.listing) two.0
+            ∙ ap (with_entry inputs.listing inputs.c_text) three.0)
+    all_is (Err end) (inl f) = stopped a end (Err end) refl
+        (lift end (with_listing files a) (in_folder files a.listing) refl (err_is a.listing old new end told quiet f))
     all_is (Err end) (inr (inl (first, (bytes, (p, f))))) =
         let one = ok_is a.listing old first bytes told p.0 in
         let two = err_is a.c_text first new end (p.1 ∙ told) (on old first new.faults one.1 quiet) f in
-        stopped a end (Err end) refl (or_on end (all_in files a) (with_c_text files a bytes (in_folder files a.c_text)) (ap (with_listing files a) one.0) (lift end (with_c_text files a bytes) (in_folder files a.c_text) refl two))
+        stopped a end (Err end) refl (or_on end (all_in files a)
+            (with_c_text files a bytes (in_folder files a.c_text)) (ap (with_listing files a) one.0)
+                (lift end (with_c_text files a bytes) (in_folder files a.c_text) refl two))
     all_is (Err end) (inr (inr (first, (second, (bytes, (more, (p, (q, f)))))))) =
         let one = ok_is a.listing old first bytes told p.0 in
         let two = ok_is a.c_text first second more (p.1 ∙ told) q.0 in
-        let three = err_is a.entry second new end (q.1 ∙ p.1 ∙ told) (on first second new.faults two.1 (on old first new.faults one.1 quiet)) f in
-        let is : all_in files a ≡ with_entry bytes more (in_folder files a.entry) = ap (with_listing files a) one.0 ∙ ap (with_c_text files a bytes) two.0 in
-        stopped a end (Err end) refl (or_on end (all_in files a) (with_entry bytes more (in_folder files a.entry)) is (lift end (with_entry bytes more) (in_folder files a.entry) refl three))
+        let three = err_is a.entry second new end (q.1 ∙ p.1 ∙ told)
+            (on first second new.faults two.1 (on old first new.faults one.1 quiet)) f in
+        let is : all_in files a ≡ with_entry bytes more (in_folder files a.entry) = ap (with_listing files a) one.0
+            ∙ ap (with_c_text files a bytes) two.0 in
+        stopped a end (Err end) refl (or_on end (all_in files a) (with_entry bytes more (in_folder files a.entry)) is
+            (lift end (with_entry bytes more) (in_folder files a.entry) refl three))
 
 -- what isn't want of memory was read so
-sure : (came expected : Result Inputs ReadEnd) → (came ≡ Err Memory → ⊥) → (came ≡ Err Memory) ⊎ (expected ≡ came) → came ≡ expected
+sure : (came expected : Result Inputs ReadEnd)
+    → (came ≡ Err Memory → ⊥)
+    → (came ≡ Err Memory) ⊎ (expected ≡ came)
+    → came ≡ expected
 sure came expected not (inl e) = absurd (not e)
 sure came expected not (inr e) = sym e
 
@@ -91,7 +124,8 @@ module _ (Shows : Inputs → ℕ → List ℕ → Type 0) (Faults : Inputs → L
   -- The inputs that the words ask for were read whole and judged.
   pub judged : (reads : Asked → Result Inputs ReadEnd → Type 0) (g : Gathered) (o : Answer)
       → IsGathered asked reads g → IsJudged Shows Faults g.inputs g.steps o → Because Shows Faults asked reads o
-  judged reads g (answer.Shown text) (a, (is, (read, steps))) h = (a, (g.inputs, (is, (read, (let P : ℕ → Type 0 = λ n. Shows g.inputs n text in subst P steps h)))))
+  judged reads g (answer.Shown text) (a, (is, (read, steps))) h =
+      (a, (g.inputs, (is, (read, (let P : ℕ → Type 0 = λ n. Shows g.inputs n text in subst P steps h)))))
   judged reads g (answer.Refused line) (a, (is, (read, steps))) h = (a, (g.inputs, (is, (read, h))))
   judged reads g answer.BadArguments w h = absurd h
   judged reads g answer.ReadFault w h = absurd h
@@ -100,11 +134,17 @@ module _ (Shows : Inputs → ℕ → List ℕ → Type 0) (Faults : Inputs → L
 
   -- The table of a call that came to an answer by the files that it read, and delivered it.
   pub table : (shelf shelf_new : Told) (out out_new err err_new : Held) (o : Answer) (status : ℕ)
-      → Because Shows Faults asked (λ a came. AllFetched a shelf shelf_new came) o → Delivers program o out out_new err err_new status
+      → Because Shows Faults asked (λ a came. AllFetched a shelf shelf_new came) o → Delivers program o out out_new
+          err err_new status
       → Table Shows Faults asked shelf shelf_new out out_new err err_new status
   table shelf shelf_new out out_new err err_new o status why told =
-      any.table program out out_new err err_new (Because Shows Faults asked (λ a came. AllFetched a shelf shelf_new came))
-      (λ (files : Folder). Quiet shelf.faults shelf_new.faults × (shelf.files ≡ Some files)) (λ files. Because Shows Faults asked (λ a came. came ≡ all_in files a))
-      (λ files known. settled (λ (a : Asked) (i : Inputs) text. Shows i a.steps text) (λ (a : Asked) (i : Inputs) line. Faults i line) asked (λ a came. AllFetched a shelf shelf_new came)
-      (λ a came. came ≡ all_in files a) (λ a came read not. sure came (all_in files a) not (all_is files a shelf shelf_new known.1 known.0 came read)))
+      any.table program out out_new err err_new
+          (Because Shows Faults asked (λ a came. AllFetched a shelf shelf_new came))
+      (λ (files : Folder). Quiet shelf.faults shelf_new.faults × (shelf.files ≡ Some files))
+          (λ files. Because Shows Faults asked (λ a came. came ≡ all_in files a))
+      (λ files known. settled (λ (a : Asked) (i : Inputs) text. Shows i a.steps text)
+          (λ (a : Asked) (i : Inputs) line. Faults i line) asked (λ a came. AllFetched a shelf shelf_new came)
+      (λ a came. came ≡ all_in files a)
+          (λ a came read not. sure came (all_in files a) not
+              (all_is files a shelf shelf_new known.1 known.0 came read)))
       o status why told

@@ -17,7 +17,8 @@ steps_of word = if bytes_eq word (codes "100000") then Some 100000 else decimal_
 
 abbrev pub asked_for : List ℕ → List ℕ → List ℕ → Option ℕ → Option Asked
 asked_for listing c_text entry None = None
-asked_for listing c_text entry (Some steps) = Some (record { listing = listing; c_text = c_text; entry = entry; steps = steps })
+asked_for listing c_text entry (Some steps) =
+    Some (record { listing = listing; c_text = c_text; entry = entry; steps = steps })
 
 -- exactly four words, of which the last is a number of steps
 abbrev pub asked_by : List (List ℕ) → Option Asked

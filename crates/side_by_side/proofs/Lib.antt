@@ -1,2 +1,4 @@
+pub mod Entries
+pub mod Inside
 pub mod Judgement
 pub mod Running

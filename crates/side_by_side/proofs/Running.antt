@@ -1,52 +1,66 @@
 -- Both runs without frame variables, and what is told of them.
-use Rattle.std.proofs.Common.{◌≡◌, ◌∙◌, ℕ, Bool, true, false, List, [], ◌∷◌, ap, ap₂, subst, arith}
-use Rattle.std.specs.Prelude.{◌==◌, ◌&&◌, Option, Some, None, if◌then◌else◌}
-use Rattle.std.specs.List.{AllByRecursion}
-use Rattle.std.proofs.lemmas.Bool.Decides.{nat_tests}
-use Rattle.pcode_model.specs.declared.listing.Listing.{Listing}
-use Rattle.pcode_model.specs.declared.listing.Place.{Place}
-use Rattle.pcode_model.specs.Memory as M
-use Rattle.pcode_model.specs.Step.{seen_p}
-use Rattle.cmeaning.specs.declared.tree.CFunction.{CFunction}
-use Rattle.cmeaning.specs.Step.{seen_c}
-use Rattle.comparison.specs.Says.{Says, within}
-use Rattle.comparison.specs.declared.fronts.Comparison.{Comparison}
-use Rattle.pcode_run.specs.Run.{LiesInRam, lies_in_ram}
-use Rattle.pcode_memory.specs.Frame.{frame_of, own_in}
-use Rattle.pcode_memory.specs.declared.frame.Frame.{Frame}
-use Rattle.pcode_memory.specs.declared.frame.OwnAccess.{OwnAccess}
+use Rattle.std.proofs.Common.{◌≡◌, ◌∙◌, ℕ, List, ap, ap₂, subst}
 use Rattle.machine.specs.Trace as T
+use Rattle.machine.specs.TwoWay.{Grows}
+use Rattle.machine.proofs.Machine.{seen_grows}
+use Rattle.pcode_model.specs.declared.frame.Frame.{Frame}
+use Rattle.pcode_model.specs.declared.listing.Listing.{Listing}
+use Rattle.pcode_model.specs.Frame.{frame_of, no_variables}
+use Rattle.pcode_model.specs.Memory.{whole}
+use Rattle.pcode_model.specs.Spaces.{is_some}
+use Rattle.pcode_model.specs.Step.{first_whole, layout, machine, seen_p, start}
+use Rattle.pcode_laws.proofs.Grows.{pcode_grows}
+use Rattle.cmeaning.specs.declared.tree.CFunction.{CFunction}
+use Rattle.cmeaning.specs.Agree.{AgreesWith}
+use Rattle.cmeaning.specs.Step.{c_machine, seen_c, start_c}
+use Rattle.cmeaning.proofs.Grows.{c_grows}
 use Rattle.run_world.specs.declared.entry.Entry.{Entry}
 use Rattle.run_world.specs.declared.trace.Trace.{Trace}
 use Rattle.run_world.specs.Meaning.{entry_of, trace_of}
-use Rattle.side_by_side.specs.Judged.{IsShown, both_text}
+use Rattle.entrytext.specs.Lies.{LiesIn}
+use Rattle.comparison.specs.Says.{Says, within}
+use Rattle.comparison.specs.declared.fronts.Comparison.{Comparison}
+use Rattle.comparison.specs.declared.fronts.Comparison.TheVariants.{Apart}
+use Rattle.comparison.proofs.Never.{never_apart}
+use Rattle.side_by_side.specs.Judged.{HasBytes, IsShown, both_text, shown_c, shown_p}
+use Rattle.side_by_side.proofs.Entries.{is_entry}
+use Rattle.side_by_side.proofs.Inside.{never_outside}
 
-same : (n : ℕ) → (n == n) ≡ true
-same n = grind (arith, nat_tests)
+module _ (l : Listing) (f : CFunction) (e : Entry) (n : ℕ) where
+  grows_p : Grows (shown_p l e)
+  grows_p = seen_grows (machine (whole (layout l (frame_of l no_variables) (entry_of l e))) l (frame_of l no_variables))
+      (pcode_grows (whole (layout l (frame_of l no_variables) (entry_of l e))) l (frame_of l no_variables))
+          (start l (entry_of l e) (first_whole (entry_of l e)))
 
-hit : (b c d : Bool) (o : ℕ) (rest : Option ℕ) → b ≡ true → c ≡ true → d ≡ true → (if b && (c && d) then Some o else rest) ≡ None → ⊥
-hit true true true o rest p q r h = cc
-hit false c d o rest p q r h = cc
-hit true false d o rest p q r h = cc
-hit true true false o rest p q r h = cc
+  grows_c : Grows (shown_c l f e)
+  grows_c = seen_grows (c_machine l f) (c_grows l f) (start_c l f (entry_of l e))
 
-no_access : (l : Listing) (accesses : List OwnAccess) → own_in accesses ≡ (λ p n. None) → AllByRecursion (λ a. lies_in_ram l a ≡ true) accesses
-no_access l [] e = tt
-no_access l (a ∷ rest) e = absurd (hit (a.place.address == a.place.address) (a.place.index == a.place.index) (a.argument == a.argument) a.offset (own_in rest a.place a.argument)
-    (same a.place.address) (same a.place.index) (same a.argument) (ap (λ (f : Place → ℕ → Option ℕ). f a.place a.argument) e))
+  -- Where the function agrees with the listing, both runs of an entry that lies in it are never apart.
+  not_apart : LiesIn l e
+      → (comparison : Comparison)
+      → Says (within (shown_p l e n)) (within (shown_c l f e n)) comparison
+      → HasBytes l → AgreesWith l (frame_of l no_variables) f → comparison ≡ Apart → ⊥
+  not_apart lies comparison says bytes agrees is =
+      never_apart (is_some f.gives) (shown_p l e) (shown_c l f e) grows_p grows_c (never_outside l f (entry_of l e))
+      (agrees (entry_of l e) (is_entry l (λ s o b fixed. bytes s o b fixed) e lies)) n
+      (subst (λ (x : Comparison). Says (within (shown_p l e n)) (within (shown_c l f e n)) x) is says)
 
-pub empty_lies : (l : Listing) (f : Frame) → frame_of f ≡ M.no_frame → LiesInRam l f
-empty_lies l f e = no_access l f.accesses (ap (λ (m : M.Frame). m.own) e)
-
-pub shown_is : (l : Listing) (f : CFunction) (e : Entry) (n : ℕ) (frame : Frame) (p c : Trace) (comparison : Comparison) (text : List ℕ) → frame_of frame ≡ M.no_frame
-    → trace_of p ≡ seen_p l (frame_of frame) (entry_of l e) n → trace_of c ≡ seen_c l f (entry_of l e) n → Says (within (trace_of p)) (within (trace_of c)) comparison
-    → text ≡ both_text l (trace_of p) (trace_of c) comparison → IsShown l f e n text
-shown_is l f e n frame p c comparison text empty ran went says is =
-    let run : trace_of p ≡ seen_p l M.no_frame (entry_of l e) n = ran ∙ ap (λ (m : M.Frame). seen_p l m (entry_of l e) n) empty in
-    let left : Says (within (seen_p l M.no_frame (entry_of l e) n)) (within (trace_of c)) comparison = subst (λ (t : T.Trace). Says (within t) (within (trace_of c)) comparison) run says in (
-      comparison,
-      (
-        subst (λ (t : T.Trace). Says (within (seen_p l M.no_frame (entry_of l e) n)) (within t) comparison) went left,
-        is ∙ ap₂ (λ (s t : T.Trace). both_text l s t comparison) run went,
-      ),
-    )
+  -- What is told of the traces of both machines.
+  pub shown_is : LiesIn l e
+      → (frame : Frame) (p c : Trace) (comparison : Comparison) (text : List ℕ)
+      → frame ≡ no_variables
+      → trace_of p ≡ seen_p l (frame_of l frame) (entry_of l e) n → trace_of c ≡ seen_c l f (entry_of l e) n
+      → Says (within (trace_of p)) (within (trace_of c)) comparison
+      → text ≡ both_text l (trace_of p) (trace_of c) comparison → IsShown l f e n text
+  shown_is lies frame p c comparison text empty ran went says is =
+      let run : trace_of p ≡ shown_p l e n = ran ∙ ap (λ (g : Frame). seen_p l (frame_of l g) (entry_of l e) n) empty in
+      let left : Says (within (shown_p l e n)) (within (trace_of c)) comparison =
+          subst (λ (t : T.Trace). Says (within t) (within (trace_of c)) comparison) run says in
+      let both : Says (within (shown_p l e n)) (within (shown_c l f e n)) comparison =
+          subst (λ (t : T.Trace). Says (within (shown_p l e n)) (within t) comparison) went left in
+      record {
+        comparison = comparison;
+        says = both;
+        never_apart = not_apart lies comparison both;
+        is = is ∙ ap₂ (λ (s t : T.Trace). both_text l s t comparison) run went;
+      }

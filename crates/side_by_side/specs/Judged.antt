@@ -1,10 +1,13 @@
 -- What the three inputs come to. This project's own.
-use Rattle.std.specs.Prelude.{◌≡◌, ℕ, List, ◌++◌, codes, ⊤}
+use Rattle.std.specs.Prelude.{◌≡◌, ◌<◌, ℕ, List, ◌++◌, codes, Some, ⊤}
 use Rattle.machine.specs.Trace.{Trace}
 use Rattle.pcode_model.specs.declared.listing.Listing.{Listing}
-use Rattle.pcode_model.specs.Memory.{no_frame}
+use Rattle.pcode_model.specs.Frame.{frame_of, no_variables}
+use Rattle.pcode_model.specs.Spaces.{fixed_byte}
 use Rattle.pcode_model.specs.Step.{seen_p}
 use Rattle.cmeaning.specs.declared.tree.CFunction.{CFunction}
+use Rattle.cmeaning.specs.Agree.{AgreesWith}
+use Rattle.cmeaning.specs.Fits.{Fits}
 use Rattle.cmeaning.specs.Step.{seen_c}
 use Rattle.cread.specs.Answer.{IsTreeOf}
 use Rattle.run_world.specs.declared.entry.Entry.{Entry}
@@ -12,14 +15,14 @@ use Rattle.run_world.specs.Meaning.{entry_of}
 use Rattle.tracetext.specs.Text.{trace_text}
 use Rattle.comparison.specs.Says.{Says, comparison_text, within}
 use Rattle.comparison.specs.declared.fronts.Comparison.{Comparison}
+use Rattle.comparison.specs.declared.fronts.Comparison.TheVariants.{Apart}
 use Rattle.entrytext.specs.Meaning.{reading}
 use Rattle.entrytext.specs.Meaning.Read.{Good, Bad}
 use Rattle.entrytext.specs.declared.fault.EntryFault.TheVariants as entry
-use Rattle.cmeaning.specs.Fits.{Fits}
 use Rattle.run_verdict.specs.Runs.{IsRefused, Runs}
 use Rattle.runwords.specs.declared.files.Inputs.{Inputs}
-use Rattle.runwords.specs.declared.outcome.Outcome.{Outcome}
-use Rattle.runwords.specs.declared.outcome.Outcome.TheVariants as outcome
+use Rattle.statuses.specs.Answer as answer
+use Rattle.statuses.specs.Answer.{Answer}
 use Rattle.side_by_side.specs.Lines.{line_of}
 use Rattle.side_by_side.specs.declared.input_fault.InputFault.{InputFault}
 use Rattle.side_by_side.specs.declared.input_fault.InputFault.TheVariants as input_fault
@@ -40,8 +43,10 @@ IsNoC bytes = (f : CFunction) → IsTreeOf bytes f → ⊥
 abbrev pub IsInputFault : Inputs → InputFault → Type 0
 IsInputFault i (input_fault.Listing fault) = IsRefused i.listing fault
 IsInputFault i input_fault.NotC = (l : Listing) × (Runs i.listing l × IsNoC i.c_text)
-IsInputFault i input_fault.Misfit = (l : Listing) × ((f : CFunction) × (Runs i.listing l × (IsTreeOf i.c_text f × (Fits l f → ⊥))))
-IsInputFault i (input_fault.Entry fault) = (l : Listing) × ((f : CFunction) × (Runs i.listing l × (IsTreeOf i.c_text f × (Fits l f × (reading l i.entry ≡ Bad fault)))))
+IsInputFault i input_fault.Misfit = (l : Listing)
+    × ((f : CFunction) × (Runs i.listing l × (IsTreeOf i.c_text f × (Fits l f → ⊥))))
+IsInputFault i (input_fault.Entry fault) = (l : Listing)
+    × ((f : CFunction) × (Runs i.listing l × (IsTreeOf i.c_text f × (Fits l f × (reading l i.entry ≡ Bad fault)))))
 IsInputFault i input_fault.Memory = ⊥
 
 -- a reason, unless memory ran out
@@ -72,21 +77,36 @@ IsEntryFault l bytes _ = ⊥
 abbrev pub both_text : Listing → Trace → Trace → Comparison → List ℕ
 both_text l p c comparison = trace_text l (codes "p ") p ++ (trace_text l (codes "c ") c ++ comparison_text comparison)
 
--- the text of what both machines have shown after so many steps
-abbrev pub IsShown : Listing → CFunction → Entry → ℕ → List ℕ → Type 0
-IsShown l f e n text = (comparison : Comparison) × (Says (within (seen_p l no_frame (entry_of l e) n)) (within (seen_c l f (entry_of l e) n)) comparison
-    × (text ≡ both_text l (seen_p l no_frame (entry_of l e) n) (seen_c l f (entry_of l e) n) comparison))
+-- what the p-code run of the listing has shown after so many steps; a listing that is run has no frame variables
+abbrev pub shown_p : Listing → Entry → ℕ → Trace
+shown_p l e n = seen_p l (frame_of l no_variables) (entry_of l e) n
 
-abbrev pub IsTold : Listing → CFunction → Entry → ℕ → Outcome → Type 0
-IsTold l f e n (outcome.Shown text) = IsShown l f e n text.items
-IsTold l f e n outcome.Memory = ⊤
+-- what the run of the function has shown after so many steps
+abbrev pub shown_c : Listing → CFunction → Entry → ℕ → Trace
+shown_c l f e n = seen_c l f (entry_of l e) n
+
+-- each read-only byte is a byte
+abbrev pub HasBytes : Listing → Type 0
+HasBytes l = (space offset byte : ℕ) → fixed_byte l space offset ≡ Some byte → byte < 256
+
+-- The text of what both machines have shown after so many steps. Where the function agrees with the listing they are
+-- never told to be apart.
+pub record IsShown (l : Listing) (f : CFunction) (e : Entry) (n : ℕ) (text : List ℕ) : Type 0 where
+  pub comparison : Comparison
+  pub says : Says (within (shown_p l e n)) (within (shown_c l f e n)) comparison
+  pub never_apart : HasBytes l → AgreesWith l (frame_of l no_variables) f → comparison ≡ Apart → ⊥
+  pub is : text ≡ both_text l (shown_p l e n) (shown_c l f e n) comparison
+
+abbrev pub IsTold : Listing → CFunction → Entry → ℕ → Answer → Type 0
+IsTold l f e n (answer.Shown text) = IsShown l f e n text
+IsTold l f e n answer.Memory = ⊤
 IsTold l f e n _ = ⊥
 
 -- the line of a reason, unless memory ran out
-abbrev pub IsLine : InputFault → Outcome → Type 0
-IsLine input_fault.Memory o = o ≡ outcome.Memory
-IsLine fault (outcome.Refused line) = line.items ≡ line_of fault
-IsLine fault outcome.Memory = ⊤
+abbrev pub IsLine : InputFault → Answer → Type 0
+IsLine input_fault.Memory o = o ≡ answer.Memory
+IsLine fault (answer.Refused line) = line ≡ line_of fault
+IsLine fault answer.Memory = ⊤
 IsLine fault _ = ⊥
 
 -- the inputs show this text after so many steps

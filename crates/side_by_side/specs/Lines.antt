@@ -3,7 +3,7 @@ use Rattle.std.specs.Prelude.{ℕ, List, [], ◌∷◌, ◌++◌, codes}
 use Rattle.std.specs.Fmt.{decimal}
 use Rattle.entrytext.specs.declared.fault.EntryFault.{EntryFault}
 use Rattle.entrytext.specs.declared.fault.EntryFault.TheVariants as entry
-use Rattle.pipeline.specs.Message as refusal
+use Rattle.refusals.specs.Message as refusal
 use Rattle.side_by_side.specs.declared.input_fault.InputFault.{InputFault}
 use Rattle.side_by_side.specs.declared.input_fault.InputFault.TheVariants as input_fault
 

@@ -6,7 +6,7 @@ ghost use Rattle.side_by_side.specs.Lines.{at_line, entry_words, line_of, words_
 use bits_core::Memory;
 use ctext::digits::{put, put_decimal};
 use entrytext::EntryFault;
-use pipeline::{Refusal, put_words};
+use refusals::{Refusal, put_words};
 use std::alloc::Global;
 
 /// Why the inputs are refused.

@@ -1,9 +1,12 @@
 //! The runs of both machines, and what is told of them.
 
-ghost use Rattle.std.specs.Prelude.{◌≡◌, ◌++◌, IfOk, OnOk};
+ghost use Rattle.std.specs.Prelude.{◌≡◌, ◌++◌, IfOk, None, OnOk};
 ghost use Rattle.cmeaning.specs.Valid.{IsValid};
 ghost use Rattle.cmeaning.specs.Fits.{Fits};
-ghost use Rattle.pcode_memory.specs.Context.{CanRun};
+ghost use Rattle.pcode_model.specs.Rules.{first_bad};
+ghost use Rattle.pcode_model.specs.WellFormed.{IsWellFormed};
+ghost use Rattle.entrytext.specs.Lies.{LiesIn};
+ghost use Rattle.statuses.specs.Answer.{answer_of};
 ghost use Rattle.run_world.specs.Meaning.{trace_of};
 ghost use Rattle.runwords.specs.Fetched.{AreShort};
 ghost use Rattle.runwords.specs.Table.{IsJudged};
@@ -14,11 +17,11 @@ use crate::reading::{Parsed, parse};
 use bits_core::Memory;
 use c_run::run_c;
 use comparison::{Comparison, compare, put_comparison};
-use pcode_memory::Frame;
-use pcode_model::Listing;
+use pcode_model::{Frame, Listing};
 use pcode_run::run_p;
 use run_world::Trace;
-use runwords::{Inputs, Outcome};
+use runwords::Inputs;
+use statuses::Outcome;
 use std::alloc::Global;
 use tracetext::put_trace;
 
@@ -39,9 +42,11 @@ fn put_both(
 
 // The traces of both machines after so many steps, and how they compare.
 fn show(alloc: Global, parsed: &Parsed, steps: u32) -> Result<Vec<u8>, Memory>
-    requires can { CanRun parsed.now.listing }
+    requires formed { IsWellFormed parsed.now.listing }
+    requires ops { first_bad parsed.now.listing ≡ None }
     requires valid { IsValid parsed.now.function }
     requires fits { Fits parsed.now.listing parsed.now.function }
+    requires lies { LiesIn parsed.now.listing parsed.now.entry }
     ensures { IfOk result (λ text. IsShown parsed.now.listing parsed.now.function parsed.now.entry steps text.items) }
 {
     let frame = Frame::empty(alloc);
@@ -60,7 +65,7 @@ fn show(alloc: Global, parsed: &Parsed, steps: u32) -> Result<Vec<u8>, Memory>
 }
 
 fn refused(alloc: Global, input_fault: &InputFault) -> Outcome
-    ensures { IsLine input_fault.now result }
+    ensures { IsLine input_fault.now (answer_of result) }
 {
     if matches!(input_fault, InputFault::Memory) {
         return Outcome::Memory;
@@ -72,10 +77,12 @@ fn refused(alloc: Global, input_fault: &InputFault) -> Outcome
 }
 
 fn shown(alloc: Global, parsed: &Parsed, steps: u32) -> Outcome
-    requires can { CanRun parsed.now.listing }
+    requires formed { IsWellFormed parsed.now.listing }
+    requires ops { first_bad parsed.now.listing ≡ None }
     requires valid { IsValid parsed.now.function }
     requires fits { Fits parsed.now.listing parsed.now.function }
-    ensures { IsTold parsed.now.listing parsed.now.function parsed.now.entry steps result }
+    requires lies { LiesIn parsed.now.listing parsed.now.entry }
+    ensures { IsTold parsed.now.listing parsed.now.function parsed.now.entry steps (answer_of result) }
 {
     match show(alloc, parsed, steps) {
         Ok(text) => Outcome::Shown(text),
@@ -86,7 +93,7 @@ fn shown(alloc: Global, parsed: &Parsed, steps: u32) -> Outcome
 /// What the inputs come to after so many steps of each machine.
 pub fn judge(alloc: Global, inputs: &Inputs, steps: u32) -> Outcome
     requires { AreShort inputs.now }
-    ensures { IsJudged Shows Faults inputs.now steps result }
+    ensures { IsJudged Shows Faults inputs.now steps (answer_of result) }
 {
     match parse(alloc, inputs) {
         Ok(parsed) => shown(alloc, &parsed, steps),

@@ -3,11 +3,12 @@
 ghost use Rattle.std.specs.Prelude.{◌≡◌, ◌≤◌, length, IfErr, IfOk};
 ghost use Rattle.cread.specs.Answer.{IsTreeOf};
 ghost use Rattle.pcode_model.specs.WellFormed.{IsWellFormed};
-ghost use Rattle.pcodetext.specs.Formed.{IsRead};
 ghost use Rattle.run_verdict.specs.Runs.{Runs};
+ghost use Rattle.entrytext.specs.Lies.{LiesIn};
 ghost use Rattle.entrytext.specs.Meaning.{reading};
 ghost use Rattle.entrytext.specs.Meaning.Read.{Good};
-ghost use Rattle.runwords.specs.Fetched.{AreShort, limit};
+ghost use Rattle.pcode_model.specs.Limits.{max_input};
+ghost use Rattle.runwords.specs.Fetched.{AreShort};
 ghost use Rattle.side_by_side.specs.Judged.{IsCause, IsEntryFault, IsFunctionFault, IsListingFault, IsParsed};
 
 use crate::input_fault::InputFault;
@@ -16,7 +17,7 @@ use cmeaning::CFunction;
 use cread::{CFault, read_c};
 use entrytext::{EntryFault, read_entry};
 use pcode_model::Listing;
-use pipeline::Refusal;
+use refusals::Refusal;
 use run_verdict::accept;
 use run_world::Entry;
 use runwords::Inputs;
@@ -31,9 +32,9 @@ pub struct Parsed {
 }
 
 fn listing(alloc: Global, bytes: &[u8]) -> Result<Listing, InputFault>
-    requires { length bytes.now ≤ limit }
+    requires { length bytes.now ≤ max_input }
     ensures runs { IfOk result (Runs bytes.now) }
-    ensures read { IfOk result IsRead }
+    ensures formed { IfOk result IsWellFormed }
     ensures refused { IfErr result (IsListingFault bytes.now) }
 {
     match accept(alloc, bytes) {
@@ -56,9 +57,9 @@ fn function(alloc: Global, bytes: &[u8]) -> Result<CFunction, InputFault>
 
 fn entry(alloc: Global, listing: &Listing, bytes: &[u8]) -> Result<Entry, InputFault>
     requires formed { IsWellFormed listing.now }
-    requires few { length listing.now.spaces ≤ 256 }
-    requires short { length bytes.now ≤ limit }
+    requires short { length bytes.now ≤ max_input }
     ensures good { IfOk result (λ entry. reading listing.now bytes.now ≡ Good entry) }
+    ensures lies { IfOk result (LiesIn listing.now) }
     ensures refused { IfErr result (IsEntryFault listing.now bytes.now) }
 {
     match read_entry(alloc, listing, bytes) {
@@ -72,7 +73,8 @@ fn entry(alloc: Global, listing: &Listing, bytes: &[u8]) -> Result<Entry, InputF
 pub fn parse(alloc: Global, inputs: &Inputs) -> Result<Parsed, InputFault>
     requires { AreShort inputs.now }
     ensures parsed { IfOk result (λ p. IsParsed inputs.now p.listing p.function p.entry) }
-    ensures read { IfOk result (λ p. IsRead p.listing) }
+    ensures formed { IfOk result (λ p. IsWellFormed p.listing) }
+    ensures lies { IfOk result (λ p. LiesIn p.listing p.entry) }
     ensures refused { IfErr result (IsCause inputs.now) }
 {
     let listing = listing(alloc, inputs.listing.as_slice())?;

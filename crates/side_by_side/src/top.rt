@@ -5,15 +5,17 @@ ghost use Rattle.runwords.specs.Request.{asked_by};
 ghost use Rattle.runwords.specs.Fetched.{AllFetched};
 ghost use Rattle.runwords.specs.Table.{Because, Table};
 ghost use Rattle.side_by_side.specs.Judged.{Faults, Shows};
+ghost use Rattle.statuses.specs.Answer.{answer_of};
 
 use crate::judging::judge;
 use outside::{Shelf, Sink, Words};
-use runwords::{Outcome, deliver, gather};
+use runwords::gather;
+use statuses::{Outcome, deliver};
 use std::alloc::Global;
 
 // What the words and the files come to.
 fn work_out<H: Shelf>(alloc: Global, words: &Words, shelf: &mut H) -> Outcome
-    ensures because { Because Shows Faults (asked_by (map string_bytes words.now)) (λ a came. AllFetched a (H.told shelf.old) (H.told shelf.new) came) result }
+    ensures because { Because Shows Faults (asked_by (map string_bytes words.now)) (λ a came. AllFetched a (H.told shelf.old) (H.told shelf.new) came) (answer_of result) }
     ensures stays { asked_by (map string_bytes words.now) ≡ None → shelf.new ≡ shelf.old }
     ensures later { (H.told shelf.old).faults ≤ (H.told shelf.new).faults }
     ensures files { (H.told shelf.new).files ≡ (H.told shelf.old).files }
@@ -45,5 +47,5 @@ pub fn runboth_words<H: Shelf, K: Sink, E: Sink>(
     ensures err_later { (E.told err.old).faults ≤ (E.told err.new).faults }
 {
     let outcome = work_out(alloc, words, shelf);
-    deliver(&outcome, out, err)
+    deliver(b"runboth", &outcome, out, err)
 }

@@ -269,8 +269,8 @@ module _ (l : Listing) (u : IsUncut l) where
       let some : 0 < a.size = p.some in
       let first : d ≡ 0 = zero_or_more d (λ more. cut_at r w _ _ d is area o p.begins more (omega arith)) in
       let last : d + a.size ≡ r.size =
-        whole_size (d + a.size) r.size fits
-        (λ less. cut_at r w _ _ (d + a.size) is area (plus_plus r.storage r.size w is.range _ d a.size o) p.ends (omega arith) less)
+      whole_size (d + a.size) r.size fits
+      (λ less. cut_at r w _ _ (d + a.size) is area (plus_plus r.storage r.size w is.range _ d a.size o) p.ends (omega arith) less)
       in
       let at : offset_of a.storage ≡ offset_of r.storage = o ∙ (ap (λ (n : ℕ). offset_of r.storage +ℤ pos n) first ∙ plus_zero r.storage r.size w l is.range) in
       same_atom a r (same_storage a.storage r.storage area at) (omega arith)

@@ -19,12 +19,16 @@ module _ (old mid new : Held) (name words : List ℕ) where
     (
       length name + k,
       omega (arith, few, length-append name words),
-      subst (Appends old.taken new.taken) (sym (take-append-add name words k)) (Appends-trans old.taken mid.taken new.taken name (take k words) first.0 came),
+      subst (Appends old.taken new.taken) (sym (take-append-add name words k))
+          (Appends-trans old.taken mid.taken new.taken name (take k words) first.0 came),
     ),
   )
 
 -- a sink that failed in the name failed in the line
-pub short_front : (told : ℕ) (old new : Held) (name words : List ℕ) (status : ℕ) → status ≡ 4 → WroteShort old new name → Writes told (name ++ words) old new status
+pub short_front : (told : ℕ) (old new : Held) (name words : List ℕ) (status : ℕ)
+    → status ≡ 4
+    → WroteShort old new name
+    → Writes told (name ++ words) old new status
 short_front told old new name words status is (rose, (k, few, came)) = inr (
   is,
   (
@@ -38,6 +42,9 @@ short_front told old new name words status is (rose, (k, few, came)) = inr (
 )
 
 -- after the name the rest was written, or the sink failed in it
-pub after_front : (told : ℕ) (old mid new : Held) (name words : List ℕ) (status : ℕ) → Wrote old mid name → Writes told words mid new status → Writes told (name ++ words) old new status
+pub after_front : (told : ℕ) (old mid new : Held) (name words : List ℕ) (status : ℕ)
+    → Wrote old mid name
+    → Writes told words mid new status
+    → Writes told (name ++ words) old new status
 after_front told old mid new name words status first (inl w) = inl (w.0, both old mid new name words first w.1)
 after_front told old mid new name words status first (inr w) = inr (w.0, short_rest old mid new name words first w.1)

@@ -7,7 +7,10 @@ use Rattle.statuses.specs.Delivery.{Delivers}
 use Rattle.statuses.specs.Table.{CutShort, MayComplain, Rows}
 
 module _ (name : List ℕ) (Why : Answer → Type 0) (out out_new err err_new : Held) where
-  failed : (status : ℕ) → status ≡ 4 → CutShort name Why out out_new err err_new → Rows name Why out out_new err err_new status
+  failed : (status : ℕ)
+      → status ≡ 4
+      → CutShort name Why out out_new err err_new
+      → Rows name Why out out_new err err_new status
   failed status is w = record {
     done = λ e. absurd (omega arith);
     refused = λ e. absurd (omega arith);
@@ -19,11 +22,18 @@ module _ (name : List ℕ) (Why : Answer → Type 0) (out out_new err err_new : 
     range = omega arith;
   }
 
-  line_failed : (status : ℕ) (line : List ℕ) → (status ≡ 4) × WroteShort err err_new line → MayComplain name Why line → out_new ≡ out → Rows name Why out out_new err err_new status
+  line_failed : (status : ℕ) (line : List ℕ)
+      → (status ≡ 4) × WroteShort err err_new line
+      → MayComplain name Why line
+      → out_new ≡ out
+      → Rows name Why out out_new err err_new status
   line_failed status line w why same = failed status w.0 (inr ((line, (why, w.1)), same))
 
   -- The rows hold of what was delivered.
-  pub rows : (a : Answer) (status : ℕ) → Why a → Delivers name a out out_new err err_new status → Rows name Why out out_new err err_new status
+  pub rows : (a : Answer) (status : ℕ)
+      → Why a
+      → Delivers name a out out_new err err_new status
+      → Rows name Why out out_new err err_new status
   rows (Shown text) status why (inl w, same) = record {
     done = λ e. ((text, (why, w.1)), same);
     refused = λ e. absurd (omega arith);

@@ -15,7 +15,10 @@ pub no_fault : {P : Type 0} (before now : ℕ) → Quiet before now → Rose bef
 no_fault before now quiet rose = absurd (omega arith)
 
 -- a source that tells its bytes gave them all
-all_came : (told : List ℕ) (left_new : Option (List ℕ)) (bytes : List ℕ) → Consumes (Some told) left_new bytes → IsAtEnd left_new → told ≡ bytes
+all_came : (told : List ℕ) (left_new : Option (List ℕ)) (bytes : List ℕ)
+    → Consumes (Some told) left_new bytes
+    → IsAtEnd left_new
+    → told ≡ bytes
 all_came told None bytes came end = absurd came
 all_came told (Some rest) bytes came end = came ∙ ap (λ l. bytes ++ l) end ∙ append-nil bytes
 
@@ -26,14 +29,18 @@ longer told (Some rest) n came = omega (arith, ap length came.1, length-append c
 short_whole : (limit : ℕ) (bytes : List ℕ) → length bytes ≤ limit → Ok bytes ≡ whole limit bytes
 short_whole limit bytes short = by (nat_lt limit (length bytes)) refl
   where
-    by : (t : Bool) → nat_lt limit (length bytes) ≡ t → ◌≡◌ {A = Result (List ℕ) ReadEnd} (Ok bytes) (if t then Err TooLong else Ok bytes)
+    by : (t : Bool)
+        → nat_lt limit (length bytes) ≡ t
+        → ◌≡◌ {A = Result (List ℕ) ReadEnd} (Ok bytes) (if t then Err TooLong else Ok bytes)
     by true e = absurd (grind (arith, nat_tests))
     by false e = refl
 
 long_whole : (limit : ℕ) (bytes : List ℕ) → limit + 1 ≤ length bytes → Err TooLong ≡ whole limit bytes
 long_whole limit bytes long = by (nat_lt limit (length bytes)) refl
   where
-    by : (t : Bool) → nat_lt limit (length bytes) ≡ t → ◌≡◌ {A = Result (List ℕ) ReadEnd} (Err TooLong) (if t then Err TooLong else Ok bytes)
+    by : (t : Bool)
+        → nat_lt limit (length bytes) ≡ t
+        → ◌≡◌ {A = Result (List ℕ) ReadEnd} (Err TooLong) (if t then Err TooLong else Ok bytes)
     by true e = refl
     by false e = absurd (grind (arith, nat_tests))
 
@@ -41,15 +48,22 @@ module _ (limit : ℕ) (old new : Told) (told : List ℕ) (is : old.left ≡ Som
   -- Where a source that tells its bytes was read to its end, these are all of them.
   pub all_whole : (bytes : List ℕ) → Gave limit old new (Ok bytes) → Ok bytes ≡ whole limit told
   all_whole bytes g =
-      let e : told ≡ bytes = all_came told new.left bytes (subst (λ (l : Option (List ℕ)). Consumes l new.left bytes) is g.0) g.1 in
-      subst (λ (b : List ℕ). Ok b ≡ whole limit told) e (short_whole limit told (subst (λ (b : List ℕ). length b ≤ limit) (sym e) g.2))
+      let e : told ≡ bytes = all_came told new.left bytes
+          (subst (λ (l : Option (List ℕ)). Consumes l new.left bytes) is g.0) g.1 in
+      subst (λ (b : List ℕ). Ok b ≡ whole limit told) e
+          (short_whole limit told (subst (λ (b : List ℕ). length b ≤ limit) (sym e) g.2))
 
   -- Where one byte too many came, there are too many.
   pub too_many : Gave limit old new (Err TooLong) → Err TooLong ≡ whole limit told
-  too_many g = long_whole limit told (longer told new.left (limit + 1) (subst (λ (l : Option (List ℕ)). TookExactly l new.left (limit + 1)) is g.0))
+  too_many g = long_whole limit told
+      (longer told new.left (limit + 1) (subst (λ (l : Option (List ℕ)). TookExactly l new.left (limit + 1)) is g.0))
 
   -- Reading a source that tells its bytes gave what must come, unless memory ran out.
-  pub came_whole : Quiet old.faults new.faults → (came : Result (List ℕ) ReadEnd) → Gave limit old new came → (came ≡ Err Memory → ⊥) → came ≡ whole limit told
+  pub came_whole : Quiet old.faults new.faults
+      → (came : Result (List ℕ) ReadEnd)
+      → Gave limit old new came
+      → (came ≡ Err Memory → ⊥)
+      → came ≡ whole limit told
   came_whole quiet (Ok bytes) g not = all_whole bytes g
   came_whole quiet (Err Fault) g not = no_fault old.faults new.faults quiet g.1
   came_whole quiet (Err TooLong) g not = too_many g

@@ -24,7 +24,8 @@ module _ {A I : Type 0} (Shows Faults : A → I → List ℕ → Type 0) where
   -- input that was read whole shows a text or is refused.
   abbrev pub Because : Option A → (A → Result I ReadEnd → Type 0) → Answer → Type 0
   Because asked reads (answer.Shown text) = (a : A) × ((i : I) × ((asked ≡ Some a) × (reads a (Ok i) × Shows a i text)))
-  Because asked reads (answer.Refused line) = (a : A) × ((i : I) × ((asked ≡ Some a) × (reads a (Ok i) × Faults a i line)))
+  Because asked reads (answer.Refused line) = (a : A)
+      × ((i : I) × ((asked ≡ Some a) × (reads a (Ok i) × Faults a i line)))
   Because asked reads answer.BadArguments = asked ≡ None
   Because asked reads answer.ReadFault = Reads asked reads (Err Fault)
   Because asked reads answer.TooLong = Reads asked reads (Err TooLong)

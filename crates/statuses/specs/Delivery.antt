@@ -22,7 +22,8 @@ Writes told text old new status = ((status ≡ told) × Wrote old new text) ⊎ 
 abbrev pub Delivers : List ℕ → Answer → Held → Held → Held → Held → ℕ → Type 0
 Delivers name (Shown text) out out_new err err_new status = Writes 0 text out out_new status × (err_new ≡ err)
 Delivers name (Refused line) out out_new err err_new status = Writes 1 line err err_new status × (out_new ≡ out)
-Delivers name BadArguments out out_new err err_new status = Writes 2 (bad_arguments name) err err_new status × (out_new ≡ out)
+Delivers name BadArguments out out_new err err_new status = Writes 2 (bad_arguments name) err err_new status
+    × (out_new ≡ out)
 Delivers name ReadFault out out_new err err_new status = Writes 3 (read_fault name) err err_new status × (out_new ≡ out)
 Delivers name TooLong out out_new err err_new status = Writes 6 (too_long name) err err_new status × (out_new ≡ out)
 Delivers name Memory out out_new err err_new status = (status ≡ 5) × ((out_new ≡ out) × (err_new ≡ err))

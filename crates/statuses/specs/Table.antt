@@ -11,13 +11,15 @@ module _ (name : List ℕ) (Why : Answer → Type 0) where
   -- the line that goes with a status, and why
   abbrev pub MayComplain : List ℕ → Type 0
   MayComplain line = Why (Refused line)
-      ⊎ ((Why BadArguments × (line ≡ bad_arguments name)) ⊎ ((Why ReadFault × (line ≡ read_fault name)) ⊎ (Why TooLong × (line ≡ too_long name))))
+      ⊎ ((Why BadArguments × (line ≡ bad_arguments name)) ⊎
+          ((Why ReadFault × (line ≡ read_fault name)) ⊎ (Why TooLong × (line ≡ too_long name))))
 
   -- Out's count rose, the row of status 0 holds but for that, out took a proper prefix of its text, and err is unchanged;
   -- or err's count rose, the row of status 1, 2, 3 or 6 holds but for that, err took a proper prefix of its line, and out
   -- is unchanged.
   abbrev pub CutShort : Held → Held → Held → Held → Type 0
-  CutShort out out_new err err_new = (((text : List ℕ) × (Why (Shown text) × WroteShort out out_new text)) × (err_new ≡ err))
+  CutShort out out_new err err_new =
+      (((text : List ℕ) × (Why (Shown text) × WroteShort out out_new text)) × (err_new ≡ err))
       ⊎ (((line : List ℕ) × (MayComplain line × WroteShort err err_new line)) × (out_new ≡ out))
 
   -- what each status says
@@ -37,6 +39,11 @@ IsDue Why status = (a : Answer) × (Why a × (status ≡ status_of a))
 
 -- The table: what each status says; and where no fault is counted and these facts are told of what lies outside, the status
 -- is the one that is due by what must come of them.
-pub record Table {F : Type 0} (name : List ℕ) (Why : Answer → Type 0) (Known : F → Type 0) (Must : F → Answer → Type 0) (out out_new err err_new : Held) (status : ℕ) : Type 0 where
+pub record Table {F : Type 0} (name : List ℕ) (Why : Answer → Type 0) (Known : F → Type 0)
+    (Must : F → Answer → Type 0) (out out_new err err_new : Held) (status : ℕ) : Type 0 where
   pub rows : Rows name Why out out_new err err_new status
-  pub exact : (facts : F) → Known facts → Quiet out.faults out_new.faults → Quiet err.faults err_new.faults → IsDue (Must facts) status
+  pub exact : (facts : F)
+      → Known facts
+      → Quiet out.faults out_new.faults
+      → Quiet err.faults err_new.faults
+      → IsDue (Must facts) status

@@ -1,5 +1,5 @@
 use Rattle.cread.specs.Names.{word_by}
-use Rattle.cread.proofs.Widths.{same_word}
+use Rattle.bits_core.proofs.Words.{same_word}
 use Rattle.cread.proofs.names.word_of.Goals as goal
 
 pub returns : goal.returns

@@ -1,7 +1,6 @@
-use Rattle.std.proofs.Common.{sym, ap, ◌∙◌, subst}
+use Rattle.std.proofs.Common.{sym, subst}
 use Rattle.std.proofs.lemmas.Result.{err_from_is_err_and}
-use Rattle.cmeaning.specs.Valid.{IsValid}
-use Rattle.ctext.specs.Text.{text_of}
+use Rattle.cread.specs.Answer.{IsTreeOf}
 use Rattle.cread.proofs.Whole.{not_failed, not_true, read_is}
 use Rattle.cread.proofs.read.read_c.Goals as goal
 
@@ -11,15 +10,12 @@ returns-in_err-f-clause-only c = λ f tree.
     let g = not_failed c.in_err-f.field-0.0 f c.args.bytes.now tree.valid tree.text (c.in_err-f.ensures {u = tt}) in
     rw (p.1, p.2) g
 
-pub returns-then-not-right-clause-only : goal.returns-then-not-right-clause-only
-returns-then-not-right-clause-only c = λ f tree.
+pub returns-then-not-stands-clause-only : goal.returns-then-not-stands-clause-only
+returns-then-not-stands-clause-only c = λ f tree.
     let same = read_is f c.in_ok-f.f c.args.bytes.now tree.valid tree.text (c.in_ok-f.ensures {u = tt}) in
-    absurd (not_true c.in_ok-right.right c.if-not-right.true ((c.in_ok-right.ensures {u = tt}).1 (subst IsValid (sym same) tree.valid)))
-
-pub returns-then-not-same-clause-only : goal.returns-then-not-same-clause-only
-returns-then-not-same-clause-only c = λ f tree.
-    let same = read_is f c.in_ok-f.f c.args.bytes.now tree.valid tree.text (c.in_ok-f.ensures {u = tt}) in
-    absurd (not_true c.in_ok-same.same c.if-not-same.true ((c.in_ok-same.ensures {u = tt}).1 (tree.text ∙ ap text_of (sym same))))
+    let there = subst (IsTreeOf c.args.bytes.now) (sym same) tree in
+    absurd (not_true c.in_ok-stands.stands c.if-not-stands.true ((c.in_ok-stands.ensures {u = tt}).1 there))
 
 pub returns-clause-only : goal.returns-clause-only
-returns-clause-only c = λ f tree. read_is f c.in_ok-f.f c.args.bytes.now tree.valid tree.text (c.in_ok-f.ensures {u = tt})
+returns-clause-only c = λ f tree.
+    read_is f c.in_ok-f.f c.args.bytes.now tree.valid tree.text (c.in_ok-f.ensures {u = tt})

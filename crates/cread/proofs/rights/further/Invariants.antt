@@ -5,4 +5,5 @@ use Rattle.cread.specs.Words.{behind, many_by}
 use Rattle.cread.proofs.rights.further.Given as goal
 
 abbrev pub invariant-loop : goal.invariant-loop
-invariant-loop l = behind l.found (many_by (further_item (scope_of l.f)) (l.end - l.counter) l.rest) ≡ behind l.initial.found (many_by (further_item (scope_of l.f)) (length l.bytes) l.bytes)
+invariant-loop l = behind l.found (many_by (further_item (scope_of l.f)) (l.end - l.counter) l.rest)
+    ≡ behind l.initial.found (many_by (further_item (scope_of l.f)) (length l.bytes) l.bytes)

@@ -5,10 +5,14 @@ use Rattle.cread.specs.Statements.{statement_at, spaced_by, arm_by}
 use Rattle.cread.proofs.statements.+lines.Given as goal
 
 abbrev pub invariant-body-loop : goal.invariant-body-loop
-invariant-body-loop l = behind l.found (many_by (spaced_by l.arm (statement_at (scope_of l.f) l.levels)) (l.end - l.counter) l.rest) ≡ many_by (spaced_by l.arm (statement_at (scope_of l.f) l.levels)) (length l.bytes) l.bytes
+invariant-body-loop l = behind l.found
+    (many_by (spaced_by l.arm (statement_at (scope_of l.f) l.levels)) (l.end - l.counter) l.rest)
+    ≡ many_by (spaced_by l.arm (statement_at (scope_of l.f) l.levels)) (length l.bytes) l.bytes
 
 abbrev pub invariant-arms-loop : goal.invariant-arms-loop
-invariant-arms-loop l = behind l.found (many_by (arm_by (statement_at (scope_of l.f) l.levels)) (l.end - l.counter) l.rest) ≡ many_by (arm_by (statement_at (scope_of l.f) l.levels)) (length l.bytes) l.bytes
+invariant-arms-loop l = behind l.found
+    (many_by (arm_by (statement_at (scope_of l.f) l.levels)) (l.end - l.counter) l.rest)
+    ≡ many_by (arm_by (statement_at (scope_of l.f) l.levels)) (length l.bytes) l.bytes
 
 abbrev pub decreases-statement : goal.decreases-statement
 decreases-statement l = 10 * l.levels
@@ -28,6 +32,9 @@ decreases-arm l = 10 * l.levels + 3
 abbrev pub decreases-arms : goal.decreases-arms
 decreases-arms l = 10 * l.levels + 4
 
+abbrev pub decreases-all_arms : goal.decreases-all_arms
+decreases-all_arms l = 10 * l.levels + 5
+
 abbrev pub decreases-branch : goal.decreases-branch
 decreases-branch l = 10 * l.levels + 5
 
@@ -41,7 +48,7 @@ abbrev pub decreases-until : goal.decreases-until
 decreases-until l = 10 * l.levels + 5
 
 abbrev pub decreases-switch : goal.decreases-switch
-decreases-switch l = 10 * l.levels + 5
+decreases-switch l = 10 * l.levels + 6
 
 abbrev pub decreases-behind_word : goal.decreases-behind_word
-decreases-behind_word l = 10 * l.levels + 6
+decreases-behind_word l = 10 * l.levels + 7

@@ -4,4 +4,5 @@ use Rattle.cread.proofs.Fronts.{skip_is}
 use Rattle.cread.proofs.words.skip.Goals as goal
 
 pub returns : goal.returns
-returns c = skip_is c.args.word.now c.args.bytes.now c.strip_prefix.result (strip_prefix_is Decides-eqb c.args.bytes.now c.args.word.now c.strip_prefix.result c.strip_prefix.ensures.cases)
+returns c = skip_is c.args.word.now c.args.bytes.now c.strip_prefix.result
+    (strip_prefix_is Decides-eqb c.args.bytes.now c.args.word.now c.strip_prefix.result c.strip_prefix.ensures.cases)

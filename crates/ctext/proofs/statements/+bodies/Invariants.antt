@@ -7,10 +7,14 @@ use Rattle.ctext.specs.Statements.{body_text, arms_text}
 use Rattle.ctext.proofs.statements.+bodies.Given as goal
 
 abbrev pub invariant-print_body-loop-s : goal.invariant-print_body-loop-s
-invariant-print_body-loop-s l = l.out.items ++ body_text (scope_of l.f) (drop l.s-index l.body) l.indent ≡ l.initial.out.items ++ body_text (scope_of l.f) l.body l.indent
+invariant-print_body-loop-s l =
+    l.out.items ++ body_text (scope_of l.f) (drop l.s-index l.body) l.indent
+    ≡ l.initial.out.items ++ body_text (scope_of l.f) l.body l.indent
 
 abbrev pub invariant-print_arms-loop-arm : goal.invariant-print_arms-loop-arm
-invariant-print_arms-loop-arm l = l.out.items ++ arms_text (scope_of l.f) (drop l.arm-index l.arms) l.indent ≡ l.initial.out.items ++ arms_text (scope_of l.f) l.arms l.indent
+invariant-print_arms-loop-arm l =
+    l.out.items ++ arms_text (scope_of l.f) (drop l.arm-index l.arms) l.indent
+    ≡ l.initial.out.items ++ arms_text (scope_of l.f) l.arms l.indent
 
 abbrev depth : List Stmt → ℕ
 depth body = most size-Stmt body

@@ -7,4 +7,4 @@ use Rattle.listing_again.proofs.again.print_listing.Goals as goal
 pub returns-clause-again : goal.returns-clause-again
 returns-clause-again c =
     IfOk-weaker c.print_listing.result _ _
-      (λ text printed some. ap reading printed ∙ read_again some.0 c.args.listing.now some.1) c.print_listing.ensures
+    (λ text printed some. ap reading printed ∙ read_again some.0 c.args.listing.now some.1) c.print_listing.ensures

@@ -27,7 +27,7 @@ returns-else-any_holds c =
     let x = pos (q.offset % size q.ram) in
     let above : to_z w128 (of_z w128 c.from-above.result) ≡ pos (q.offset % size q.ram) = omega (arith, ints, c.from-above.ensures, c.reduce.ensures.value) in
     let below : to_z w128 (of_z w128 (to_z w128 (of_z w128 (to_z w128 (of_z w128 c.from-above.result) -ℤ to_z w128 (of_z w128 c.from.result))) -ℤ pos 1)) ≡ pos (q.offset % size q.ram) -ℤ pos (size q.ram) =
-      omega (arith, ints, c.from-above.ensures, c.from.ensures, c.reduce.ensures.value, c.reduce.ensures.inside)
+    omega (arith, ints, c.from-above.ensures, c.from.ensures, c.reduce.ensures.value, c.reduce.ensures.inside)
     in
     let found = c.any_holds.ensures ∙ ap (λ (ys : List FrameVariable). any_holds ys (to_z w128 (of_z w128 c.from-above.result))) c.as_slice-variables.ensures ∙ ap (λ (z : ℤ). any_holds vs z) above in
     c.any_holds-else-any_holds.ensures

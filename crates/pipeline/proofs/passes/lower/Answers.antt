@@ -1,9 +1,9 @@
 use Rattle.std.proofs.Common.{◌∙◌, arith}
-use Rattle.pipeline.proofs.Forms.{laid_is, lowers}
+use Rattle.pipeline.proofs.Forms.{laid_is, lowers, lowers_to}
 use Rattle.pipeline.proofs.passes.lower.Goals as goal
 
 pub plain-requires-clause-code : goal.plain-requires-clause-code
-plain-requires-clause-code c = c.requires.read.formed.apart
+plain-requires-clause-code c = c.requires.read.apart
 
 pub plain-requires-clause-spaces : goal.plain-requires-clause-spaces
 plain-requires-clause-spaces c = let few = c.requires.read.limited.spaces in omega (arith, few)
@@ -14,5 +14,9 @@ returns c =
     let blocks = c.args.accepted.now.flow in
     let atoms = c.args.accepted.now.atoms in
     let passed = c.requires in
-    let is = laid_is l blocks atoms c.in_ok-name.name c.result_width.result c.in_ok-code.code c.in_ok-function.function c.in_ok-function.ensures (c.in_ok-name.ensures ∙ c.as_slice.ensures) c.result_width.ensures c.in_ok-code.ensures in
-    lowers l passed.read passed.ops passed.built blocks passed.blocks passed.no_fault passed.few atoms passed.atoms c.in_ok-function.function is
+    let is = laid_is l blocks atoms c.in_ok-name.name c.result_width.result c.in_ok-code.code
+        c.in_ok-function.function c.in_ok-function.ensures (c.in_ok-name.ensures ∙ c.as_slice.ensures)
+            c.result_width.ensures c.in_ok-code.ensures in
+    lowers_to l c.in_ok-function.function _ is
+        (lowers l passed.read passed.ops passed.built blocks passed.blocks passed.no_fault passed.few atoms
+            passed.atoms)

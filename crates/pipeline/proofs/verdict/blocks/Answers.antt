@@ -3,7 +3,7 @@ use Rattle.pcode_model.specs.declared.tables.TableAt.{TableAt}
 use Rattle.pcode_model.specs.Flow.{NoFault}
 use Rattle.flow.specs.Answer.{IsFlowFault}
 use Rattle.pipeline.specs.Verdict.{Stops}
-use Rattle.pipeline.specs.declared.refusal.Refusal.{Refusal}
+use Rattle.refusals.specs.declared.refusal.Refusal.{Refusal}
 use Rattle.pipeline.proofs.Forms.{flow_stops}
 use Rattle.pipeline.proofs.verdict.blocks.Goals as goal
 
@@ -16,4 +16,5 @@ pub returns-clause-stops : goal.returns-clause-stops
 returns-clause-stops c =
     let P : List TableAt → Type 0 = λ t. IsFlowFault c.args.listing.now t c.in-Err.fault in
     let R : Refusal → Type 0 = λ r. Stops c.args.listing.now r in
-    subst R (sym c.from.ensures) (flow_stops c.args.listing.now c.in-Err.fault (subst P c.new-tables.ensures c.in-Err.ensures.fault))
+    subst R (sym c.from.ensures) (flow_stops c.args.listing.now c.in-Err.fault
+        (subst P c.new-tables.ensures c.in-Err.ensures.fault))

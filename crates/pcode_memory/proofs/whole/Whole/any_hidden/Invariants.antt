@@ -9,6 +9,6 @@ abbrev pub invariant-loop : goal.invariant-loop
 invariant-loop l = record {
   inside : l.here ≤ l.shape.last;
   none :
-    any_at (size l.shape) (is_hidden l.context.listing.now (whole_of l.self) l.space) l.here (l.count - l.counter)
-    ≡ any_at (size l.shape) (is_hidden l.context.listing.now (whole_of l.self) l.space) l.address l.count;
+      any_at (size l.shape) (is_hidden l.context.listing.now (whole_of l.self) l.space) l.here (l.count - l.counter)
+      ≡ any_at (size l.shape) (is_hidden l.context.listing.now (whole_of l.self) l.space) l.address l.count;
 }

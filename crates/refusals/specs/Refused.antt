@@ -1,12 +1,12 @@
--- A fault of a pass as a refusal of the input. This project's own.
+-- A fault of a pass as a refusal of the input: want of memory is the refusal's own. This project's own.
 use Rattle.pcodetext.specs.declared.fault.TextFault.{TextFault}
 use Rattle.pcodetext.specs.declared.fault.TextFault.TheVariants as text
 use Rattle.flow.specs.declared.answer.FlowFault.{FlowFault}
 use Rattle.flow.specs.declared.answer.FlowFault.TheVariants as flow
 use Rattle.stackvars.specs.declared.accessed.AtomFault.{AtomFault}
 use Rattle.stackvars.specs.declared.accessed.AtomFault.TheVariants as atoms
-use Rattle.pipeline.specs.declared.refusal.Refusal.{Refusal}
-use Rattle.pipeline.specs.declared.refusal.Refusal.TheVariants as refusal
+use Rattle.refusals.specs.declared.refusal.Refusal.{Refusal}
+use Rattle.refusals.specs.declared.refusal.Refusal.TheVariants as refusal
 
 abbrev pub of_text : TextFault → Refusal
 of_text text.Memory = refusal.Memory

@@ -1,7 +1,7 @@
 //! The words of the operations.
 
 ghost use Rattle.std.specs.Prelude.{◌≡◌};
-ghost use Rattle.listing_print.specs.Words.{analysis_word, binary_word, conversion_word, divide_word, left_out_word, unary_word};
+ghost use Rattle.operations.specs.Words.{analysis_word, binary_word, conversion_word, divide_word, left_out_word, unary_word};
 
 use bits_core::{Binary, Divide, Unary};
 use pcode_model::{AnalysisOp, FloatConversion, LeftOutOp};

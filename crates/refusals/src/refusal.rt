@@ -1,33 +1,40 @@
-// Why an input isn't printed.
+//! Why an input is refused.
 
 ghost use Rattle.std.specs.Prelude.{◌≡◌};
-ghost use Rattle.pipeline.specs.Refused.{of_atoms, of_flow, of_text};
+ghost use Rattle.refusals.specs.Refused.{of_atoms, of_flow, of_text};
 
 use flow::FlowFault;
 use pcode_model::OpFault;
 use pcodetext::TextFault;
 use stackvars::AtomFault;
 use std::alloc::AllocError;
+use thiserror::Error;
 
-/// Why there is no C for an input. Where a fault of a pass is want of memory, `Memory` stands, and never the pass's own.
-#[derive(Clone, Copy, Debug, PartialEq, Eq)]
+/// Why an input is refused. Where a fault of a pass is want of memory, `Memory` stands, and never the pass's own.
+#[derive(Clone, Copy, Debug, PartialEq, Eq, Error)]
 pub enum Refusal {
     /// The first fault of the text.
+    #[error("the text of the listing has a fault")]
     Text(TextFault),
     /// The first op that breaks a rule.
+    #[error("an op breaks a rule")]
     Op(OpFault),
     /// The listing isn't one of those that are built so far.
+    #[error("the listing is not built")]
     NotBuilt,
     /// The first fault of the flow, or too many blocks.
+    #[error("the flow has a fault, or too many blocks")]
     Flow(FlowFault),
     /// Too many ranges are accessed.
+    #[error("too many ranges are accessed")]
     Atoms(AtomFault),
     /// Memory ran out.
+    #[error("memory ran out")]
     Memory,
 }
 
 impl From<TextFault> for Refusal {
-    ghost use Rattle.pipeline.specs.Refused.{of_text};
+    ghost use Rattle.refusals.specs.Refused.{of_text};
 
     ghost from_gives = { λ fault refusal. refusal ≡ of_text fault };
 
@@ -40,7 +47,7 @@ impl From<TextFault> for Refusal {
 }
 
 impl From<OpFault> for Refusal {
-    ghost use Rattle.pipeline.specs.declared.refusal.Refusal.TheVariants.{Op};
+    ghost use Rattle.refusals.specs.declared.refusal.Refusal.TheVariants.{Op};
 
     ghost from_gives = { λ fault refusal. refusal ≡ Op fault };
 
@@ -50,7 +57,7 @@ impl From<OpFault> for Refusal {
 }
 
 impl From<FlowFault> for Refusal {
-    ghost use Rattle.pipeline.specs.Refused.{of_flow};
+    ghost use Rattle.refusals.specs.Refused.{of_flow};
 
     ghost from_gives = { λ fault refusal. refusal ≡ of_flow fault };
 
@@ -63,7 +70,7 @@ impl From<FlowFault> for Refusal {
 }
 
 impl From<AtomFault> for Refusal {
-    ghost use Rattle.pipeline.specs.Refused.{of_atoms};
+    ghost use Rattle.refusals.specs.Refused.{of_atoms};
 
     ghost from_gives = { λ fault refusal. refusal ≡ of_atoms fault };
 
@@ -76,7 +83,7 @@ impl From<AtomFault> for Refusal {
 }
 
 impl From<AllocError> for Refusal {
-    ghost use Rattle.pipeline.specs.declared.refusal.Refusal.TheVariants.{Memory};
+    ghost use Rattle.refusals.specs.declared.refusal.Refusal.TheVariants.{Memory};
 
     ghost from_gives = { λ _ refusal. refusal ≡ Memory };
 
@@ -86,7 +93,7 @@ impl From<AllocError> for Refusal {
 }
 
 impl From<bits_core::Memory> for Refusal {
-    ghost use Rattle.pipeline.specs.declared.refusal.Refusal.TheVariants.{Memory};
+    ghost use Rattle.refusals.specs.declared.refusal.Refusal.TheVariants.{Memory};
 
     ghost from_gives = { λ _ refusal. refusal ≡ Memory };
 
