@@ -15,6 +15,6 @@ pub returns-in-Err-read_lines-clause-bad : goal.returns-in-Err-read_lines-clause
 returns-in-Err-read_lines-clause-bad c =
     let bytes = c.args.bytes.now in
     let P : PartialListing → Type 0 =
-        λ b. IsFaultOf (concluded fault_at finished (progress step b bytes)) c.stop_fault.result in
+    λ b. IsFaultOf (concluded fault_at finished (progress step b bytes)) c.stop_fault.result in
     subst P c.in-Ok.ensures
     (c.stop_fault.ensures (progress step c.in-Ok.said bytes) c.in-Err-read_lines.ensures.stopped)
