@@ -21,7 +21,7 @@ use Rattle.pcode_model.specs.declared.rules.OpWhy.TheVariants.{BadSpace, TooWide
 use Rattle.pcode_model.specs.Atoms.{IsLocal, one_range}
 use Rattle.pcode_model.specs.Flow.{IsIn}
 use Rattle.pcode_model.specs.Ranges.{leaves}
-use Rattle.pcode_model.specs.Rules.{any_leaves, any_wide, breaks, first_bad, input_ranges, inputs_stand, is_constant, is_in_first_ram, is_out_of_space, is_too_wide, is_wide, leaves_space, names_address, output_is_constant, output_leaves, output_wide, past_first, rules}
+use Rattle.pcode_model.specs.Rules.{any_leaves, breaks, first_bad, input_ranges, inputs_stand, is_constant, is_in_first_ram, is_out_of_space, is_too_wide, leaves_space, names_address, output_is_constant, output_leaves, past_first, rules}
 use Rattle.pcode_model.specs.Spaces.{first_ram, kind_of, or, register_space, same_kind, size_of, unique_space}
 use Rattle.pcode_model.specs.Step.{proto_in, proto_of}
 use Rattle.pcode_model.specs.WellFormed as M
@@ -36,6 +36,7 @@ use Rattle.plaincode.proofs.Nodes.{nearest_is}
 use Rattle.plain_form.proofs.Accessed.{accessed_named, behind, in_either, in_front}
 use Rattle.plain_form.proofs.Form.{accessed_equal_or_apart, accessed_sized, spaces_differ}
 use Rattle.plain_form.proofs.Formed.{IsFormed, IsInput, IsWritten, Inside}
+use Rattle.plain_form.proofs.Plain.{narrow_in, output_narrow}
 use Rattle.pcode_laws.proofs.Rules.{breaks_none, neither}
 use Rattle.plain_form.proofs.Standing.{StandsIn}
 use Rattle.pipeline.proofs.Spaces.{constant_is, first_constant, kind_of_first, low, only}
@@ -153,14 +154,6 @@ code_in l (i ∷ code) v is = elim (in_either (ops_ranges l i.ops) (code_ranges 
 
 -- ---- what the rules say of the ranges of an op
 
-narrow_in : (vs : List Varnode) → any_wide vs ≡ false → (v : Varnode) → IsIn v vs → v.size ≤ 16
-narrow_in vs h v is = ltb-false 16 v.size (each vs h v is)
-  where
-    each : (vs : List Varnode) → any_wide vs ≡ false → (v : Varnode) → IsIn v vs → is_wide v ≡ false
-    each [] h v is = absurd is
-    each (x ∷ vs) h v (inl e) = let P : Varnode → Type 0 = λ y. is_wide y ≡ false in subst P (sym e) (neither _ _ h).0
-    each (x ∷ vs) h v (inr is) = each vs (neither _ _ h).1 v is
-
 stays_in : (l : Listing) (vs : List Varnode)
     → any_leaves l vs ≡ false
     → (v : Varnode)
@@ -170,12 +163,6 @@ stays_in l [] h v is = absurd is
 stays_in l (x ∷ vs) h v (inl e) = let P : Varnode → Type 0 = λ y. leaves_space l y ≡ false in
     subst P (sym e) (neither _ _ h).0
 stays_in l (x ∷ vs) h v (inr is) = stays_in l vs (neither _ _ h).1 v is
-
-output_narrow : (out : Option Varnode) → output_wide out ≡ false → (v : Varnode) → IsIn v (one_range out) → v.size ≤ 16
-output_narrow None h v is = absurd is
-output_narrow (Some z) h v (inl e) = let P : Varnode → Type 0 = λ y. y.size ≤ 16 in
-    subst P (sym e) (ltb-false 16 z.size h)
-output_narrow (Some z) h v (inr is) = absurd is
 
 output_stays : (l : Listing) (out : Option Varnode)
     → output_leaves l out ≡ false

@@ -46,7 +46,8 @@ node_of op h = tt
 not_wide : (n : ℕ) → nat_lt 16 n ≡ false → n ≤ 16
 not_wide n h = grind (arith, nat_tests)
 
-narrow_in : (vs : List Varnode) → any_wide vs ≡ false → (v : Varnode) → IsIn v vs → v.size ≤ 16
+-- By the op check each input has at most 16 bytes.
+pub narrow_in : (vs : List Varnode) → any_wide vs ≡ false → (v : Varnode) → IsIn v vs → v.size ≤ 16
 narrow_in [] h v is = absurd is
 narrow_in (x ∷ vs) h v (inl e) = let P : Varnode → Type 0 = λ y. y.size ≤ 16 in
     subst P (sym e) (not_wide x.size (neither _ _ h).0)
@@ -314,10 +315,11 @@ local_kind l ranges v Ram h is = absurd (cc)
 local_kind l ranges v Register h is = is
 local_kind l ranges v Unique h is = is
 
-wide_output : (out : Option Varnode) → output_wide out ≡ false → (v : Varnode) → IsIn v (one_range out) → v.size ≤ 16
-wide_output None h v is = absurd is
-wide_output (Some z) h v (inl e) = let P : Varnode → Type 0 = λ y. y.size ≤ 16 in subst P (sym e) (not_wide z.size h)
-wide_output (Some z) h v (inr is) = absurd is
+-- By the op check the output has at most 16 bytes.
+pub output_narrow : (out : Option Varnode) → output_wide out ≡ false → (v : Varnode) → IsIn v (one_range out) → v.size ≤ 16
+output_narrow None h v is = absurd is
+output_narrow (Some z) h v (inl e) = let P : Varnode → Type 0 = λ y. y.size ≤ 16 in subst P (sym e) (not_wide z.size h)
+output_narrow (Some z) h v (inr is) = absurd is
 
 output_off : (l : Listing) (out : Option Varnode)
     → output_off_ram l out ≡ true
@@ -375,7 +377,7 @@ module _ (l : Listing) (good : first_bad l ≡ None) (sup : IsSupported l) (form
   unfolding stand
   written v is =
       let output = formed.outputs i op stand v is in
-      let narrow = wide_output op.out (neither _ _ wide).1 v is in
+      let narrow = output_narrow op.out (neither _ _ wide).1 v is in
       let off = output_off l op.out (and_parts _ _ (and_parts _ _ facts).1).1 v is in (
         (output.some, narrow),
         output_by l ranges v (kind_of l v.space) refl output.variable off

@@ -1,5 +1,4 @@
 pub mod Members
-pub mod Words
 pub mod Last
 pub mod Nodes
 pub mod Operands

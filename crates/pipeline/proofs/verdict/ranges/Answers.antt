@@ -20,8 +20,8 @@ atoms-requires-clause-apart c =
 pub atoms-requires-clause-instructions : goal.atoms-requires-clause-instructions
 atoms-requires-clause-instructions c = c.requires.formed.apart
 
-pub returns-clause-stops : goal.returns-clause-stops
-returns-clause-stops c =
+pub returns-in-Err-clause-stops : goal.returns-in-Err-clause-stops
+returns-in-Err-clause-stops c =
     let l = c.args.listing.now in
     let R : Refusal → Type 0 = λ r. Stops l r in
     subst R (sym c.from.ensures)

@@ -1,9 +1,9 @@
 use Rattle.std.proofs.Common.{◌≡◌, ◌%◌, ap, ◌∙◌}
+use Rattle.bits_core.proofs.Words.{same_word}
 use Rattle.bits_core.specs.declared.word.Width.{Width}
 use Rattle.bits_core.specs.Value.{limit}
 use Rattle.cmeaning.specs.declared.tree.Expr.TheVariants as E
 use Rattle.plaincode.specs.Nodes.{width_by, word_by}
-use Rattle.plaincode.proofs.Words.{same_word}
 use Rattle.plaincode.proofs.expressions.constant.Goals as goal
 
 pub returns : goal.returns
