@@ -96,7 +96,7 @@ before_protos s f z front spaces =
     let none = f.no_func z in
     let e = f.early none in
     up_to_protos front spaces s.protos s.func s.callees s.fixed _ s.ended (none_is s.func none) e.callees e.fixed
-      (no_code s f e.last) (not_ended s f e.last)
+    (no_code s f e.last) (not_ended s f e.last)
     ∙ ap (λ (ps : List Proto). front ++ map (proto_line spaces) ps) (nil_from_length s.protos z) ∙ append-nil front
 
 -- ---- line by line

@@ -1,10 +1,9 @@
 -- What the form of a line has: numbers that fit, and names that stand for what they name.
-use Rattle.std.proofs.Common.{◌≡◌, ◌∙◌, ◌<◌, ◌^◌, ℕ, Bool, true, false, List, [], ◌∷◌, ◌++◌, length, map, ap, sym, refl, arith}
+use Rattle.std.proofs.Common.{◌≡◌, ◌∙◌, ◌<◌, ◌^◌, ℕ, Bool, true, false, List, [], ◌∷◌, length, map, ap, refl, arith}
 use Rattle.std.specs.Prelude.{◌==◌, ◌&&◌, codes, Option, Some, None, IfSome, if◌then◌else◌}
 use Rattle.std.specs.List.{AllByRecursion}
 use Rattle.std.specs.Option.{option_map}
 use Rattle.std.specs.Str.{bytes_eq}
-use Rattle.std.proofs.lemmas.Slice.Eq.{bytes_eq-Decides}
 use Rattle.listing_lines.specs.Text.{Line, parts_of}
 use Rattle.listing_lines.specs.Tokens.{bytes_of, decimal_of, hexadecimal_of, is_name}
 use Rattle.pcode_model.specs.declared.listing.Space.{Space}
@@ -12,7 +11,6 @@ use Rattle.pcode_model.specs.declared.listing.SpaceKind.{SpaceKind}
 use Rattle.pcode_model.specs.declared.listing.SpaceKind.TheVariants.{Constant}
 use Rattle.pcode_model.specs.declared.listing.Proto.{Proto}
 use Rattle.pcode_model.specs.declared.opcode.Opcode.{Opcode}
-use Rattle.pcode_model.specs.declared.opcode.Opcode.TheVariants as opcode
 use Rattle.pcode_model.specs.Spaces.{same_kind}
 use Rattle.pcodetext.specs.declared.partial_listing.PartialListing.{PartialListing}
 use Rattle.pcodetext.specs.declared.form.BytesLine.{BytesLine}

@@ -4,7 +4,7 @@ use Rattle.std.specs.Prelude.{◌||◌, codes, nat_le, Option, Some, None, if◌
 use Rattle.std.specs.List.{AllByRecursion, list_any}
 use Rattle.std.specs.Option.{is_none, option_map}
 use Rattle.std.proofs.lemmas.Bool.{not-false}
-use Rattle.listing_lines.specs.Text.{Line, lines_of}
+use Rattle.listing_lines.specs.Text.{Line}
 use Rattle.listing_print.specs.Printed.{at_line, bytes_line, function_line, op_line, proto_line, space_line, stack_line, text_of, version_line}
 use Rattle.pcode_model.specs.declared.listing.Function.{Function}
 use Rattle.pcode_model.specs.declared.listing.Instruction.{Instruction}
@@ -261,17 +261,17 @@ text_again : (s : PartialListing) (version : ℕ) (func : Function)
     → reading (text_of (listing_of s version func)) ≡ Good (listing_of s version func)
 text_again s version func e v f h =
     ap reading (text_is s version func e v f)
-      ∙ ap (λ (ls : List Line). concluded fault_at finished (advanced step (Going 1 start) ls))
-        (lines_are (said_lines s) h.clean)
-      ∙ ap (concluded fault_at finished) h.read
+    ∙ ap (λ (ls : List Line). concluded fault_at finished (advanced step (Going 1 start) ls))
+    (lines_are (said_lines s) h.clean)
+    ∙ ap (concluded fault_at finished) h.read
     ∙ ap (λ (b : Bool). if b then whole s h.number s.version s.func else Bad (Syntax h.number)) e
     ∙ ap (λ (o : Option ℕ). whole s h.number o s.func) v ∙ ap (whole s h.number (Some version)) f
 
-end_again : (n : ℕ) (s : PartialListing) (l : Listing)
+whole_again : (n : ℕ) (s : PartialListing) (l : Listing)
     → IsReread s
     → finished n s ≡ Good l
     → reading (text_of l) ≡ Good l
-end_again n s l h = by_end s.ended s.version s.func refl refl refl
+whole_again n s l h = by_end s.ended s.version s.func refl refl refl
   where
     by_end : (over : Bool) (version : Option ℕ) (func : Option Function)
         → s.ended ≡ over
@@ -289,4 +289,4 @@ end_again n s l h = by_end s.ended s.version s.func refl refl refl
 pub read_again : (bytes : List ℕ) (l : Listing) → reading bytes ≡ Good l → reading (text_of l) ≡ Good l
 read_again =
     read_keeps step IsReread step_reread fault_at finished (λ l. reading (text_of l) ≡ Good l)
-    end_again start start_reread
+    whole_again start start_reread

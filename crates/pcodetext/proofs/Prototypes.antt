@@ -19,7 +19,6 @@ use Rattle.pcodetext.specs.Faults.{has_bad_size, is_bad_argument, is_bad_kept, i
 use Rattle.pcodetext.specs.Meaning.{storage_of, varnode}
 use Rattle.pcodetext.specs.Tables.{proto_name}
 use Rattle.pcodetext.proofs.Distinct.{distinct_snoc}
-use Rattle.std.proofs.lemmas.List.{nil_from_length}
 use Rattle.pcodetext.proofs.Passing.{all_snoc, left_false, length_snoc, never, right_false, zero_false}
 use Rattle.pcodetext.proofs.Ranges.{apart_from_result, apart_from_stack, register_by, register_is, register_kind}
 use Rattle.pcodetext.proofs.Spaces.{complete_is}

@@ -1,5 +1,5 @@
 -- What holds of every listing that is read.
-use Rattle.std.proofs.Common.{◌≡◌, ◌∙◌, ◌<◌, ◌+◌, ◌⊎◌, ℕ, Bool, true, false, List, [], ◌∷◌, ◌++◌, length, ap, sym, refl, arith, subst}
+use Rattle.std.proofs.Common.{◌≡◌, ◌∙◌, ◌<◌, ◌⊎◌, ℕ, Bool, true, false, List, [], ◌∷◌, ◌++◌, length, ap, sym, refl, arith, subst}
 use Rattle.std.specs.Prelude.{◌==◌, Option, Some, None, IfSome, IfOk, Result, Ok, Err, if◌then◌else◌}
 use Rattle.std.specs.Option.{is_none, is_some, option_to_list}
 use Rattle.listing_lines.specs.Text.{Line}

@@ -22,6 +22,7 @@ pub struct ListingReader {
 
 impl LineReader for ListingReader {
     type State = PartialListing;
+
     type Why = Why;
 
     ghost can_read = { λ _. ⊤ };
