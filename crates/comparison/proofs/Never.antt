@@ -140,9 +140,11 @@ module _ (gives : Bool) (source target : ℕ → Trace) (grows : Grows source) (
           → (left_away (source n).over ≡ None) × IsPrefix (source n).events (source m).events
       by_front_of (inl f) = (ended (source n).over refl f, prefix_of_front (source n) (source m) f)
       by_front_of (inr f) =
-          let same : source m ≡ source n = front_of_over (source m) (source n) Outside out f in
-          (ap left_away (sym (ap (λ (v : Trace). v.over) same) ∙ out), subst
-              (λ (v : Trace). IsPrefix v.events (source m).events) same ([], sym_append (source m).events))
+          let same : source m ≡ source n = front_of_over (source m) (source n) Outside out f in (
+            ap left_away (sym (ap (λ (v : Trace). v.over) same) ∙ out),
+            subst
+                (λ (v : Trace). IsPrefix v.events (source m).events) same ([], sym_append (source m).events),
+          )
         where
           sym_append : (xs : List Event) → xs ≡ xs ++ []
           sym_append [] = refl
@@ -153,15 +155,15 @@ module _ (gives : Bool) (source target : ℕ → Trace) (grows : Grows source) (
       let so = left_none m out in
       let shown = agree.until m out in
       by_events (within (source n)) (target n) (target shown.0) so.0
-          (prefix_trans (source n).events (source m).events (target shown.0).events so.1 shown.1)
-              (fronts target on n shown.0)
+      (prefix_trans (source n).events (source m).events (target shown.0).events so.1 shown.1)
+      (fronts target on n shown.0)
 
   comparable : NeverEnds Outside source → Comparable (within (source n)) (target n)
   comparable never =
       let both : LooseTwoWay source target = loose_two_way_as gives source target (agree.same never) in
       let there = both.there n in
       subst (λ (s : Trace). Comparable s (target n)) (sym (within_is (source n) (never n)))
-          (by_front (source n) (target n) (target there.0) there.1 (fronts target on n there.0))
+      (by_front (source n) (target n) (target there.0) there.1 (fronts target on n there.0))
 
   -- what one run shows after n steps is a front of what the other shows, or the other way round
   pub never_apart : Says (within (source n)) (within (target n)) Apart → ⊥

@@ -11,7 +11,9 @@ none_left front i past = omega (arith, length-drop i front, past)
 pub all_compared : (front events : List Event) (i : ℕ)
     → length front ≤ i
     → IsPrefix (map event_of (drop i front)) (map event_of (drop i events))
-all_compared front events i past =
-    (map event_of (drop i events), sym
-        (ap (λ (xs : List Event). map event_of xs ++ map event_of (drop i events))
-            (nil_from_length _ (none_left front i past))))
+all_compared front events i past = (
+  map event_of (drop i events),
+  sym
+      (ap (λ (xs : List Event). map event_of xs ++ map event_of (drop i events))
+      (nil_from_length _ (none_left front i past))),
+)

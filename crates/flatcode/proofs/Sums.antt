@@ -16,7 +16,7 @@ module _ (returns : ℕ → Bool) (s : Stmt) (c : Expr) where
       → n ≡ (piece_of returns s).span
   if_else_span body other is a b d e n ha hb hd he hn =
       let span : (piece_of returns s).span ≡ suc (spans (pieces_of returns body) + suc (spans (pieces_of returns other))) =
-              ap (λ (x : Stmt). (piece_of returns x).span) is ∙ ap (λ (x : Piece). x.span) (piece_of_if_else returns c body other) in
+      ap (λ (x : Stmt). (piece_of returns x).span) is ∙ ap (λ (x : Piece). x.span) (piece_of_if_else returns c body other) in
       omega (arith, span, ha, hb, hd, he, hn)
 
   pub while_span : (body : List Stmt) → s ≡ S.While c body → (a b n : ℕ)
@@ -26,5 +26,5 @@ module _ (returns : ℕ → Bool) (s : Stmt) (c : Expr) where
       → n ≡ (piece_of returns s).span
   while_span body is a b n ha hb hn =
       let span : (piece_of returns s).span ≡ suc (spans (pieces_of returns body) + 1) =
-              ap (λ (x : Stmt). (piece_of returns x).span) is ∙ ap (λ (x : Piece). x.span) (piece_of_while returns c body) in
+      ap (λ (x : Stmt). (piece_of returns x).span) is ∙ ap (λ (x : Piece). x.span) (piece_of_while returns c body) in
       omega (arith, span, ha, hb, hn)

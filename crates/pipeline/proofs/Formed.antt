@@ -148,8 +148,12 @@ code_in l (i ∷ code) v is = elim (in_either (ops_ranges l i.ops) (code_ranges 
   | inl h ↦ let p = ops_in l i.ops v h in
       record { instruction = i; op = p.0; stands = record { code_has = inl refl; ops_have = p.1.0 }; named = p.1.1 }
   | inr h ↦ let p = code_in l code v h in
-      record { instruction = p.instruction; op = p.op;
-          stands = record { code_has = inr p.stands.code_has; ops_have = p.stands.ops_have }; named = p.named }
+      record {
+        instruction = p.instruction;
+        op = p.op;
+        stands = record { code_has = inr p.stands.code_has; ops_have = p.stands.ops_have };
+        named = p.named;
+      }
 ]
 
 -- ---- what the rules say of the ranges of an op
@@ -245,9 +249,15 @@ module _ (l : Listing) (read : IsWellFormed l) (good : first_bad l ≡ None) whe
   inside v local some narrow stays =
       let within : v.offset + v.size ≤ size_of l v.space = ltb-false _ _ stays in
       let small : size_of l v.space ≤ 2 ^ 64 =
-          low l.spaces read.spaces v.space (no_constant (kind_of l v.space) local) in
-      record { some = some; narrow = narrow; low = omega (arith, within, small); inside = within;
-          home = home_of v.space local; local = local }
+      low l.spaces read.spaces v.space (no_constant (kind_of l v.space) local) in
+      record {
+        some = some;
+        narrow = narrow;
+        low = omega (arith, within, small);
+        inside = within;
+        home = home_of v.space local;
+        local = local;
+      }
 
   -- a range of the register space or of the unique space isn't in space 0
   off_constants : (v : Varnode) → is_local l v ≡ true → v.space ≡ 0 → ⊥
@@ -319,22 +329,25 @@ module _ (l : Listing) (read : IsWellFormed l) (good : first_bad l ≡ None) whe
     output v is =
         let operand = one_in IsOperand op.out formed.out v is in
         let small = one_in (IsKnown l.spaces) op.out known.out v is in
-        record { some = operand.some; variable =
-            λ e. no_output_constant op.out (not-true _ (and_parts _ _ spaces).0) v is
-                (constant_is l.spaces read.spaces v.space small e) }
+        record {
+          some = operand.some;
+          variable =
+              λ e. no_output_constant op.out (not-true _ (and_parts _ _ spaces).0) v is
+              (constant_is l.spaces read.spaces v.space small e);
+        }
 
     input_inside : (v : Varnode) → Local l op.inputs v → Inside l v
     input_inside v h =
         let at = looked_at op.code op.inputs (and_parts _ _ spaces).1 v h.local h.is in
         let stays = stays_in l (input_ranges op.code op.inputs) (neither _ _ (neither _ _ leaving).1).0 v at in
         inside v h.local (input v h.is).some (narrow_in (input_ranges op.code op.inputs) (neither _ _ wide).0 v at)
-            (local_stays v h.local stays)
+        (local_stays v h.local stays)
 
     output_inside : (v : Varnode) → Local l (one_range op.out) v → Inside l v
     output_inside v h =
         let stays = output_stays l op.out (neither _ _ (neither _ _ leaving).1).1 v h.is in
         inside v h.local (output v h.is).some (output_narrow op.out (neither _ _ wide).1 v h.is)
-            (local_stays v h.local stays)
+        (local_stays v h.local stays)
 
     pub op_inside : (v : Varnode) → IsIn v (op_ranges l op) → Inside l v
     op_inside v is = elim (in_either (locals_of l op.inputs) (output_of l op.out) v is) [
@@ -394,12 +407,12 @@ module _ (l : Listing) (read : IsWellFormed l) (good : first_bad l ≡ None) whe
   named_inside : (v : Varnode) → IsIn v (named_ranges l) → Inside l v
   named_inside v is = elim (in_either (code_ranges l l.code)
       (storage_ranges (proto_of l None).args ++ result_range (proto_of l None).gives) v is) [
-    | inl h ↦ let o = code_in l l.code v h in op_inside o.instruction o.op o.stands v o.named
-    | inr h ↦ elim (in_either (storage_ranges (proto_of l None).args) (result_range (proto_of l None).gives) v h) [
-      | inl a ↦ arguments_inside (proto_of l None).args proto_is.args v a
-      | inr r ↦ result_inside (proto_of l None).gives proto_is.gives v r
-    ]
-  ]
+        | inl h ↦ let o = code_in l l.code v h in op_inside o.instruction o.op o.stands v o.named
+        | inr h ↦ elim (in_either (storage_ranges (proto_of l None).args) (result_range (proto_of l None).gives) v h) [
+          | inl a ↦ arguments_inside (proto_of l None).args proto_is.args v a
+          | inr r ↦ result_inside (proto_of l None).gives proto_is.gives v r
+        ]
+      ]
 
   pub formed_is : IsFormed l
   formed_is = record {
@@ -453,6 +466,6 @@ module _ (l : Listing) (read : IsWellFormed l) (good : first_bad l ≡ None) whe
       by : (gives : Option Varnode)
           → IfSome gives (IsStorage l.spaces)
           → option_map (λ (width : Width). width.bytes) (width_of_result gives)
-              ≡ option_map (λ (range : Varnode). range.size) gives
+          ≡ option_map (λ (range : Varnode). range.size) gives
       by None h = refl
       by (Some v) h = ap Some (width_is v h)

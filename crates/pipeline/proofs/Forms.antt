@@ -67,23 +67,26 @@ module _
     (atoms : List Atom)
     (are : AreAccessed l atoms)
   where
-  form : code.IsPlainForm l [] blocks atoms
-  form = plain_form l good built (formed_is l read good) blocks flow fine few atoms are
+    form : code.IsPlainForm l [] blocks atoms
+    form = plain_form l good built (formed_is l read good) blocks flow fine few atoms are
 
-  are_atoms : AreAtoms l [] no_variables atoms
-  are_atoms = accessed_are_atoms l atoms (uncut l read good built) are.listed
+    are_atoms : AreAtoms l [] no_variables atoms
+    are_atoms = accessed_are_atoms l atoms (uncut l read good built) are.listed
 
-  -- All that is said of the function of the plain lowering.
-  pub lowers : Lowers l (plain_function l blocks atoms)
-  lowers = record {
-    valid = plain_valid l [] blocks atoms form are.listed.in_order
-        (atoms_long l [] atoms are_atoms (λ v acc. (accessed_inside l built (formed_is l read good) v acc).low))
-        (omega (arith, are.few)) read.named.func;
-    fits = plain_fits l [] blocks atoms form;
-    agrees = keeps.agrees l (frame_of l no_variables) [] blocks atoms form;
-    form = record { name = refl; gives = gives_is l read good;
-        params = (atoms, (are_atoms, plain_inputs l [] blocks atoms form)) };
-  }
+    -- All that is said of the function of the plain lowering.
+    pub lowers : Lowers l (plain_function l blocks atoms)
+    lowers = record {
+      valid = plain_valid l [] blocks atoms form are.listed.in_order
+          (atoms_long l [] atoms are_atoms (λ v acc. (accessed_inside l built (formed_is l read good) v acc).low))
+          (omega (arith, are.few)) read.named.func;
+      fits = plain_fits l [] blocks atoms form;
+      agrees = keeps.agrees l (frame_of l no_variables) [] blocks atoms form;
+      form = record {
+        name = refl;
+        gives = gives_is l read good;
+        params = (atoms, (are_atoms, plain_inputs l [] blocks atoms form));
+      };
+    }
 
 -- The same of a function that is this one.
 pub lowers_to : (l : Listing) (f g : CFunction) → f ≡ g → Lowers l g → Lowers l f

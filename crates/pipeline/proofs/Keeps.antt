@@ -70,8 +70,8 @@ pub never_word : (l : Listing) (f : Frame) (e : Entry) (w : ℕ)
 never_word l f e w none n over =
     let Q : End → Type 0 = λ d. d ≢ Returned (Some w) in
     let returned : (b : Bytes) → Q (Returned (result_of l b (proto_of l None).gives)) =
-        λ b d. let g : Returned (result_of l b (proto_of l None).gives) ≡ Returned None =
-            ap (λ o. Returned (result_of l b o)) none in absurd (cc) in
+    λ b d. let g : Returned (result_of l b (proto_of l None).gives) ≡ Returned None =
+    ap (λ o. Returned (result_of l b o)) none in absurd (cc) in
     let h = allows (layout_of l f e) l Q (λ d. absurd (cc)) (λ d. absurd (cc)) (λ d a b. b (Some w)) returned in
     ends_within (whole (layout_of l f e)) l f Q h (start l e (first_whole e)) refl n (Returned (Some w)) over refl
 
@@ -104,24 +104,24 @@ module _
     (atoms : List Atom)
     (form : IsPlainForm l t blocks atoms)
   where
-  -- the listing, the code of the plain lowering, its C function
-  chain : (e : Entry) → IsEntry l e → TwoWay (seen_p l f e) (seen_c l (plain_function l blocks atoms) e)
-  chain e entry =
-      let k = lowered l blocks atoms in
-      two_way_trans (seen_p l f e) (seen_code l k e) (seen_c l (plain_function l blocks atoms) e)
-      (lowering.keeps (whole (layout_of l f e)) (λ w. w.bytes) l f t blocks atoms e (first_whole e) form entry refl)
-      (layout.keeps l l.func.name (result_width l) k e (can_lay l t blocks atoms form))
+    -- the listing, the code of the plain lowering, its C function
+    chain : (e : Entry) → IsEntry l e → TwoWay (seen_p l f e) (seen_c l (plain_function l blocks atoms) e)
+    chain e entry =
+        let k = lowered l blocks atoms in
+        two_way_trans (seen_p l f e) (seen_code l k e) (seen_c l (plain_function l blocks atoms) e)
+        (lowering.keeps (whole (layout_of l f e)) (λ w. w.bytes) l f t blocks atoms e (first_whole e) form entry refl)
+        (layout.keeps l l.func.name (result_width l) k e (can_lay l t blocks atoms form))
 
-  -- For every entry the listing's run, with any frame, agrees with the run of the C function.
-  pub agrees : AgreesWith l f (plain_function l blocks atoms)
-  agrees e entry =
-      let p = seen_p l f e in
-      let c = seen_c l (plain_function l blocks atoms) e in
-      let both = chain e entry in
-      let word : (w : ℕ) → (proto_of l None).gives ≡ None → NeverEnds (Returned (Some w)) c =
-          λ w none. never_ends_along (Returned (Some w)) p c both (never_word l f e w none) in
-      record {
-        same = λ never. two_way_as (is_some (result_width l)) p c both (drops (proto_of l None).gives l c word);
-        until = λ n over. events_along p c both n;
-        defined = never_ends_along Undefined p c both (never_undefined l f e);
-      }
+    -- For every entry the listing's run, with any frame, agrees with the run of the C function.
+    pub agrees : AgreesWith l f (plain_function l blocks atoms)
+    agrees e entry =
+        let p = seen_p l f e in
+        let c = seen_c l (plain_function l blocks atoms) e in
+        let both = chain e entry in
+        let word : (w : ℕ) → (proto_of l None).gives ≡ None → NeverEnds (Returned (Some w)) c =
+        λ w none. never_ends_along (Returned (Some w)) p c both (never_word l f e w none) in
+        record {
+          same = λ never. two_way_as (is_some (result_width l)) p c both (drops (proto_of l None).gives l c word);
+          until = λ n over. events_along p c both n;
+          defined = never_ends_along Undefined p c both (never_undefined l f e);
+        }

@@ -17,54 +17,54 @@ Ordered R (a ∷ []) = Unit {0}
 Ordered R (a ∷ b ∷ rest) = R a b × Ordered R (b ∷ rest)
 
 module _ {A : Type 0} (R : A → A → Type 0) (strict : (a : A) → R a a → ⊥) (on : (a b c : A) → R a b → R b c → R a c)
-    where
-  after : (a : A) (rest : List A) → Ordered R (a ∷ rest) → (b : A) → IsIn b rest → R a b
-  after a [] h b is = absurd is
-  after a (x ∷ rest) h b (inl e) = subst (λ y. R a y) (sym e) h.0
-  after a (x ∷ rest) h b (inr is) = on a x b h.0 (after x rest h.1 b is)
+  where
+    after : (a : A) (rest : List A) → Ordered R (a ∷ rest) → (b : A) → IsIn b rest → R a b
+    after a [] h b is = absurd is
+    after a (x ∷ rest) h b (inl e) = subst (λ y. R a y) (sym e) h.0
+    after a (x ∷ rest) h b (inr is) = on a x b h.0 (after x rest h.1 b is)
 
-  rest_ordered : (a : A) (rest : List A) → Ordered R (a ∷ rest) → Ordered R rest
-  rest_ordered a [] h = tt
-  rest_ordered a (x ∷ rest) h = h.1
+    rest_ordered : (a : A) (rest : List A) → Ordered R (a ∷ rest) → Ordered R rest
+    rest_ordered a [] h = tt
+    rest_ordered a (x ∷ rest) h = h.1
 
-  first_same : (x y : A) (xs ys : List A)
-      → Ordered R (x ∷ xs)
-      → Ordered R (y ∷ ys)
-      → IsIn x (y ∷ ys)
-      → IsIn y (x ∷ xs)
-      → x ≡ y
-  first_same x y xs ys h g (inl e) back = e
-  first_same x y xs ys h g (inr is) (inl e) = sym e
-  first_same x y xs ys h g (inr is) (inr was) = absurd (strict x (on x y x (after x xs h y was) (after y ys g x is)))
+    first_same : (x y : A) (xs ys : List A)
+        → Ordered R (x ∷ xs)
+        → Ordered R (y ∷ ys)
+        → IsIn x (y ∷ ys)
+        → IsIn y (x ∷ xs)
+        → x ≡ y
+    first_same x y xs ys h g (inl e) back = e
+    first_same x y xs ys h g (inr is) (inl e) = sym e
+    first_same x y xs ys h g (inr is) (inr was) = absurd (strict x (on x y x (after x xs h y was) (after y ys g x is)))
 
-  -- the members after the first are the same too
-  rest_same : (x y : A) (xs ys : List A)
-      → x ≡ y
-      → Ordered R (x ∷ xs)
-      → ((a : A) → IsIn a (x ∷ xs) → IsIn a (y ∷ ys))
-      → (a : A)
-      → IsIn a xs
-      → IsIn a ys
-  rest_same x y xs ys e h there a is = by_place (there a (inr is))
-    where
-      by_place : IsIn a (y ∷ ys) → IsIn a ys
-      by_place (inl same) = absurd (strict x (subst (λ z. R x z) (cc) (after x xs h a is)))
-      by_place (inr more) = more
+    -- the members after the first are the same too
+    rest_same : (x y : A) (xs ys : List A)
+        → x ≡ y
+        → Ordered R (x ∷ xs)
+        → ((a : A) → IsIn a (x ∷ xs) → IsIn a (y ∷ ys))
+        → (a : A)
+        → IsIn a xs
+        → IsIn a ys
+    rest_same x y xs ys e h there a is = by_place (there a (inr is))
+      where
+        by_place : IsIn a (y ∷ ys) → IsIn a ys
+        by_place (inl same) = absurd (strict x (subst (λ z. R x z) (cc) (after x xs h a is)))
+        by_place (inr more) = more
 
-  pub same_list : (xs ys : List A)
-      → Ordered R xs
-      → Ordered R ys
-      → ((a : A) → IsIn a xs → IsIn a ys)
-      → ((a : A) → IsIn a ys → IsIn a xs)
-      → xs ≡ ys
-  same_list [] [] h g there back = refl
-  same_list [] (y ∷ ys) h g there back = absurd (back y (inl refl))
-  same_list (x ∷ xs) [] h g there back = absurd (there x (inl refl))
-  same_list (x ∷ xs) (y ∷ ys) h g there back =
-      let e : x ≡ y = first_same x y xs ys h g (there x (inl refl)) (back y (inl refl)) in
-      let rest : xs ≡ ys = same_list xs ys (rest_ordered x xs h) (rest_ordered y ys g) (rest_same x y xs ys e h there)
-          (rest_same y x ys xs (sym e) g back) in
-      cc
+    pub same_list : (xs ys : List A)
+        → Ordered R xs
+        → Ordered R ys
+        → ((a : A) → IsIn a xs → IsIn a ys)
+        → ((a : A) → IsIn a ys → IsIn a xs)
+        → xs ≡ ys
+    same_list [] [] h g there back = refl
+    same_list [] (y ∷ ys) h g there back = absurd (back y (inl refl))
+    same_list (x ∷ xs) [] h g there back = absurd (there x (inl refl))
+    same_list (x ∷ xs) (y ∷ ys) h g there back =
+        let e : x ≡ y = first_same x y xs ys h g (there x (inl refl)) (back y (inl refl)) in
+        let rest : xs ≡ ys = same_list xs ys (rest_ordered x xs h) (rest_ordered y ys g) (rest_same x y xs ys e h there)
+        (rest_same y x ys xs (sym e) g back) in
+        cc
 
 -- ---- places
 
@@ -102,4 +102,4 @@ pub same_atoms : (xs ys : List Atom)
     → xs ≡ ys
 same_atoms xs ys h g there back =
     same_list (λ a b. StandsBefore a.storage b.storage) (λ a. never_stands a.storage)
-        (λ a b c. before_trans a.storage b.storage c.storage) xs ys (ordered_atoms xs h) (ordered_atoms ys g) there back
+    (λ a b c. before_trans a.storage b.storage c.storage) xs ys (ordered_atoms xs h) (ordered_atoms ys g) there back

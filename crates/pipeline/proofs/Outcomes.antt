@@ -62,13 +62,13 @@ refused_so asked bytes (R.Atoms fault) answer.TooLong cause is = absurd is
 -- The table of a call that came to an answer by the input that it read, and delivered it.
 pub table : (asked : Option Asked) (input input_new : Told) (out out_new err err_new : Held) (o : Answer) (status : ℕ)
     → Because asked (λ a came. Gave max_input input input_new came) o → Delivers program o out out_new err err_new
-        status
+    status
     → Table asked input input_new out out_new err err_new status
 table asked input input_new out out_new err err_new o status why told =
     any.table program out out_new err err_new (Because asked (λ a came. Gave max_input input input_new came))
     (λ (bytes : Bytes). Quiet input.faults input_new.faults × (input.left ≡ Some bytes))
-        (λ bytes. Because asked (λ a came. came ≡ whole max_input bytes))
+    (λ bytes. Because asked (λ a came. came ≡ whole max_input bytes))
     (λ bytes known. settled Shows Faults asked (λ a came. Gave max_input input input_new came)
-        (λ a came. came ≡ whole max_input bytes)
+    (λ a came. came ≡ whole max_input bytes)
     (λ a came read not. came_whole max_input input input_new bytes known.1 known.0 came read not))
     o status why told

@@ -75,7 +75,7 @@ also_in l formed xs ys x y a is =
 atoms_same : (l : Listing) → IsFormed l → (m n : ℕ) → AccessesSoMany l m → AccessesSoMany l n → m ≡ n
 atoms_same l formed m n (xs, x) (ys, y) =
     sym x.1 ∙ ap length (same_atoms xs ys x.0.in_order y.0.in_order (also_in l formed xs ys x.0 y.0)
-        (also_in l formed ys xs y.0 x.0)) ∙ y.1
+    (also_in l formed ys xs y.0 x.0)) ∙ y.1
 
 -- ---- verdicts
 

@@ -20,4 +20,4 @@ abbrev pub Table : Option Asked → Told → Told → Held → Held → Held →
 Table asked input input_new out out_new err err_new status =
     any.Table program (Because asked (λ a came. Gave max_input input input_new came))
     (λ (bytes : Bytes). Quiet input.faults input_new.faults × (input.left ≡ Some bytes))
-        (λ bytes. Because asked (λ a came. came ≡ whole max_input bytes)) out out_new err err_new status
+    (λ bytes. Because asked (λ a came. came ≡ whole max_input bytes)) out out_new err err_new status

@@ -20,10 +20,16 @@ module _ (l : Listing) where
       → length (starts_of blocks) ≡ length blocks
   starts_count starts [] h = refl
   starts_count starts (b ∷ rest) h =
-      omega (arith, length-append (first_in b.places) (starts_of rest), block_start starts b.places b.exit h.0,
-          starts_count starts rest h.1)
+      omega (
+        arith,
+        length-append (first_in b.places) (starts_of rest),
+        block_start starts b.places b.exit h.0,
+        starts_count starts rest h.1,
+      )
 
   -- As many blocks begin as there are.
   pub few_starts : (blocks : List Block) → IsFlow l [] blocks → length blocks ≤ max_blocks → HasFewBlocks l
-  few_starts blocks flow few = (starts_of blocks,
-      (flow.starts, omega (arith, few, starts_count (starts_of blocks) blocks flow.run)))
+  few_starts blocks flow few = (
+    starts_of blocks,
+    (flow.starts, omega (arith, few, starts_count (starts_of blocks) blocks flow.run)),
+  )

@@ -91,24 +91,24 @@ module _ (files : Folder) where
         let two = ok_is a.c_text first second inputs.c_text (p.1 ∙ told) q.0 in
         let three = ok_is a.entry second new inputs.entry (q.1 ∙ p.1 ∙ told) r.0 in
         inr (ap (with_listing files a) one.0 ∙ ap (with_c_text files a inputs.listing) two.0
-            ∙ ap (with_entry inputs.listing inputs.c_text) three.0)
+        ∙ ap (with_entry inputs.listing inputs.c_text) three.0)
     all_is (Err end) (inl f) = stopped a end (Err end) refl
         (lift end (with_listing files a) (in_folder files a.listing) refl (err_is a.listing old new end told quiet f))
     all_is (Err end) (inr (inl (first, (bytes, (p, f))))) =
         let one = ok_is a.listing old first bytes told p.0 in
         let two = err_is a.c_text first new end (p.1 ∙ told) (on old first new.faults one.1 quiet) f in
         stopped a end (Err end) refl (or_on end (all_in files a)
-            (with_c_text files a bytes (in_folder files a.c_text)) (ap (with_listing files a) one.0)
-                (lift end (with_c_text files a bytes) (in_folder files a.c_text) refl two))
+        (with_c_text files a bytes (in_folder files a.c_text)) (ap (with_listing files a) one.0)
+        (lift end (with_c_text files a bytes) (in_folder files a.c_text) refl two))
     all_is (Err end) (inr (inr (first, (second, (bytes, (more, (p, (q, f)))))))) =
         let one = ok_is a.listing old first bytes told p.0 in
         let two = ok_is a.c_text first second more (p.1 ∙ told) q.0 in
         let three = err_is a.entry second new end (q.1 ∙ p.1 ∙ told)
-            (on first second new.faults two.1 (on old first new.faults one.1 quiet)) f in
+        (on first second new.faults two.1 (on old first new.faults one.1 quiet)) f in
         let is : all_in files a ≡ with_entry bytes more (in_folder files a.entry) = ap (with_listing files a) one.0
-            ∙ ap (with_c_text files a bytes) two.0 in
+        ∙ ap (with_c_text files a bytes) two.0 in
         stopped a end (Err end) refl (or_on end (all_in files a) (with_entry bytes more (in_folder files a.entry)) is
-            (lift end (with_entry bytes more) (in_folder files a.entry) refl three))
+        (lift end (with_entry bytes more) (in_folder files a.entry) refl three))
 
 -- what isn't want of memory was read so
 sure : (came expected : Result Inputs ReadEnd)
@@ -135,16 +135,16 @@ module _ (Shows : Inputs → ℕ → List ℕ → Type 0) (Faults : Inputs → L
   -- The table of a call that came to an answer by the files that it read, and delivered it.
   pub table : (shelf shelf_new : Told) (out out_new err err_new : Held) (o : Answer) (status : ℕ)
       → Because Shows Faults asked (λ a came. AllFetched a shelf shelf_new came) o → Delivers program o out out_new
-          err err_new status
+      err err_new status
       → Table Shows Faults asked shelf shelf_new out out_new err err_new status
   table shelf shelf_new out out_new err err_new o status why told =
       any.table program out out_new err err_new
-          (Because Shows Faults asked (λ a came. AllFetched a shelf shelf_new came))
+      (Because Shows Faults asked (λ a came. AllFetched a shelf shelf_new came))
       (λ (files : Folder). Quiet shelf.faults shelf_new.faults × (shelf.files ≡ Some files))
-          (λ files. Because Shows Faults asked (λ a came. came ≡ all_in files a))
+      (λ files. Because Shows Faults asked (λ a came. came ≡ all_in files a))
       (λ files known. settled (λ (a : Asked) (i : Inputs) text. Shows i a.steps text)
-          (λ (a : Asked) (i : Inputs) line. Faults i line) asked (λ a came. AllFetched a shelf shelf_new came)
+      (λ (a : Asked) (i : Inputs) line. Faults i line) asked (λ a came. AllFetched a shelf shelf_new came)
       (λ a came. came ≡ all_in files a)
-          (λ a came read not. sure came (all_in files a) not
-              (all_is files a shelf shelf_new known.1 known.0 came read)))
+      (λ a came read not. sure came (all_in files a) not
+      (all_is files a shelf shelf_new known.1 known.0 came read)))
       o status why told

@@ -36,13 +36,13 @@ Passed name old new bytes = Fetched name old new (Ok bytes) × (new.files ≡ ol
 abbrev pub AllFetched : Asked → Told → Told → Result Inputs ReadEnd → Type 0
 AllFetched a old new (Ok inputs) = (first : Told)
     × ((second : Told) × (Passed a.listing old first inputs.listing
-        × (Passed a.c_text first second inputs.c_text × Passed a.entry second new inputs.entry)))
+    × (Passed a.c_text first second inputs.c_text × Passed a.entry second new inputs.entry)))
 AllFetched a old new (Err end) = Fetched a.listing old new (Err end)
     ⊎ (((first : Told) × ((bytes : List ℕ) × (Passed a.listing old first bytes × Fetched a.c_text first new (Err end))))
     ⊎ ((first : Told) × ((second : Told)
-        × ((bytes : List ℕ) × ((more : List ℕ)
-            × (Passed a.listing old first bytes
-                × (Passed a.c_text first second more × Fetched a.entry second new (Err end))))))))
+    × ((bytes : List ℕ) × ((more : List ℕ)
+    × (Passed a.listing old first bytes
+    × (Passed a.c_text first second more × Fetched a.entry second new (Err end))))))))
 
 -- --what must come where the files are told, no fault is counted and memory suffices
 

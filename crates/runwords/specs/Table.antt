@@ -37,4 +37,4 @@ module _ (Shows : Inputs → ℕ → List ℕ → Type 0) (Faults : Inputs → L
   Table asked shelf shelf_new out out_new err err_new status =
       any.Table program (Because asked (λ a came. AllFetched a shelf shelf_new came))
       (λ (files : Folder). Quiet shelf.faults shelf_new.faults × (shelf.files ≡ Some files))
-          (λ files. Because asked (λ a came. came ≡ all_in files a)) out out_new err err_new status
+      (λ files. Because asked (λ a came. came ≡ all_in files a)) out out_new err err_new status

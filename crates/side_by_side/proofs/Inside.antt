@@ -44,7 +44,7 @@ module _ (l : Listing) (ws : ℕ → ℕ) where
   words_safe [] x next h = h []
   words_safe (a ∷ rest) x next h =
       word_safe a x (λ n. with_words rest x (λ ns. next (n ∷ ns)))
-          (λ n. words_safe rest x (λ ns. next (n ∷ ns)) (λ ns. h (n ∷ ns)))
+      (λ n. words_safe rest x (λ ns. next (n ∷ ns)) (λ ns. h (n ∷ ns)))
 
   -- ---- memory
 
@@ -109,7 +109,7 @@ module _ (l : Listing) (ws : ℕ → ℕ) where
       let at = a % size_of l s in
       let bs = bytes_in l s k n in
       store_safe (Store s at bs) ((plain l).write s at bs x.world.memory) x.world
-          (unless_fails (any_fixed l s at (length bs)) _) safe
+      (unless_fails (any_fixed l s at (length bs)) _) safe
 
   -- ---- statements
 
@@ -117,32 +117,32 @@ module _ (l : Listing) (ws : ℕ → ℕ) where
   layer_safe returns (Stmt-F.Assign v e) x safe = word_safe (value_of ws x.env e) x (λ n. assigned v n x) (λ n. safe)
   layer_safe returns (Stmt-F.Load v space address) x safe =
       word_safe (value_of ws x.env address) x
-          (λ a. assigned v (loaded l (accessed l space) (ws v) a x.world.memory) x) (λ n. safe)
+      (λ a. assigned v (loaded l (accessed l space) (ws v) a x.world.memory) x) (λ n. safe)
   layer_safe returns (Stmt-F.Store space address e) x safe =
       word_safe (value_of ws x.env address) x
-          (λ a. with_word (value_of ws x.env e) x (λ n. stored l (accessed l space) (width_of ws e) a n x)) (λ a.
+      (λ a. with_word (value_of ws x.env e) x (λ n. stored l (accessed l space) (width_of ws e) a n x)) (λ a.
       word_safe (value_of ws x.env e) x (λ n. stored l (accessed l space) (width_of ws e) a n x)
-          (λ n. stored_safe (accessed l space) (width_of ws e) a n x safe))
+      (λ n. stored_safe (accessed l space) (width_of ws e) a n x safe))
   layer_safe returns (Stmt-F.Call v callee args) x safe =
       words_safe (values_of ws x.env args) x
-          (λ ns. called l ws v (returns callee) (in_world (recorded (Call callee ns) x.world) x))
-              (λ ns. called_safe v (returns callee) (Call callee ns) x safe)
+      (λ ns. called l ws v (returns callee) (in_world (recorded (Call callee ns) x.world) x))
+      (λ ns. called_safe v (returns callee) (Call callee ns) x safe)
   layer_safe returns (Stmt-F.CallInd v callee args) x safe =
       word_safe (value_of ws x.env callee) x
-          (λ a. with_words (values_of ws x.env args) x
-              (λ ns. asks l ws v (in_world (recorded (Call a ns) x.world) x))) (λ a.
+      (λ a. with_words (values_of ws x.env args) x
+      (λ ns. asks l ws v (in_world (recorded (Call a ns) x.world) x))) (λ a.
       words_safe (values_of ws x.env args) x (λ ns. asks l ws v (in_world (recorded (Call a ns) x.world) x))
-          (λ ns. asks_safe v (Call a ns) x safe))
+      (λ ns. asks_safe v (Call a ns) x safe))
   layer_safe returns (Stmt-F.Other v index args) x safe =
       words_safe (values_of ws x.env args) x (λ ns. asks l ws v (in_world (recorded (Other index ns) x.world) x))
-          (λ ns. asks_safe v (Other index ns) x safe)
+      (λ ns. asks_safe v (Other index ns) x safe)
   layer_safe returns (Stmt-F.Extra v offset) x safe = safe
   layer_safe returns (Stmt-F.Divide v op a b) x safe =
       word_safe (value_of ws x.env a) x
-          (λ m. with_word (value_of ws x.env b) x
-              (λ n. divided v (divide_value (divide_of op) (width_of ws a) m n) x)) (λ m.
+      (λ m. with_word (value_of ws x.env b) x
+      (λ n. divided v (divide_value (divide_of op) (width_of ws a) m n) x)) (λ m.
       word_safe (value_of ws x.env b) x (λ n. divided v (divide_value (divide_of op) (width_of ws a) m n) x)
-          (λ n. divided_safe v (divide_value (divide_of op) (width_of ws a) m n) x safe))
+      (λ n. divided_safe v (divide_value (divide_of op) (width_of ws a) m n) x safe))
   layer_safe returns (Stmt-F.If c body) x safe = undefined_within
   layer_safe returns (Stmt-F.IfElse c body other) x safe = undefined_within
   layer_safe returns (Stmt-F.While c body) x safe = undefined_within

@@ -30,7 +30,7 @@ module _ (l : Listing) (f : CFunction) (e : Entry) (n : ℕ) where
   grows_p : Grows (shown_p l e)
   grows_p = seen_grows (machine (whole (layout l (frame_of l no_variables) (entry_of l e))) l (frame_of l no_variables))
       (pcode_grows (whole (layout l (frame_of l no_variables) (entry_of l e))) l (frame_of l no_variables))
-          (start l (entry_of l e) (first_whole (entry_of l e)))
+      (start l (entry_of l e) (first_whole (entry_of l e)))
 
   grows_c : Grows (shown_c l f e)
   grows_c = seen_grows (c_machine l f) (c_grows l f) (start_c l f (entry_of l e))
@@ -55,9 +55,9 @@ module _ (l : Listing) (f : CFunction) (e : Entry) (n : ℕ) where
   shown_is lies frame p c comparison text empty ran went says is =
       let run : trace_of p ≡ shown_p l e n = ran ∙ ap (λ (g : Frame). seen_p l (frame_of l g) (entry_of l e) n) empty in
       let left : Says (within (shown_p l e n)) (within (trace_of c)) comparison =
-          subst (λ (t : T.Trace). Says (within t) (within (trace_of c)) comparison) run says in
+      subst (λ (t : T.Trace). Says (within t) (within (trace_of c)) comparison) run says in
       let both : Says (within (shown_p l e n)) (within (shown_c l f e n)) comparison =
-          subst (λ (t : T.Trace). Says (within (shown_p l e n)) (within t) comparison) went left in
+      subst (λ (t : T.Trace). Says (within (shown_p l e n)) (within t) comparison) went left in
       record {
         comparison = comparison;
         says = both;

@@ -33,7 +33,7 @@ module _ (name : List ℕ) (out out_new err err_new : Held) where
   pub table : {F : Type 0} (Why : Answer → Type 0) (Known : F → Type 0) (Must : F → Answer → Type 0)
       → ((facts : F) → Known facts → (a : Answer) → Why a → Must facts a)
       → (a : Answer) (status : ℕ) → Why a → Delivers name a out out_new err err_new status → Table name Why Known Must
-          out out_new err err_new status
+      out out_new err err_new status
   table Why Known Must comes a status why told = record {
     rows = rows name Why out out_new err err_new a status why told;
     exact = λ facts known quiet_out quiet_err.

@@ -49,9 +49,9 @@ module _ (limit : ℕ) (old new : Told) (told : List ℕ) (is : old.left ≡ Som
   pub all_whole : (bytes : List ℕ) → Gave limit old new (Ok bytes) → Ok bytes ≡ whole limit told
   all_whole bytes g =
       let e : told ≡ bytes = all_came told new.left bytes
-          (subst (λ (l : Option (List ℕ)). Consumes l new.left bytes) is g.0) g.1 in
+      (subst (λ (l : Option (List ℕ)). Consumes l new.left bytes) is g.0) g.1 in
       subst (λ (b : List ℕ). Ok b ≡ whole limit told) e
-          (short_whole limit told (subst (λ (b : List ℕ). length b ≤ limit) (sym e) g.2))
+      (short_whole limit told (subst (λ (b : List ℕ). length b ≤ limit) (sym e) g.2))
 
   -- Where one byte too many came, there are too many.
   pub too_many : Gave limit old new (Err TooLong) → Err TooLong ≡ whole limit told

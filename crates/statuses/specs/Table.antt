@@ -12,7 +12,7 @@ module _ (name : List ℕ) (Why : Answer → Type 0) where
   abbrev pub MayComplain : List ℕ → Type 0
   MayComplain line = Why (Refused line)
       ⊎ ((Why BadArguments × (line ≡ bad_arguments name)) ⊎
-          ((Why ReadFault × (line ≡ read_fault name)) ⊎ (Why TooLong × (line ≡ too_long name))))
+      ((Why ReadFault × (line ≡ read_fault name)) ⊎ (Why TooLong × (line ≡ too_long name))))
 
   -- Out's count rose, the row of status 0 holds but for that, out took a proper prefix of its text, and err is unchanged;
   -- or err's count rose, the row of status 1, 2, 3 or 6 holds but for that, err took a proper prefix of its line, and out

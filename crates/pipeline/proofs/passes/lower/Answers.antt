@@ -15,8 +15,8 @@ returns c =
     let atoms = c.args.accepted.now.atoms in
     let passed = c.requires in
     let is = laid_is l blocks atoms c.in_ok-name.name c.result_width.result c.in_ok-code.code
-        c.in_ok-function.function c.in_ok-function.ensures (c.in_ok-name.ensures ∙ c.as_slice.ensures)
-            c.result_width.ensures c.in_ok-code.ensures in
+    c.in_ok-function.function c.in_ok-function.ensures (c.in_ok-name.ensures ∙ c.as_slice.ensures)
+    c.result_width.ensures c.in_ok-code.ensures in
     lowers_to l c.in_ok-function.function _ is
-        (lowers l passed.read passed.ops passed.built blocks passed.blocks passed.no_fault passed.few atoms
-            passed.atoms)
+    (lowers l passed.read passed.ops passed.built blocks passed.blocks passed.no_fault passed.few atoms
+    passed.atoms)

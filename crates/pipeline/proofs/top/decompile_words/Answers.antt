@@ -6,4 +6,4 @@ use Rattle.pipeline.proofs.top.decompile_words.Goals as goal
 pub returns-clause-table : goal.returns-clause-table
 returns-clause-table g c =
     table (asked_by c.args.words.now) (g.S.Source.told c.args.input.now) (g.S.Source.told c.work_out-outcome.new.input) _ _ _ _
-        (answer_of c.work_out-outcome.result) c.deliver.result c.work_out-outcome.ensures.because c.deliver.ensures.writes
+    (answer_of c.work_out-outcome.result) c.deliver.result c.work_out-outcome.ensures.because c.deliver.ensures.writes

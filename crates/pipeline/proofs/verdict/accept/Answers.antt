@@ -14,7 +14,7 @@ pub returns-clause-accepted : goal.returns-clause-accepted
 returns-clause-accepted c =
     let l = c.in_ok-listing.listing in
     let good : IsGood c.args.bytes.now l =
-        record { read = c.in_ok-listing.ensures.good; ops = c.in_ok-check_ops.ensures.ok } in
+    record { read = c.in_ok-listing.ensures.good; ops = c.in_ok-check_ops.ensures.ok } in
     let built : IsSupported l = (c.in_ok-built.ensures {u = tt}).0 c.if-not-built.false in
     accepts c.args.bytes.now l good built c.in_ok-flow.flow c.in_ok-flow.ensures.blocks c.in_ok-flow.ensures.no_fault
-        c.in_ok-flow.ensures.few c.in_ok-atoms.atoms c.in_ok-atoms.ensures.ok
+    c.in_ok-flow.ensures.few c.in_ok-atoms.atoms c.in_ok-atoms.ensures.ok

@@ -17,4 +17,4 @@ returns-clause-stops c =
     let P : List TableAt → Type 0 = λ t. IsFlowFault c.args.listing.now t c.in-Err.fault in
     let R : Refusal → Type 0 = λ r. Stops c.args.listing.now r in
     subst R (sym c.from.ensures) (flow_stops c.args.listing.now c.in-Err.fault
-        (subst P c.new-tables.ensures c.in-Err.ensures.fault))
+    (subst P c.new-tables.ensures c.in-Err.ensures.fault))

@@ -10,12 +10,12 @@ use Rattle.pipeline.proofs.verdict.ranges.Goals as goal
 pub atoms-requires-clause-sized : goal.atoms-requires-clause-sized
 atoms-requires-clause-sized c =
     accessed_sized c.args.listing.now c.requires.supported
-        (formed_is c.args.listing.now c.requires.formed c.requires.ops)
+    (formed_is c.args.listing.now c.requires.formed c.requires.ops)
 
 pub atoms-requires-clause-apart : goal.atoms-requires-clause-apart
 atoms-requires-clause-apart c =
     accessed_equal_or_apart c.args.listing.now c.requires.supported
-        (formed_is c.args.listing.now c.requires.formed c.requires.ops)
+    (formed_is c.args.listing.now c.requires.formed c.requires.ops)
 
 pub atoms-requires-clause-instructions : goal.atoms-requires-clause-instructions
 atoms-requires-clause-instructions c = c.requires.formed.apart
@@ -25,4 +25,4 @@ returns-in-Err-clause-stops c =
     let l = c.args.listing.now in
     let R : Refusal → Type 0 = λ r. Stops l r in
     subst R (sym c.from.ensures)
-        (atoms_stops l c.in-Err.fault c.requires.no_fault (few_starts l c.args.flow.now c.requires.flow c.requires.few) c.in-Err.ensures.err)
+    (atoms_stops l c.in-Err.fault c.requires.no_fault (few_starts l c.args.flow.now c.requires.flow c.requires.few) c.in-Err.ensures.err)

@@ -17,11 +17,11 @@ pub returns-in-Ok-clause-few : goal.returns-in-Ok-clause-few
 returns-in-Ok-clause-few c =
     let P : List TableAt → Type 0 = λ t. IsFlow c.args.listing.now t c.in-Ok.field-0 in
     few_starts c.args.listing.now c.in-Ok.field-0 (subst P c.new-tables.ensures c.in-Ok.ensures.blocks)
-        c.in-Ok.ensures.few
+    c.in-Ok.ensures.few
 
 pub returns-clause-stops : goal.returns-clause-stops
 returns-clause-stops c =
     let P : List TableAt → Type 0 = λ t. IsFlowFault c.args.listing.now t c.in-Err.fault in
     let R : Refusal → Type 0 = λ r. StopsFlow c.args.listing.now r in
     subst R (sym c.from.ensures) (flow_stops c.args.listing.now c.in-Err.fault
-        (subst P c.new-tables.ensures c.in-Err.ensures.fault))
+    (subst P c.new-tables.ensures c.in-Err.ensures.fault))

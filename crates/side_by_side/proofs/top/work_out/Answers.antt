@@ -9,5 +9,5 @@ use Rattle.side_by_side.proofs.top.work_out.Goals as goal
 pub returns-in-Ok-clause-because : goal.returns-in-Ok-clause-because
 returns-in-Ok-clause-because g c =
     judged Shows Faults (asked_by (map string_bytes c.args.words.now))
-        (λ a came. AllFetched a (g.H.Source.told c.args.shelf.now) (g.H.Source.told c.gather.new.shelf) came)
-            c.in-Ok.gathered (answer_of c.judge.result) c.in-Ok.ensures.inputs c.judge.ensures
+    (λ a came. AllFetched a (g.H.Source.told c.args.shelf.now) (g.H.Source.told c.gather.new.shelf) came)
+    c.in-Ok.gathered (answer_of c.judge.result) c.in-Ok.ensures.inputs c.judge.ensures
