@@ -90,7 +90,7 @@ module _ (l : Listing) (bytes : (s : ℕ) → Small (fixed_byte l s)) where
       let fixed : is_fixed l s o ≡ true = ap is_some e in
       let at_space : is_fixed l x.space o ≡ true = subst (λ n. is_fixed l n o ≡ true) (eqb-true s x.space p.0) fixed in
       let at : is_fixed l x.space x.offset ≡ true =
-          subst (λ n. is_fixed l x.space n ≡ true) (eqb-true o x.offset p.1) at_space in
+      subst (λ n. is_fixed l x.space n ≡ true) (eqb-true o x.offset p.1) at_space in
       let free = h.free in
       clash (sym at ∙ free)
     where
@@ -117,8 +117,10 @@ module _ (l : Listing) (bytes : (s : ℕ) → Small (fixed_byte l s)) where
 
   hidden_in : (bs : List Byte) → AllByRecursion (IsIn l (first_ram l)) bs → AllHidden l (map hidden bs)
   hidden_in [] h = tt
-  hidden_in (b ∷ bs) h = ((subst (λ n. b.offset < size_of l n) h.0.space h.0.inside.offset, h.0.inside.value),
-      hidden_in bs h.1)
+  hidden_in (b ∷ bs) h = (
+    (subst (λ n. b.offset < size_of l n) h.0.space h.0.inside.offset, h.0.inside.value),
+    hidden_in bs h.1,
+  )
 
   answer_is : (a : Answer) → AnswerLiesIn l a → IsAnswer l (answer_of a)
   answer_is a h = record {
@@ -128,9 +130,9 @@ module _ (l : Listing) (bytes : (s : ℕ) → Small (fixed_byte l s)) where
     hidden = hidden_in a.hidden h.hidden;
   }
 
-  answers_are : (as : List Answer) → AllByRecursion (AnswerLiesIn l) as → AllAnswers l (map answer_of as)
+  answers_are : (rest : List Answer) → AllByRecursion (AnswerLiesIn l) rest → AllAnswers l (map answer_of rest)
   answers_are [] h = tt
-  answers_are (a ∷ as) h = (answer_is a h.0, answers_are as h.1)
+  answers_are (a ∷ rest) h = (answer_is a h.0, answers_are rest h.1)
 
   -- An entry that lies in a listing whose read-only bytes are bytes is one of its entries.
   pub is_entry : (e : Entry) → LiesIn l e → IsEntry l (entry_of l e)
