@@ -1,7 +1,7 @@
 -- The run of a C function never ends Outside: its memory is bytes alone, so that no access is one of a stack variable.
 use Rattle.std.proofs.Common.{◌≡◌, ℕ, zero, suc, Bool, true, false, List, [], ◌∷◌, slice_get, Option, Some, None, Result, Ok, Err, refl, sym, ◌∙◌, ap}
 use Rattle.std.specs.Prelude.{◌%◌, length}
-use Rattle.machine.specs.Trace.{Event, Call, Other, Store, End, Outside, Undefined, ReadOnlyWrite}
+use Rattle.machine.specs.Trace.{Event, Call, Other, Store, End, Outside, Undefined, ReadOnlyWrite, NoAnswer, NoReturn, DivZero, Returned}
 use Rattle.machine.specs.TwoWay.{NeverEnds}
 use Rattle.machine.specs.Machine.{seen}
 use Rattle.bits_core.specs.Value.{divide_value}
@@ -33,6 +33,18 @@ none_within h = cc
 undefined_within : Within (Some Undefined)
 undefined_within h = cc
 
+no_answer_within : Within (Some NoAnswer)
+no_answer_within h = cc
+
+no_return_within : Within (Some NoReturn)
+no_return_within h = cc
+
+div_zero_within : Within (Some DivZero)
+div_zero_within h = cc
+
+returned_within : (word : Option ℕ) → Within (Some (Returned word))
+returned_within word h = cc
+
 module _ (l : Listing) (ws : ℕ → ℕ) where
   word_safe : (a : Option ℕ) (x : Local) (next : ℕ → Local) → ((n : ℕ) → Safe (next n)) → Safe (with_word a x next)
   word_safe None x next h = undefined_within
@@ -56,15 +68,21 @@ module _ (l : Listing) (ws : ℕ → ℕ) where
   unless_fails true m e is out = cc
   unless_fails false m e is out = cc
 
+  ok_fails : {A : Type 0} (m : A) → Fails (Ok m)
+  ok_fails m e is out = cc
+
+  err_fails : {A B : Type 0} (d : End) → Fails {A} (Err d) → Fails {B} (Err d)
+  err_fails d h e is = h e (let s : d ≡ e = cc in ap Err s)
+
   then_fails : {A B : Type 0} (r : Result A End) (f : A → Result B End)
       → Fails r
       → ((a : A) → Fails (f a))
       → Fails (and_then r f)
   then_fails (Ok a) f h g = g a
-  then_fails (Err d) f h g e is = h e (let s : d ≡ e = cc in ap Err s)
+  then_fails (Err d) f h g = err_fails d h
 
   all_fails : (xs : List ByteWrite) (m : Bytes) → Fails (write_all (plain l) xs m)
-  all_fails [] m e is out = cc
+  all_fails [] m = ok_fails m
   all_fails (x ∷ xs) m = then_fails ((plain l).answer x m) (write_all (plain l) xs)
       (unless_fails (is_fixed l x.space x.offset) _) (λ n. all_fails xs n)
 
@@ -87,7 +105,7 @@ module _ (l : Listing) (ws : ℕ → ℕ) where
   take_safe : (v : Option ℕ) (answers : List Answer) (x : Local)
       → Safe x
       → Safe (answered ws v (take_from (plain l) answers x.world) x)
-  take_safe v [] x safe out = cc
+  take_safe v [] x safe = no_answer_within
   take_safe v (a ∷ rest) x safe =
       took_safe v a rest (write_all (plain l) a.memory x.world.memory) x (all_fails a.memory x.world.memory) safe
 
@@ -98,10 +116,10 @@ module _ (l : Listing) (ws : ℕ → ℕ) where
       → Safe x
       → Safe (called l ws v returns (in_world (recorded e x.world) x))
   called_safe v true e x safe = asks_safe v e x safe
-  called_safe v false e x safe out = cc
+  called_safe v false e x safe = no_return_within
 
   divided_safe : (v : ℕ) (n : Option ℕ) (x : Local) → Safe x → Safe (divided v n x)
-  divided_safe v None x safe out = cc
+  divided_safe v None x safe = div_zero_within
   divided_safe v (Some n) x safe = safe
 
   stored_safe : (s k a n : ℕ) (x : Local) → Safe x → Safe (stored l s k a n x)
@@ -162,10 +180,10 @@ module _ (l : Listing) (ws : ℕ → ℕ) where
 
   gives_safe : (n : Option ℕ) (s : CState) → Safe s.local → Safe (gives n s).local
   gives_safe None s safe = undefined_within
-  gives_safe (Some n) s safe out = cc
+  gives_safe (Some n) s safe = returned_within (Some n)
 
   given_safe : (e : Option Expr) (s : CState) → Safe s.local → Safe (given ws e s).local
-  given_safe None s safe out = cc
+  given_safe None s safe = returned_within None
   given_safe (Some e) s safe = gives_safe (value_of ws s.local.env e) s safe
 
   carried_safe : (returns : ℕ → Bool) (x : Option Flat) (s : CState)
