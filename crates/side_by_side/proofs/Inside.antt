@@ -71,7 +71,7 @@ module _ (l : Listing) (ws : ℕ → ℕ) where
   ok_fails : {A : Type 0} (m : A) → Fails (Ok m)
   ok_fails m e is out = cc
 
-  err_fails : {A B : Type 0} (d : End) → Fails {A} (Err d) → Fails {B} (Err d)
+  err_fails : {A B : Type 0} (d : End) → Fails {A = A} (Err d) → Fails {A = B} (Err d)
   err_fails d h e is = h e (let s : d ≡ e = cc in ap Err s)
 
   then_fails : {A B : Type 0} (r : Result A End) (f : A → Result B End)
