@@ -23,8 +23,10 @@ fn accesses_go_on_at_0(rt: HostRuntime) {
         assert_eq!(rt; map.byte(2, offset), 0);
     }
     let read = made(&rt, map.read(alloc, SHORT, 1, 14, 4));
-    assert_eq!(rt; word_of(true, read.as_slice()), 0x0102_0304);
-    assert_eq!(rt; word_of(false, read.as_slice()), 0x0403_0201);
+    let word = read.as_slice();
+    assert_eq!(rt; word.len(), 4);
+    assert_eq!(rt; word_of(true, word), 0x0102_0304);
+    assert_eq!(rt; word_of(false, word), 0x0403_0201);
     assert_eq!(rt; map.after(1, 1), Some(14));
     map.remove(1, 14);
     assert_eq!(rt; map.after(1, 1), Some(15));
