@@ -1,5 +1,5 @@
--- The ends of simple statements: one whose arguments have values doesn't end Undefined, and one that goes on leaves a run
--- that isn't over.
+-- The ends of simple statements: one whose arguments have values doesn't end Undefined, and one that goes on leaves a
+-- run that isn't over.
 use Rattle.std.proofs.Common.{◌≡◌, ◌≢◌, ℕ, ◌%◌, ◌<◌, Bool, true, false, List, [], ◌∷◌, Option, Some, None, Result, Ok, Err, refl, sym, ap, ◌∙◌, subst, arith}
 use Rattle.machine.specs.Trace.{Event, Store, Call, Other, End, Undefined, ReadOnlyWrite}
 use Rattle.bits_core.specs.Value.{divide_value}
@@ -15,7 +15,7 @@ use Rattle.cmeaning.specs.declared.tree.Stmt.TheOpen.{Stmt-F}
 use Rattle.cmeaning.specs.Value.{width_of, value_of}
 use Rattle.cmeaning.specs.Do.{accessed, values_of, divide_of}
 use Rattle.parts.specs.Exprs.{Env, reads_all, Holds, AreTotal, both, all_of, widths_of}
-use Rattle.parts.specs.Stmts.{Action, Sets, Loads, Stores, Calls, CallsInd, Others, Extras, Divides, NotSimple, is_simple, layer_action, layer_args, action_of, args_of, Done, Over, Goes, IsFine, stores, takes, takes_from, calls, divides, act}
+use Rattle.parts.specs.Stmts.{Action, Sets, Loads, Stores, Calls, CallsInd, Others, Extras, Divides, is_simple, layer_action, layer_args, action_of, args_of, Done, Over, Goes, IsFine, stores, takes, takes_from, calls, divides, act}
 
 -- ---- values
 

@@ -10,12 +10,13 @@ use Rattle.pcode_model.specs.Step.{bytes_in}
 use Rattle.cmeaning.specs.declared.tree.Expr.{Expr}
 use Rattle.cmeaning.specs.declared.tree.Arm.{Arm}
 use Rattle.cmeaning.specs.declared.tree.Stmt.{Stmt, out-Stmt, roll-Stmt}
-use Rattle.cmeaning.specs.declared.tree.Stmt.TheViews.{out-roll-Stmt}
+use Rattle.cmeaning.specs.declared.tree.Stmt.TheViews.{out-roll-Stmt, roll-out-Stmt}
 use Rattle.cmeaning.specs.declared.tree.Stmt.TheVariants as S
 use Rattle.cmeaning.specs.declared.tree.Stmt.TheOpen.{Stmt-F}
 use Rattle.cmeaning.specs.Value.{width_of, value_of}
 use Rattle.cmeaning.specs.Do.{Local, in_world, with_word, with_words, values_of, accessed, answered, asks, called, divided, divide_of, do_layer, do_simple}
-use Rattle.parts.specs.Exprs.{both, all_of, widths_of, with_all, with_each}
+use Rattle.parts.specs.Exprs.{both, all_of, widths_of, with_all, with_each, own}
+use Rattle.parts.proofs.Values.{with_itself, with_each_itself}
 use Rattle.parts.specs.Stmts.{map_target, layer_changed, changed, layer_action, layer_target, layer_args, args_of, Done, Over, Goes, performed, stores, takes, takes_from, takes_answer, calls, divides, act, done_with, done_by, Changes, IsAssign}
 
 -- ---- operands
@@ -168,6 +169,49 @@ module _ (g : ℕ → ℕ) (f : ℕ → Expr) where
   -- The parts of a statement that is changed, whatever its kind.
   pub changed_is : (s : Stmt) → Changes g f s (changed g f s)
   changed_is s = layer_changes s (out-Stmt s) refl
+
+-- ---- nothing changed
+
+target_itself : (v : Option ℕ) → map_target (λ v. v) v ≡ v
+target_itself None = refl
+target_itself (Some v) = refl
+
+layer_itself : (s : Stmt) (y : Stmt-F Stmt Arm) → roll-Stmt y ≡ s → layer_changed (λ v. v) own s y ≡ s
+layer_itself s (Stmt-F.Assign v e) is = ap (S.Assign v) (with_itself e) ∙ sym (S.rolls-Assign v e) ∙ is
+layer_itself s (Stmt-F.Load v space address) is =
+    ap (S.Load v space) (with_itself address) ∙ sym (S.rolls-Load v space address) ∙ is
+layer_itself s (Stmt-F.Store space address e) is =
+    ap (λ z. S.Store space z (with_all own e)) (with_itself address)
+    ∙ ap (S.Store space address) (with_itself e)
+    ∙ sym (S.rolls-Store space address e)
+    ∙ is
+layer_itself s (Stmt-F.Call v callee args) is =
+    ap (λ z. S.Call z callee (with_each own args)) (target_itself v)
+    ∙ ap (S.Call v callee) (with_each_itself args)
+    ∙ sym (S.rolls-Call v callee args)
+    ∙ is
+layer_itself s (Stmt-F.CallInd v callee args) is =
+    ap (λ z. S.CallInd z (with_all own callee) (with_each own args)) (target_itself v)
+    ∙ ap (λ z. S.CallInd v z (with_each own args)) (with_itself callee)
+    ∙ ap (S.CallInd v callee) (with_each_itself args)
+    ∙ sym (S.rolls-CallInd v callee args)
+    ∙ is
+layer_itself s (Stmt-F.Other v index args) is =
+    ap (λ z. S.Other z index (with_each own args)) (target_itself v)
+    ∙ ap (S.Other v index) (with_each_itself args)
+    ∙ sym (S.rolls-Other v index args)
+    ∙ is
+layer_itself s (Stmt-F.Extra v offset) is = sym (S.rolls-Extra v offset) ∙ is
+layer_itself s (Stmt-F.Divide v op a b) is =
+    ap (λ z. S.Divide v op z (with_all own b)) (with_itself a)
+    ∙ ap (S.Divide v op a) (with_itself b)
+    ∙ sym (S.rolls-Divide v op a b)
+    ∙ is
+layer_itself s y is = refl
+
+-- A statement with its own target, and each variable as itself.
+pub changed_itself : (s : Stmt) → changed (λ v. v) own s ≡ s
+changed_itself s = layer_itself s (out-Stmt s) (roll-out-Stmt s)
 
 -- The parts of an assignment.
 pub assign_is : (v : ℕ) (e : Expr) → IsAssign v e (S.Assign v e)

@@ -1,5 +1,5 @@
--- An expression that obeys the rules of a valid tree has a value wherever the variables have one that it reads: it divides
--- by constants alone, and these are not 0. Its shape's depth is its depth.
+-- An expression that obeys the rules of a valid tree has a value wherever the variables have one that it reads: it
+-- divides by constants alone, and these are not 0. Its shape's depth is its depth.
 use Rattle.std.proofs.Common.{◌≡◌, ℕ, ◌+◌, ◌-◌, ◌==◌, ◌&&◌, max, nat_lt, Bool, true, false, not, cond, Option, Some, None, refl, sym, ap, ◌∙◌}
 use Rattle.std.proofs.lemmas.Bool.{eqb-true}
 use Rattle.bits_core.specs.declared.word.Word.{Word}

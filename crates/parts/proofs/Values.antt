@@ -7,7 +7,7 @@ use Rattle.pcode_model.specs.Spaces.{put}
 use Rattle.cmeaning.specs.Value.{with_value, with_values, width_of, value_of}
 use Rattle.cmeaning.specs.Do.{values_of}
 use Rattle.cmeaning.proofs.Value.{value_of_const, value_of_var, width_of_const, width_of_var}
-use Rattle.parts.specs.Exprs.{One, Two, Env, one, two, one_width, two_width, one_value, two_value, reads, reads_all, with_all, with_each, own, named, seen_through, KeepsWidths, both, all_of, widths_of, AgreeOn, Below}
+use Rattle.parts.specs.Exprs.{One, Two, Env, one, two, one_width, two_width, one_value, two_value, reads, reads_all, with_all, with_each, own, seen_through, KeepsWidths, both, all_of, widths_of, AgreeOn, Below}
 use Rattle.parts.proofs.Nodes.{by_parts, width_one, width_two, value_one, value_two, reads_var, reads_one, reads_two, with_const, with_var, with_one, with_two}
 
 -- ---- what is read

@@ -1,5 +1,5 @@
 -- Visits, one list of variables behind another.
-use Rattle.std.proofs.Common.{◌≡◌, ℕ, List, [], ◌∷◌, ◌++◌, refl, sym, ap, ◌∙◌}
+use Rattle.std.proofs.Common.{◌≡◌, ℕ, List, [], ◌∷◌, ◌++◌, refl}
 use Rattle.parts.specs.Visits.{visited}
 
 -- Visits of two lists in a row.

@@ -1,7 +1,7 @@
 -- Expressions by the number of their operands, the variables that they read, and expressions in the place of variables.
 -- A node is a constant, a variable, or has one operand or two. What holds of all expressions is proved by these four.
 -- This project's own.
-use Rattle.std.specs.Prelude.{ℕ, suc, ◌+◌, ◌==◌, ◌<◌, ◌≡◌, max, if◌then◌else◌, List, [], ◌∷◌, ◌++◌, Option, Some, None}
+use Rattle.std.specs.Prelude.{ℕ, ◌+◌, ◌==◌, ◌<◌, ◌≡◌, max, if◌then◌else◌, List, [], ◌∷◌, ◌++◌, Option, Some, None}
 use Rattle.bits_core.specs.declared.word.Width.{Width}
 use Rattle.bits_core.specs.declared.ops.Binary.TheVariants as B
 use Rattle.bits_core.specs.Value.{unary_value, binary_value, divide_value}

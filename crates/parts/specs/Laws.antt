@@ -30,7 +30,8 @@ DoneByParts =
 abbrev pub ChangedByParts : Type 0
 ChangedByParts = (g : ℕ → ℕ) (f : ℕ → Expr) (s : Stmt) → Changes g f s (changed g f s)
 
--- An expression that obeys the rules of a valid tree has a value wherever its variables have one, and its shape's depth.
+-- An expression that obeys the rules of a valid tree has a value wherever its variables have one, and its shape's
+-- depth.
 pub record RightIsTotal : Type 0 where
   pub total : (ws : ℕ → ℕ) (e : Expr) (s : Shape) → shape_of ws e ≡ Some s → IsTotal ws e
   pub depth : (ws : ℕ → ℕ) (e : Expr) (s : Shape) → shape_of ws e ≡ Some s → s.depth ≡ depth e

@@ -95,7 +95,8 @@ layer_changed g f s (Stmt-F.Extra v offset) = S.Extra (g v) offset
 layer_changed g f s (Stmt-F.Divide v op a b) = S.Divide (g v) op (with_all f a) (with_all f b)
 layer_changed g f s y = s
 
--- Its target under another name, and an expression in the place of each variable that it reads. What isn't simple stays.
+-- Its target under another name, and an expression in the place of each variable that it reads. What isn't simple
+-- stays.
 abbrev pub changed : (ℕ → ℕ) → (ℕ → Expr) → Stmt → Stmt
 changed g f s = layer_changed g f s (out-Stmt s)
 
@@ -130,7 +131,8 @@ stores e (Ok m) left w = Goes (λ k. 0) left (recorded e (with_memory m w))
 abbrev pub takes : Listing → Answer → List Answer → Result Bytes End → World Bytes → Done
 takes l a rest (Err end) w = Over end w
 takes l a rest (Ok m) w =
-    let u : World Bytes = record { memory = hide_all (plain l) a.hidden m; answers = rest; events = w.events; over = w.over } in
+    let u : World Bytes =
+    record { memory = hide_all (plain l) a.hidden m; answers = rest; events = w.events; over = w.over } in
     Goes (λ k. a.word % limit k) a.registers u
 
 abbrev pub takes_from : Listing → List Answer → World Bytes → Done

@@ -19,5 +19,5 @@ pub mod visits;
 
 pub use exprs::{copy, with_all};
 pub use places::{Names, Own, Places, Replaced};
-pub use stmts::changed;
+pub use stmts::{changed, copy_stmt, renamed};
 pub use visits::{Visitor, visit_expr, visit_exprs, visit_stmt};

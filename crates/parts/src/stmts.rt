@@ -1,12 +1,13 @@
 //! Simple statements made anew, with other names for their targets and something in the place of what they read.
 
 ghost use Rattle.std.specs.Prelude.{◌≡◌, ℕ, true, IfOk};
+ghost use Rattle.parts.specs.Tables.{name_in};
 ghost use Rattle.cmeaning.specs.declared.tree.Stmt.TheVariants as S;
 ghost use Rattle.parts.specs.Exprs.{with_all as all_with, with_each as each_with};
-ghost use Rattle.parts.specs.Stmts.{action_of, is_simple, map_target, changed as changed_of};
+ghost use Rattle.parts.specs.Stmts.{action_of, is_simple, map_target, changed as changed_of, renamed as renamed_by};
 
 use crate::exprs::{with_all, with_each};
-use crate::places::Places;
+use crate::places::{Names, Own, Places};
 use bits_core::Memory;
 use cmeaning::{Expr, StatementDivision, Stmt};
 use pcode_model::Name;
@@ -164,4 +165,21 @@ pub fn changed<P: Places>(alloc: Global, places: &P, s: &Stmt) -> Result<Stmt, M
         } => divide(alloc, places, *target, *op, left, right),
         _ => unreachable!(),
     }
+}
+
+/// The simple statement with its variables under other names.
+pub fn renamed(alloc: Global, names: &Names, s: &Stmt) -> Result<Stmt, Memory>
+    requires { is_simple (action_of s.now) ≡ true }
+    ensures { IfOk result (λ r. r ≡ renamed_by (name_in names.now.names) s.now) }
+{
+    changed(alloc, names, s)
+}
+
+/// The same simple statement.
+#[tactic(auto, using(crate::proofs::Parts::changed_itself))]
+pub fn copy_stmt(alloc: Global, s: &Stmt) -> Result<Stmt, Memory>
+    requires { is_simple (action_of s.now) ≡ true }
+    ensures { IfOk result (λ r. r ≡ s.now) }
+{
+    changed(alloc, &Own, s)
 }
