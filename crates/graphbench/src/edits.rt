@@ -92,11 +92,15 @@ fn multi_of(graph: &mut OpGraph, block: BlockId, constant: OpId) -> Result<OpId,
 
 /// How many inputs of the op read the constant.
 fn readers(graph: &OpGraph, op: OpId, constant: OpId) -> u64 {
+    let mut count = 0_u64;
     if graph.contains_op(op) {
-        graph.inputs(op).filter(|v| v.0 == constant.0).count() as u64
-    } else {
-        0
+        for v in graph.inputs(op) {
+            if v.0 == constant.0 {
+                count = count.saturating_add(1);
+            }
+        }
     }
+    count
 }
 
 /// Makes a MULTIEQUAL of many inputs and reads them all so many times. Answers how many inputs were read.

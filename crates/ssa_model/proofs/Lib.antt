@@ -1,0 +1,4 @@
+pub mod Renaming
+pub mod Rows
+pub mod Lists
+pub mod Places
