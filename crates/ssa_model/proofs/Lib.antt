@@ -2,3 +2,4 @@ pub mod Renaming
 pub mod Rows
 pub mod Lists
 pub mod Places
+pub mod Forms

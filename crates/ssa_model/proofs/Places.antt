@@ -1,5 +1,5 @@
 -- An op that is put in before another one, and an op that is taken out.
-use Rattle.std.proofs.Common.{◌≡◌, ℕ, List, ◌⊎◌, inl, inr, Option, Some, None, refl, sym, ap, ◌∙◌, subst, slice_get}
+use Rattle.std.proofs.Common.{◌≡◌, ℕ, List, ◌⊎◌, inl, inr, Option, Some, None, refl, sym, ap, ◌∙◌, subst}
 use Rattle.heap_nodes.proofs.Places.{none_some, some_same}
 use Rattle.node_lists.specs.Chains.{IsIn, removed, put_at}
 use Rattle.node_lists.specs.Families.{inserted}
@@ -7,11 +7,11 @@ use Rattle.node_lists.proofs.Chains.{cases_key, put_here, put_away}
 use Rattle.opgraph.specs.Graph.{OpRow}
 use Rattle.opgraph.proofs.Whole.{in_at}
 use Rattle.ssa_model.specs.Roles.{role_of}
-use Rattle.ssa_model.specs.Outline.{OpForm, Rows, Form, form_in, outline, predecessors_at}
+use Rattle.ssa_model.specs.Outline.{OpForm, Form, form_in, outline}
 use Rattle.ssa_model.specs.Paths.{IsPassed, IsJoin, UsedAt, Read, Joined, Available, Strict, before_op}
 use Rattle.ssa_model.specs.Formed.{Formed}
 use Rattle.ssa_model.specs.Edits.{IsSsa, with_op, without_op, AreAvailable}
-use Rattle.ssa_model.proofs.Rows.{passed_by}
+use Rattle.ssa_model.proofs.Rows.{home, passed_by}
 use Rattle.ssa_model.proofs.Lists.{before_new, in_inserted, before_inserted, in_removed, before_removed}
 
 -- what is passed before a place is passed before a later one
@@ -53,7 +53,7 @@ module _ (x at : ℕ) (s : OpRow) (f : Form) (fresh : f.rows x ≡ None) (apart 
           (ap f.rows (sym (some_same e)) ∙ fresh) h)
       by_case (inr n) =
           passed_by f.rows new.rows (f.rows v) (new.rows v) v passed before
-          (ap Rattle.ssa_model.proofs.Rows.home (sym (put_away (Some s) (Some x) f.rows v n))) h
+          (ap home (sym (put_away (Some s) (Some x) f.rows v n))) h
 
   new_row : (y : ℕ) (t : OpRow)
       → new.rows y ≡ Some t
@@ -121,7 +121,7 @@ module _ (x : ℕ) (r : OpRow) (f : Form) (unread : (y : ℕ) (t : OpRow) → f.
       → IsPassed (form_in rest.rows (rest.rows v)) v passed before
   rest_passed v passed before far h =
       passed_by f.rows rest.rows (f.rows v) (rest.rows v) v passed before
-      (ap Rattle.ssa_model.proofs.Rows.home
+      (ap home
       (sym (put_away None (Some x) f.rows v (λ e. far (sym (some_same e)))))) h
 
   rest_row : (y : ℕ) (t : OpRow) → rest.rows y ≡ Some t → f.rows y ≡ Some t

@@ -7,7 +7,7 @@ use Rattle.node_lists.proofs.Chains.{eqb_is}
 use Rattle.opgraph.specs.Graph.{OpRow, renamed, renamed_row}
 use Rattle.opgraph.proofs.Tables.{of_map}
 use Rattle.ssa_model.specs.Roles.{role_of}
-use Rattle.ssa_model.specs.Outline.{OpForm, Rows, Form, Outline, bytes_of, width_in, width_at, form_in, forms_of, outline, predecessors_at}
+use Rattle.ssa_model.specs.Outline.{OpForm, Form, Outline, bytes_of, width_in, width_at, form_in, outline, predecessors_at}
 use Rattle.ssa_model.specs.Paths.{UsedAt, Read, Joined, Available, Strict}
 use Rattle.ssa_model.specs.Formed.{Formed}
 use Rattle.ssa_model.specs.Edits.{IsSsa, renaming, IsAvailableFor}

@@ -1,16 +1,16 @@
 -- An op that does something else: what is available stays so, since each op stands in its block.
-use Rattle.std.proofs.Common.{◌≡◌, ℕ, List, ◌⊎◌, inl, inr, Option, Some, None, refl, sym, ap, ◌∙◌, subst, slice_get}
+use Rattle.std.proofs.Common.{◌≡◌, ℕ, List, ◌⊎◌, inl, inr, Option, Some, None, sym, ap, ◌∙◌, subst}
 use Rattle.heap_nodes.proofs.Places.{none_some, some_same}
 use Rattle.node_lists.specs.Chains.{IsIn, put_at}
 use Rattle.node_lists.proofs.Chains.{cases_key, put_here, put_away}
 use Rattle.opgraph.specs.Graph.{OpRow}
 use Rattle.ssa_model.specs.Roles.{role_of}
-use Rattle.ssa_model.specs.Outline.{Rows, Form, form_in, outline, predecessors_at}
+use Rattle.ssa_model.specs.Outline.{Rows, Form, form_in, outline}
 use Rattle.ssa_model.specs.Paths.{IsPassed, IsJoin, UsedAt, Read, Joined, Available, Strict, before_op}
 use Rattle.ssa_model.specs.Formed.{Formed}
 use Rattle.ssa_model.specs.Edits.{IsSsa, with_row, AreAvailable}
 
-pub home : Option OpRow → Option ℕ
+abbrev pub home : Option OpRow → Option ℕ
 home None = None
 home (Some r) = Some r.block
 
@@ -19,7 +19,6 @@ pub passed_by : (rows new : Rows) (o n : Option OpRow) (v : ℕ) (passed before 
     → home o ≡ home n
     → IsPassed (form_in rows o) v passed before
     → IsPassed (form_in new n) v passed before
-unfolding home
 passed_by rows new None n v passed before e h = absurd h
 passed_by rows new (Some r) None v passed before e h = none_some (sym e)
 passed_by rows new (Some r) (Some s) v passed before e (inl m) = inl (subst (λ b. IsIn b passed) (some_same e) m)
@@ -27,11 +26,9 @@ passed_by rows new (Some r) (Some s) v passed before e (inr m) = inr m
 
 module _ (x : ℕ) (r s : OpRow) (f : Form) (at : f.rows x ≡ Some r) (block : s.block ≡ r.block) where
   home_kept : (v : ℕ) → home (f.rows v) ≡ home (put_at (Some x) (Some s) f.rows v)
-  unfolding home
   home_kept v = by_case (cases_key (Some x) (Some v))
     where
       by_case : (Some x ≡ Some v) ⊎ (Some x ≡ Some v → ⊥) → home (f.rows v) ≡ home (put_at (Some x) (Some s) f.rows v)
-      unfolding home
       by_case (inl e) =
           ap (λ w. home (f.rows w)) (sym (some_same e))
           ∙ ap home at

@@ -1,5 +1,5 @@
 -- What contracts see of an SSA function, and edits of it.
-use Rattle.std.specs.Prelude.{◌≡◌, ℕ, ◌+◌, ◌-◌, ◌^◌, min, List, map, Option, Some, None}
+use Rattle.std.specs.Prelude.{ℕ, ◌+◌, ◌-◌, ◌^◌, min, List, Some, None}
 use Rattle.opgraph.specs.Graph.{OpRow, renamed_row}
 use Rattle.node_lists.specs.Chains.{IsIn, removed, put_at}
 use Rattle.node_lists.specs.Families.{inserted}

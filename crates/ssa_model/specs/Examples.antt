@@ -1,9 +1,8 @@
 -- Small SSA functions.
-use Rattle.std.specs.Prelude.{ℕ, ℤ, negsuc, List, [], ◌∷◌, codes, Option, Some, None}
+use Rattle.std.specs.Prelude.{ℕ, negsuc, true, List, [], ◌∷◌, codes, Option, Some, None}
 use Rattle.std.proofs.Common.{lit<, lit≤}
 use Rattle.bits_core.specs.declared.word.Width.{Width}
 use Rattle.pcode_model.specs.declared.listing.SpaceKind.TheVariants.{Constant, Ram, Register, Unique}
-use Rattle.pcode_model.specs.declared.listing.Space.{Space}
 use Rattle.pcode_model.specs.declared.listing.Listing.{Listing}
 use Rattle.pcode_model.specs.declared.storage.ParamStorage.TheVariants as P
 use Rattle.cmeaning.specs.Examples as small
@@ -11,7 +10,6 @@ use Rattle.opgraph.specs.declared.code.Code.{Code}
 use Rattle.opgraph.specs.declared.code.Code.TheVariants as K
 use Rattle.opgraph.specs.declared.ids.BlockId.{BlockId}
 use Rattle.opgraph.specs.Graph.{OpRow, Graph}
-use Rattle.ssa_model.specs.declared.form.Arm.{Arm}
 use Rattle.ssa_model.specs.declared.form.SsaExit.{SsaExit}
 use Rattle.ssa_model.specs.declared.form.SsaExit.TheVariants as X
 use Rattle.ssa_model.specs.declared.form.SsaBlock.{SsaBlock}

@@ -1,5 +1,5 @@
 -- The form of an SSA function, a clause a field.
-use Rattle.std.specs.Prelude.{◌≡◌, ℕ, ◌+◌, ◌<◌, ◌==◌, ◌&&◌, nat_lt, nat_le, Bool, true, false, List, [], ◌∷◌, ◌++◌, ◌↔◌, length, map, Option, Some, None}
+use Rattle.std.specs.Prelude.{◌≡◌, ℕ, ◌+◌, ◌<◌, ◌==◌, ◌&&◌, nat_lt, Bool, true, false, List, [], ◌∷◌, ◌++◌, ◌↔◌, length, map, Option, Some, None}
 use Rattle.bits_core.specs.Value.{limit}
 use Rattle.cmeaning.specs.Shape.{is_part}
 use Rattle.node_lists.specs.Chains.{IsIn, Apart, last_or}

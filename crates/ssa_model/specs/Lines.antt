@@ -12,7 +12,6 @@ use Rattle.cmeaning.specs.declared.tree.Expr.{Expr}
 use Rattle.cmeaning.specs.declared.tree.Expr.TheVariants as E
 use Rattle.cmeaning.specs.declared.tree.Stmt.{Stmt}
 use Rattle.cmeaning.specs.declared.tree.Stmt.TheVariants as S
-use Rattle.blockcode.specs.declared.code.Arm as code
 use Rattle.blockcode.specs.declared.code.Exit.{Exit}
 use Rattle.blockcode.specs.declared.code.Exit.TheVariants as C
 use Rattle.blockcode.specs.declared.code.Block.{Block}
@@ -21,10 +20,9 @@ use Rattle.opgraph.specs.Graph.{OpRow, Graph, op_at, block_at, inputs_in}
 use Rattle.ssa_model.specs.declared.form.Arm.{Arm}
 use Rattle.ssa_model.specs.declared.form.SsaExit.{SsaExit}
 use Rattle.ssa_model.specs.declared.form.SsaExit.TheVariants as X
-use Rattle.ssa_model.specs.declared.form.SsaBlock.{SsaBlock}
 use Rattle.ssa_model.specs.declared.form.Parts.{Parts}
-use Rattle.ssa_model.specs.Roles.{Role, Constant, Starts, Joins, Copies, Unary, Arithmetic, Shifts, Compares, Signed, Extends, Piece, Part, Overflow, Count, Divides, Loads, Stores, Calls, CallsInd, CallsOther, Extra, role_of}
-use Rattle.ssa_model.specs.Outline.{bytes_of, exit_in, block_with, predecessors_at}
+use Rattle.ssa_model.specs.Roles.{Role, Constant, Joins, Copies, Unary, Arithmetic, Shifts, Compares, Signed, Extends, Piece, Part, Overflow, Count, Divides, Loads, Stores, Calls, CallsInd, CallsOther, Extra, role_of}
+use Rattle.ssa_model.specs.Outline.{exit_in, block_with, predecessors_at}
 
 -- ---- statements
 

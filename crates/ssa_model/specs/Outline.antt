@@ -1,5 +1,5 @@
 -- What the form of an SSA function is told by: its blocks, and of each op all but which values it reads.
-use Rattle.std.specs.Prelude.{◌≡◌, ℕ, ◌==◌, if◌then◌else◌, List, [], ◌∷◌, length, map, Option, Some, None}
+use Rattle.std.specs.Prelude.{ℕ, ◌==◌, if◌then◌else◌, List, [], ◌∷◌, length, map, Option, Some, None}
 use Rattle.bits_core.specs.declared.word.Width.{Width}
 use Rattle.opgraph.specs.declared.ids.BlockId.{BlockId}
 use Rattle.opgraph.specs.Graph.{OpRow, op_at, block_at}

@@ -1,5 +1,5 @@
 -- The text of an SSA function.
-use Rattle.std.specs.Prelude.{ℕ, suc, ◌==◌, ◌<◌, nat_lt, not, Bool, true, false, if◌then◌else◌, ℤ, pos, negsuc, List, [], ◌∷◌, ◌++◌, drop, map, codes, decimal, Option, Some, None, slice_get}
+use Rattle.std.specs.Prelude.{ℕ, suc, ◌==◌, nat_lt, not, Bool, true, false, if◌then◌else◌, ℤ, pos, negsuc, List, [], ◌∷◌, ◌++◌, map, codes, decimal, Option, Some, None, slice_get}
 use Rattle.std.specs.Fmt.{digits}
 use Rattle.listing_lines.specs.Text.{Line}
 use Rattle.bits_core.specs.declared.ops.Unary.TheVariants as U
@@ -11,7 +11,7 @@ use Rattle.operations.specs.Words.{unary_word, binary_word, divide_word}
 use Rattle.cmeaning.specs.Value.{unary_of, arithmetic_of, shift_of, compare_of, signed_compare_of, extend_of, overflow_of, count_of}
 use Rattle.cmeaning.specs.Do.{divide_of}
 use Rattle.cmeaning.specs.Valid.{is_before}
-use Rattle.opgraph.specs.Graph.{OpRow, Graph, op_at, block_at, inputs_in}
+use Rattle.opgraph.specs.Graph.{OpRow, Graph, op_at, block_at}
 use Rattle.ssa_model.specs.declared.form.Arm.{Arm}
 use Rattle.ssa_model.specs.declared.form.SsaExit.{SsaExit}
 use Rattle.ssa_model.specs.declared.form.SsaExit.TheVariants as X

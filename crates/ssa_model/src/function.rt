@@ -1,14 +1,14 @@
 //! Functions in SSA form, and edits that keep the form.
-ghost use Rattle.std.specs.Prelude.{◌≡◌, ◌≢◌, ◌+◌, ◌≤◌, Some, length, IsOk, IfOk, IfErr};
-ghost use Rattle.opgraph.specs.Graph.{OpRow, op_at, IsOp, IsValue, AreValues, numbers, inputs_in};
+ghost use Rattle.std.specs.Prelude.{◌≡◌, ◌≢◌, ◌+◌, ◌<◌, ◌≤◌, ℕ, [], Some, None, length, IsOk, IfOk, IfErr};
+ghost use Rattle.opgraph.specs.Graph.{OpRow, op_at, IsOp, IsValue, AreValues, numbers, inputs_in, uses_at};
 ghost use Rattle.ssa_model.specs.Roles.{role_of};
 ghost use Rattle.ssa_model.specs.Outline.{form, outline, width_at};
 ghost use Rattle.ssa_model.specs.Paths.{IsJoin};
 ghost use Rattle.ssa_model.specs.Formed.{Formed};
-ghost use Rattle.ssa_model.specs.Edits.{form_at, IsSsa, one_more, renaming, IsAvailableFor, with_row, AreAvailable};
+ghost use Rattle.ssa_model.specs.Edits.{form_at, IsSsa, one_more, renaming, IsAvailableFor, with_row, with_op, without_op, AreAvailable};
 
 use crate::form::Parts;
-use bits_core::Memory;
+use bits_core::{Memory, Width};
 use opgraph::{Code, OpId, ValueId};
 use std::marker::Model;
 
@@ -100,5 +100,47 @@ impl SsaFunction {
     {
         self.parts.graph.retarget(op, code, inputs);
         self.edits = self.edits.saturating_add(1);
+    }
+
+    /// A new op directly before another one, in its block. It takes one spare op and a spare slot for each input, and
+    /// memory only where these don't suffice.
+    pub fn add_before(
+        &mut self,
+        at: OpId,
+        code: Code,
+        inputs: &[ValueId],
+        width: Width,
+    ) -> Result<OpId, Memory>
+        requires at { IsOp self.old.parts.graph at.0 }
+        requires inputs { AreValues self.old.parts.graph (numbers inputs.now) }
+        requires plain { IsJoin (role_of code) → ⊥ }
+        requires available { (r : OpRow) → op_at self.old.parts.graph at.0 ≡ Some r → AreAvailable (form_at self.old) at.0 r (numbers inputs.now) }
+        requires formed { (x : ℕ) (r : OpRow) → op_at self.old.parts.graph x ≡ None → op_at self.old.parts.graph at.0 ≡ Some r → Formed (outline (with_op x at.0 (record { block = r.block; code = code; inputs = numbers inputs.now; width = Some width }) (form_at self.old))) }
+        ensures fresh { IfOk result (λ op. op_at self.old.parts.graph op.0 ≡ None) }
+        ensures form { IfOk result (λ op. (r : OpRow) → op_at self.old.parts.graph at.0 ≡ Some r → form_at self.new ≡ with_op op.0 at.0 (record { block = r.block; code = code; inputs = numbers inputs.now; width = Some width }) (form_at self.old)) }
+        ensures failed { IfErr result (λ _. (form_at self.new ≡ form_at self.old) × (self.old.parts.graph.spare_ops ≤ self.new.parts.graph.spare_ops) × (self.old.parts.graph.spare_slots ≤ self.new.parts.graph.spare_slots)) }
+        ensures ready { 0 < self.old.parts.graph.spare_ops → length inputs.now ≤ self.old.parts.graph.spare_slots → IsOk result }
+        ensures edits { self.new.edits ≡ self.old.edits }
+        ensures spare_ops { self.old.parts.graph.spare_ops ≤ self.new.parts.graph.spare_ops + 1 }
+        ensures spare_slots { self.old.parts.graph.spare_slots ≤ self.new.parts.graph.spare_slots + length inputs.now }
+    {
+        self.parts.graph.known();
+        self.parts
+            .graph
+            .add_op_before(at, code, inputs, Some(width))
+    }
+
+    /// The op, whose value nothing reads, leaves its block. It and its slots become spare.
+    pub fn drop_op(&mut self, op: OpId)
+        requires op { IsOp self.old.parts.graph op.0 }
+        requires uses { uses_at self.old.parts.graph op.0 ≡ [] }
+        requires formed { (r : OpRow) → op_at self.old.parts.graph op.0 ≡ Some r → Formed (outline (without_op op.0 r (form_at self.old))) }
+        ensures form { (r : OpRow) → op_at self.old.parts.graph op.0 ≡ Some r → form_at self.new ≡ without_op op.0 r (form_at self.old) }
+        ensures edits { self.new.edits ≡ self.old.edits }
+        ensures spare_ops { self.new.parts.graph.spare_ops ≡ self.old.parts.graph.spare_ops + 1 }
+        ensures spare_slots { self.new.parts.graph.spare_slots ≡ self.old.parts.graph.spare_slots + length (inputs_in (op_at self.old.parts.graph op.0)) }
+    {
+        self.parts.graph.known();
+        self.parts.graph.remove(op);
     }
 }
