@@ -1,0 +1,5 @@
+pub mod Renamed
+pub mod First
+pub mod Places
+pub mod Named
+pub mod Run
