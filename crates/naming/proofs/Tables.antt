@@ -2,14 +2,14 @@
 use Rattle.std.proofs.Common.{◌≡◌, ℕ, suc, ◌+◌, Bool, true, false, cond, not, List, [], ◌∷◌, ◌++◌, length, refl, sym, ap, ap₂, ◌∙◌, arith}
 use Rattle.std.specs.Prelude.{◌==◌, Option, Some, None, is_some}
 use Rattle.std.specs.Option.{option_map}
-use Rattle.std.specs.Ordering.{nat_cmp, is_eq}
+use Rattle.std.specs.Ordering.{nat_cmp}
 use Rattle.std.specs.Cmp.{unsigned_tied}
 use Rattle.std.specs.BTreeSet.{BTreeSet, contains, Updates}
 use Rattle.std.proofs.lemmas.Bool.{eqb-true}
 use Rattle.pcode_model.specs.Spaces.{or}
 use Rattle.cmeaning.specs.Places.{place}
 use Rattle.cmeaning.proofs.Places.{put}
-use Rattle.naming.specs.First.{is_listed, with_one, place_in}
+use Rattle.naming.specs.Listed.{is_listed, with_one, place_in}
 use Rattle.naming.specs.Places.{is_same, HasPlaces, HasAll}
 
 some_map : (o : Option ℕ) → is_some (option_map suc o) ≡ is_some o

@@ -4,7 +4,7 @@ use Rattle.std.specs.List.{slice_index_or}
 use Rattle.std.specs.Ordering.{nat_cmp}
 use Rattle.std.specs.BTreeSet.{BTreeSet, contains}
 pub use Rattle.cmeaning.specs.Places.{place}
-use Rattle.naming.specs.First.{is_listed}
+use Rattle.naming.specs.Listed.{is_listed}
 
 abbrev pub is_same : ℕ → ℕ → Bool
 is_same x y = y == x

@@ -4,6 +4,7 @@ use Rattle.machine.specs.Trace.{Trace}
 use Rattle.machine.specs.Machine.{Machine, seen}
 use Rattle.pcode_model.specs.declared.listing.Listing.{Listing}
 use Rattle.pcode_model.specs.World.{Entry, first_world, shown, unless_over}
+use Rattle.cmeaning.specs.declared.tree.CFunction.{CFunction}
 use Rattle.cmeaning.specs.declared.tree.Stmt.{Stmt}
 use Rattle.cmeaning.specs.Do.{variable_width}
 use Rattle.cmeaning.specs.Flat.{Flat, pieces_of, flat_body, returns_by}
@@ -22,6 +23,17 @@ abbrev pub body_machine : Listing → (ℕ → ℕ) → (ℕ → Bool) → List 
 body_machine l ws returns body = flat_machine l ws returns (flat_body (pieces_of returns body))
 
 -- ---- below a head
+
+-- the function of a body by its own numbers, with all that the head has
+abbrev pub unnamed : Head → List Stmt → CFunction
+unnamed h body = record {
+  callees = h.callees;
+  name = h.name;
+  gives = h.gives;
+  params = h.params;
+  locals = h.locals;
+  body = body;
+}
 
 -- a variable's width in bytes by its own number: the parameters first, then the locals
 abbrev pub widths_of : Head → ℕ → ℕ

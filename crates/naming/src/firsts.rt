@@ -1,7 +1,7 @@
 //! Numbers and addresses listed by first appearance, with tables of their places.
 
 ghost use Rattle.std.specs.Prelude.{◌≡◌, ◌<◌, ◌==◌, ◌+◌, ◌∷◌, ◌++◌, [], ℕ, List, length, if◌then◌else◌, Some, IfOk, OnOk};
-ghost use Rattle.naming.specs.First.{with_one, place_in};
+ghost use Rattle.naming.specs.Listed.{with_one, place_in};
 ghost use Rattle.naming.specs.Places.{is_same, entry, place as place_by};
 
 use bits_core::Memory;
@@ -159,10 +159,12 @@ impl Addresses {
             mut known,
         } = self;
         match known.insert(x) {
-            Ok(true) => listed.push(x)?,
-            Ok(false) => {}
-            Err(_) => return Err(Memory),
+            Ok(true) => {
+                listed.push(x)?;
+                Ok(Addresses { listed, known })
+            }
+            Ok(false) => Ok(Addresses { listed, known }),
+            Err(_) => Err(Memory),
         }
-        Ok(Addresses { listed, known })
     }
 }

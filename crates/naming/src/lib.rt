@@ -16,6 +16,7 @@ mod head;
 mod note;
 mod order;
 mod rename;
+pub mod worked;
 
 pub use firsts::{Addresses, Numbers};
 pub use head::{Head, named_function};
