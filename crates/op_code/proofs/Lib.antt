@@ -1,0 +1,4 @@
+pub mod Access
+pub mod Operands
+pub mod Sees
+pub mod Sets
