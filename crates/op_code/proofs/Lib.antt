@@ -1,4 +1,6 @@
 pub mod Access
 pub mod Operands
+pub mod Ops
 pub mod Sees
 pub mod Sets
+pub mod Steps
