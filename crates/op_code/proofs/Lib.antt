@@ -1,4 +1,5 @@
 pub mod Access
+pub mod Found
 pub mod Operands
 pub mod Ops
 pub mod Sees

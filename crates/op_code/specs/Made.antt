@@ -10,7 +10,6 @@ use Rattle.pcode_model.specs.declared.listing.Varnode.{Varnode}
 use Rattle.pcode_model.specs.declared.listing.Listing.{Listing}
 use Rattle.pcode_model.specs.declared.opcode.Opcode.{Opcode}
 use Rattle.pcode_model.specs.declared.opcode.Opcode.TheVariants as O
-use Rattle.pcode_model.specs.Rules.{past_first}
 use Rattle.pcode_model.specs.Spaces.{first_ram, kind_of, offset_bytes_in, word_size}
 use Rattle.pcode_model.specs.Step.{size_out, varnode_at}
 use Rattle.cmeaning.specs.declared.tree.Expr.{Expr}
@@ -110,13 +109,26 @@ pub record Made : Type 0 where
 abbrev pub nothing : Made
 nothing = record { statements = []; locals = [] }
 
--- The statement that sets a variable, for an output: the range's own variable, or a local that is stored then.
+-- the variable that an output's word is assigned to: the range's own, or the next local
+abbrev pub target_by : SpaceKind → List Varnode → ℕ → Varnode → ℕ
+target_by Ram ranges next z = next
+target_by k ranges next z = variable_of ranges z
+
+-- what follows: a local of memory is stored
+abbrev pub settle_by : SpaceKind → Listing → ℕ → Varnode → List Stmt
+settle_by Ram l next z = S.Store (name_of l z.space) (address_of l z) (E.Var next) ∷ []
+settle_by k l next z = []
+
+abbrev pub locals_by : SpaceKind → Varnode → List Variable
+locals_by Ram z = local_of z.size ∷ []
+locals_by k z = []
+
+-- an output, by the statement that sets a variable
 abbrev pub set_by : SpaceKind → Listing → List Varnode → ℕ → Varnode → (ℕ → Stmt) → Made
-set_by Ram l ranges next z make = record {
-  statements = make next ∷ S.Store (name_of l z.space) (address_of l z) (E.Var next) ∷ [];
-  locals = local_of z.size ∷ [];
+set_by k l ranges next z make = record {
+  statements = make (target_by k ranges next z) ∷ settle_by k l next z;
+  locals = locals_by k z;
 }
-set_by k l ranges next z make = record { statements = make (variable_of ranges z) ∷ []; locals = [] }
 
 abbrev pub sets : Listing → List Varnode → ℕ → Option Varnode → (ℕ → Stmt) → Made
 sets l ranges next None make = nothing
@@ -148,22 +160,30 @@ stores l s w r = behind r (record {
   locals = [];
 })
 
+-- the input of a number, and that one and the next
+abbrev pub one_read : Listing → List Varnode → ℕ → List Varnode → ℕ → Read
+one_read l ranges next vs n = reads l ranges next (varnode_at vs n ∷ [])
+
+abbrev pub both_read : Listing → List Varnode → ℕ → List Varnode → ℕ → Read
+both_read l ranges next vs n = reads l ranges next (varnode_at vs n ∷ varnode_at vs (suc n) ∷ [])
+
 -- An op that leads on. What an op reads that leaves a block is its exit's.
 abbrev pub op_made : Listing → List Varnode → ℕ → Opcode → Option Varnode → List Varnode → Made
 op_made l ranges next (O.Unary op) out vs =
-    computes l ranges next out (reads l ranges next vs)
-    (λ v. S.Assign v (unary_node op (size_out out) (word_at (reads l ranges next vs) 0)))
+    computes l ranges next out (one_read l ranges next vs 0)
+    (λ v. S.Assign v (unary_node op (size_out out) (word_at (one_read l ranges next vs 0) 0)))
 op_made l ranges next (O.Binary op) out vs =
-    computes l ranges next out (reads l ranges next vs)
+    computes l ranges next out (both_read l ranges next vs 0)
     (λ v. S.Assign v (binary_node op (varnode_at vs 0).size (varnode_at vs 1).offset (size_out out)
-    (word_at (reads l ranges next vs) 0) (word_at (reads l ranges next vs) 1)))
+    (word_at (both_read l ranges next vs 0) 0) (word_at (both_read l ranges next vs 0) 1)))
 op_made l ranges next (O.Divide op) out vs =
-    computes l ranges next out (reads l ranges next vs)
-    (divides l op (varnode_at vs 1) (word_at (reads l ranges next vs) 0) (word_at (reads l ranges next vs) 1))
+    computes l ranges next out (both_read l ranges next vs 0)
+    (divides l op (varnode_at vs 1) (word_at (both_read l ranges next vs 0) 0)
+    (word_at (both_read l ranges next vs 0) 1))
 op_made l ranges next O.Load out vs =
-    computes l ranges next out (reads l ranges next (past_first vs))
+    computes l ranges next out (one_read l ranges next vs 1)
     (λ v. S.Load v (name_of l (varnode_at vs 0).offset)
-    (address l (varnode_at vs 0).offset (varnode_at vs 1).size (word_at (reads l ranges next (past_first vs)) 0)))
+    (address l (varnode_at vs 0).offset (varnode_at vs 1).size (word_at (one_read l ranges next vs 1) 0)))
 op_made l ranges next O.Store out vs =
-    stores l (varnode_at vs 0).offset (varnode_at vs 1).size (reads l ranges next (past_first vs))
+    stores l (varnode_at vs 0).offset (varnode_at vs 1).size (both_read l ranges next vs 1)
 op_made l ranges next code out vs = nothing

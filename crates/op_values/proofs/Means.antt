@@ -1,34 +1,19 @@
 -- An expression that has a width and a value, and how one over it has them.
-use Rattle.std.proofs.Common.{◌≡◌, ℕ, zero, suc, ◌+◌, ◌*◌, ◌/◌, ◌%◌, ◌^◌, ◌<◌, ◌≤◌, Bool, true, false, Option, Some, refl, sym, ap, ◌∙◌, subst, arith}
+use Rattle.std.proofs.Common.{◌≡◌, ℕ, zero, suc, ◌*◌, ◌/◌, ◌%◌, ◌^◌, ◌<◌, ◌≤◌, Bool, true, false, Option, Some, refl, sym, ap, ◌∙◌, subst, arith}
 use Rattle.std.specs.Prelude.{◌==◌, cond}
 use Rattle.std.specs.Int.Count.{ones, ones_step, ones-ones, count_leading_zeros}
 use Rattle.std.proofs.Math.Nat.{mod-eq_of_lt, pow-suc}
 use Rattle.std.proofs.lemmas.Nat.{leading_le}
 use Rattle.std.proofs.lemmas.Bool.Decides.{nat_tests}
-use Rattle.bits_core.specs.declared.ops.Unary.{Unary}
 use Rattle.bits_core.specs.declared.ops.Unary.TheVariants as U
-use Rattle.bits_core.specs.declared.ops.Binary.{Binary}
-use Rattle.bits_core.specs.declared.ops.Binary.TheVariants as B
-use Rattle.bits_core.specs.Value.{limit, zext, popcount, lzcount, IsUnarySized, IsBinarySized, unary_value, binary_value}
+use Rattle.bits_core.specs.Value.{limit, zext, popcount, lzcount, unary_value}
 use Rattle.bits_core.proofs.Limits.{limit_is, limit_least}
-use Rattle.cmeaning.specs.declared.tree.UnaryOp.TheVariants.{Neg, Not}
-use Rattle.cmeaning.specs.declared.tree.ArithmeticOp.{ArithmeticOp}
-use Rattle.cmeaning.specs.declared.tree.ArithmeticOp.TheVariants.{Add, Sub, Mul, And, Or, Xor}
-use Rattle.cmeaning.specs.declared.tree.ShiftOp.{ShiftOp}
-use Rattle.cmeaning.specs.declared.tree.ShiftOp.TheVariants.{Shl, Shr, Sar}
-use Rattle.cmeaning.specs.declared.tree.CompareOp.{CompareOp}
-use Rattle.cmeaning.specs.declared.tree.CompareOp.TheVariants.{Eq, Ne, Lt, Le}
-use Rattle.cmeaning.specs.declared.tree.SignedCompareOp.{SignedCompareOp}
-use Rattle.cmeaning.specs.declared.tree.SignedCompareOp.TheVariants.{SLt, SLe}
-use Rattle.cmeaning.specs.declared.tree.ExtendOp.TheVariants.{Zext, Sext}
-use Rattle.cmeaning.specs.declared.tree.OverflowOp.{OverflowOp}
-use Rattle.cmeaning.specs.declared.tree.OverflowOp.TheVariants.{Carry, SCarry, SBorrow}
-use Rattle.cmeaning.specs.declared.tree.CountOp.TheVariants.{Popcount, Lzcount}
+use Rattle.cmeaning.specs.declared.tree.ExtendOp.TheVariants.{Zext}
 use Rattle.cmeaning.specs.declared.tree.Expr.{Expr}
 use Rattle.cmeaning.specs.declared.tree.Expr.TheVariants as E
-use Rattle.cmeaning.specs.Value.{arithmetic_of, shift_of, compare_of, signed_compare_of, overflow_of, with_value, with_values, width_of, value_of}
-use Rattle.cmeaning.proofs.Value.{width_of_const, value_of_const, width_of_unary, value_of_unary, width_of_arithmetic, value_of_arithmetic, width_of_shift, value_of_shift, width_of_compare, value_of_compare, width_of_signed_compare, value_of_signed_compare, width_of_extend, value_of_extend, width_of_concat, value_of_concat, width_of_overflow, value_of_overflow, width_of_count, value_of_count}
-use Rattle.op_values.specs.Nodes.{nearest, width_by, word_by, constant, widened, unary_node, binary_node}
+use Rattle.cmeaning.specs.Value.{with_value, with_values, width_of, value_of}
+use Rattle.cmeaning.proofs.Value.{width_of_const, value_of_const, width_of_extend, value_of_extend}
+use Rattle.op_values.specs.Nodes.{nearest, width_by, word_by, constant, widened}
 
 -- the expression has this width and this value
 pub record Means (ws : ℕ → ℕ) (env : ℕ → Option ℕ) (e : Expr) (w n : ℕ) : Type 0 where

@@ -1,16 +1,11 @@
 -- The value of the node of an operation is the operation's value.
-use Rattle.std.proofs.Common.{◌≡◌, ℕ, zero, suc, ◌+◌, ◌*◌, ◌/◌, ◌%◌, ◌^◌, ◌<◌, ◌≤◌, Bool, true, false, Option, Some, refl, sym, ap, ◌∙◌, subst, arith}
-use Rattle.std.specs.Prelude.{◌==◌, cond}
-use Rattle.std.specs.Int.Count.{ones, ones_step, ones-ones, count_leading_zeros}
-use Rattle.std.proofs.Math.Nat.{mod-eq_of_lt, pow-suc}
-use Rattle.std.proofs.lemmas.Nat.{leading_le}
-use Rattle.std.proofs.lemmas.Bool.Decides.{nat_tests}
+use Rattle.std.proofs.Common.{◌≡◌, ℕ, ◌+◌, ◌<◌, ◌≤◌, Option, Some, sym, ap, ◌∙◌, subst, arith}
 use Rattle.bits_core.specs.declared.ops.Unary.{Unary}
 use Rattle.bits_core.specs.declared.ops.Unary.TheVariants as U
 use Rattle.bits_core.specs.declared.ops.Binary.{Binary}
 use Rattle.bits_core.specs.declared.ops.Binary.TheVariants as B
-use Rattle.bits_core.specs.Value.{part, limit, zext, popcount, lzcount, IsUnarySized, IsBinarySized, unary_value, binary_value}
-use Rattle.bits_core.proofs.Limits.{limit_is, limit_least}
+use Rattle.bits_core.specs.Value.{part, limit, popcount, lzcount, IsUnarySized, IsBinarySized, unary_value, binary_value}
+use Rattle.bits_core.proofs.Limits.{limit_is}
 use Rattle.cmeaning.specs.declared.tree.UnaryOp.TheVariants.{Neg, Not}
 use Rattle.cmeaning.specs.declared.tree.ArithmeticOp.{ArithmeticOp}
 use Rattle.cmeaning.specs.declared.tree.ArithmeticOp.TheVariants.{Add, Sub, Mul, And, Or, Xor}
@@ -26,8 +21,8 @@ use Rattle.cmeaning.specs.declared.tree.OverflowOp.TheVariants.{Carry, SCarry, S
 use Rattle.cmeaning.specs.declared.tree.CountOp.TheVariants.{Popcount, Lzcount}
 use Rattle.cmeaning.specs.declared.tree.Expr.{Expr}
 use Rattle.cmeaning.specs.declared.tree.Expr.TheVariants as E
-use Rattle.cmeaning.specs.Value.{arithmetic_of, shift_of, compare_of, signed_compare_of, overflow_of, with_value, with_values, width_of, value_of}
-use Rattle.cmeaning.proofs.Value.{width_of_const, value_of_const, width_of_unary, value_of_unary, width_of_arithmetic, value_of_arithmetic, width_of_shift, value_of_shift, width_of_compare, value_of_compare, width_of_signed_compare, value_of_signed_compare, width_of_extend, value_of_extend, width_of_concat, value_of_concat, width_of_overflow, value_of_overflow, width_of_count, value_of_count}
+use Rattle.cmeaning.specs.Value.{arithmetic_of, shift_of, compare_of, signed_compare_of, overflow_of, width_of}
+use Rattle.cmeaning.proofs.Value.{width_of_unary, value_of_unary, width_of_arithmetic, value_of_arithmetic, width_of_shift, value_of_shift, width_of_compare, value_of_compare, width_of_signed_compare, value_of_signed_compare, width_of_extend, value_of_extend, width_of_concat, value_of_concat, width_of_overflow, value_of_overflow, width_of_count, value_of_count}
 use Rattle.op_values.specs.Nodes.{nearest, width_by, constant, part_node, unary_node, binary_node}
 use Rattle.op_values.proofs.Means.{Means, one, two, nearest_is, constant_means, widened_means, popcount_kept, lzcount_kept}
 use Rattle.op_values.proofs.Parts.{part_means}
