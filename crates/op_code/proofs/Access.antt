@@ -1,16 +1,15 @@
 -- Loads and stores of the code are those of the listing.
 use Rattle.std.proofs.Common.{◌≡◌, ℕ, ◌%◌, ◌*◌, ◌<◌, ◌≤◌, Bool, true, false, List, length, Option, Some, None, refl, sym, ap, ◌∙◌, subst, arith}
-use Rattle.std.specs.Prelude.{Result, Ok, Err}
+use Rattle.std.specs.Prelude.{Result, Ok}
 use Rattle.std.proofs.Math.Nat.{mod-eq_of_lt}
 use Rattle.machine.specs.Trace.{End, ReadOnlyWrite, Store}
 use Rattle.bits_core.specs.Value.{limit}
 use Rattle.pcode_model.specs.declared.listing.Space.{Space}
-use Rattle.pcode_model.specs.declared.listing.SpaceKind.{SpaceKind}
-use Rattle.pcode_model.specs.declared.listing.SpaceKind.TheVariants.{Constant, Ram}
+use Rattle.pcode_model.specs.declared.listing.SpaceKind.TheVariants.{Ram}
 use Rattle.pcode_model.specs.declared.listing.Varnode.{Varnode}
 use Rattle.pcode_model.specs.declared.listing.Place.{Place}
 use Rattle.pcode_model.specs.declared.listing.Listing.{Listing}
-use Rattle.pcode_model.specs.Spaces.{each_at, kind_in, offset_bytes_in, put_in, size_in, size_of, word_size}
+use Rattle.pcode_model.specs.Spaces.{each_at, kind_in, offset_bytes_in, size_in, size_of, word_size}
 use Rattle.std.specs.Prelude.{slice_get}
 use Rattle.pcode_model.specs.Memory.{Acts, Bytes, any_fixed, plain, poke, unless}
 use Rattle.pcode_model.specs.World.{World, store, stored_as}
@@ -26,7 +25,7 @@ use Rattle.cmeaning.specs.Do.{Local, accessed, assigned, do_simple, loaded, stor
 use Rattle.cmeaning.specs.Do as code
 use Rattle.cmeaning.proofs.Do.{do_load, do_store}
 use Rattle.op_values.proofs.Means.{Means, constant_means}
-use Rattle.op_values.proofs.Addresses.{Addresses, address_means}
+use Rattle.op_values.proofs.Addresses.{address_means}
 use Rattle.op_code.specs.Made.{address, address_of, name_of, offset_bytes}
 use Rattle.op_code.specs.Form.{IsDirect, IsMemory}
 use Rattle.op_code.proofs.Sees.{Meets, Sees}

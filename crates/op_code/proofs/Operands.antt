@@ -1,7 +1,6 @@
 -- What stands for operands has their words.
-use Rattle.std.proofs.Common.{◌≡◌, ℕ, suc, ◌+◌, ◌<◌, ◌≤◌, Bool, List, [], ◌∷◌, ◌++◌, length, Option, Some, None, refl, sym, ap, ◌∙◌, subst, arith}
-use Rattle.std.specs.Prelude.{Result, Ok, Err, slice_get}
-use Rattle.machine.specs.Trace.{End}
+use Rattle.std.proofs.Common.{◌≡◌, ℕ, ◌+◌, ◌<◌, ◌≤◌, Bool, List, [], ◌∷◌, ◌++◌, length, Option, Some, None, refl, sym, ap, ◌∙◌, subst, arith}
+use Rattle.std.specs.Prelude.{Ok}
 use Rattle.bits_core.specs.Value.{limit}
 use Rattle.pcode_model.specs.declared.listing.SpaceKind.{SpaceKind}
 use Rattle.pcode_model.specs.declared.listing.SpaceKind.TheVariants.{Constant, Ram, Register, Unique}
@@ -11,7 +10,7 @@ use Rattle.pcode_model.specs.Spaces.{kind_of}
 use Rattle.pcode_model.specs.Flow.{IsIn}
 use Rattle.pcode_model.specs.Memory.{Acts, Bytes, Frame}
 use Rattle.pcode_model.specs.World.{unless_over}
-use Rattle.pcode_model.specs.Step.{State, all_read, as_word, local_word, read_all, read_varnode, with_first, word_in_bytes}
+use Rattle.pcode_model.specs.Step.{State, all_read, local_word, read_all, read_varnode, with_first, word_in_bytes}
 use Rattle.pcode_laws.specs.AsBytes.{AsBytes}
 use Rattle.pcode_laws.proofs.Puts.{put_at, put_else}
 use Rattle.range_words.specs.Ranges.{Holds}
@@ -172,7 +171,8 @@ module _
     reads_by Ram returns n v x narrow h behind wide sees =
         let w = word_in_bytes l v.space v.offset v.size x.world.memory in
         let k : ws n ≡ v.size = wide.0 ∙ nearest_is v.size narrow.0 narrow.1 in
-        let ran = run_one l ws returns (S.Load n (name_of l v.space) (address_of l v)) [] x (assigned n w x) (goes x sees)
+        let ran = run_one l ws returns (S.Load n (name_of l v.space) (address_of l v)) [] x (assigned n w x)
+        (goes x sees)
         (load_runs l ws (λ c. returns []) v.space h.0 n v.size v.offset (address_of l v) x k
         (direct_points ws x.env l v h)) in
         let P : Local → Type 0 = λ y. ReadsBy m l look ranges ws Ram n v s x y in
@@ -215,7 +215,8 @@ module _
         let r = reads_by k (λ ss. returns (ss ++ rest.loads)) n v x h.0.0 h.0.1 behind
         (wide_front ws n one.locals rest.locals wide) sees in
         let y : Local = run_all l ws (λ ss. returns (ss ++ rest.loads)) one.loads x in
-        let q = reads_all vs returns n2 y h.1 (omega (arith, behind)) (wide_back ws n one.locals rest.locals wide) r.sees in
+        let q = reads_all vs returns n2 y h.1 (omega (arith, behind))
+        (wide_back ws n one.locals rest.locals wide) r.sees in
         let z : Local = run_all l ws returns rest.loads y in
         let has = r.has z.env q.sees.holds q.kept in
         let P : Local → Type 0 = λ t. ReadsAll m l f look ranges ws n (v ∷ vs) s x t in

@@ -1,9 +1,8 @@
 -- What stands for an op does what the op does. A further operation adds its cases here.
 use Rattle.std.proofs.Common.{◌≡◌, ◌≢◌, ℕ, ◌+◌, ◌<◌, ◌≤◌, Bool, true, false, List, [], ◌∷◌, ◌++◌, length, Option, Some, None, refl, sym, ap, ◌∙◌, subst, arith, ◌⊎◌, inl, inr, ⊎_elim}
-use Rattle.std.specs.Prelude.{◌==◌, cond, Result, Ok, Err}
+use Rattle.std.specs.Prelude.{cond, Ok}
 use Rattle.std.proofs.lemmas.Bool.{cases_eq}
-use Rattle.std.proofs.lemmas.Bool.Decides.{nat_tests}
-use Rattle.machine.specs.Trace.{End, DivZero}
+use Rattle.machine.specs.Trace.{DivZero}
 use Rattle.bits_core.specs.declared.ops.Unary.{Unary}
 use Rattle.bits_core.specs.declared.ops.Binary.{Binary}
 use Rattle.bits_core.specs.declared.ops.Binary.TheVariants as B
@@ -25,7 +24,7 @@ use Rattle.pcode_model.specs.Places.{Does, next_place}
 use Rattle.pcode_model.specs.Spaces.{kind_of}
 use Rattle.pcode_model.specs.Memory.{Acts, Bytes, Frame, plain}
 use Rattle.pcode_model.specs.World.{ended, store}
-use Rattle.pcode_model.specs.Step.{State, all_read, byte_address, bytes_in, in_world, moved, read_all, read_varnode, step_at, word_in_bytes, write_varnode}
+use Rattle.pcode_model.specs.Step.{State, all_read, byte_address, bytes_in, in_world, moved, read_all, step_at, word_in_bytes, write_varnode}
 use Rattle.pcode_laws.specs.AsBytes.{AsBytes}
 use Rattle.range_words.proofs.Variables.{word_below}
 use Rattle.cmeaning.specs.declared.tree.Expr.{Expr}
@@ -41,7 +40,7 @@ use Rattle.op_values.proofs.Means.{Means, nearest_is}
 use Rattle.op_values.proofs.Operations.{IsDropped, binary_means, unary_means}
 use Rattle.op_values.proofs.Divisions.{division_means, divides_some, statement_is}
 use Rattle.op_code.specs.Made.{address, computes, divides, divides_at, name_of, op_made, reads, sets, stores, word_at}
-use Rattle.op_code.specs.Form.{IsMemory, IsNarrow, IsOperand, IsOutput, IsPlainOp, IsSecond}
+use Rattle.op_code.specs.Form.{IsMemory, IsOutput, IsPlainOp, IsSecond}
 use Rattle.op_code.proofs.Access.{address_points, load_runs, store_meets, store_runs}
 use Rattle.op_code.proofs.Operands.{AllHave, AllOperands, Has, ReadsAll, goes, reads_all, run_append, run_one}
 use Rattle.op_code.proofs.Sees.{AreWide, Meets, Sees, Setting, wide_back, wide_front}
@@ -320,7 +319,8 @@ module _
         let node = unary_node op z.size d in
         let small = h.1.1.0 in
         computes_meets m l f look ranges ws is set (next_place i s.at.index) s go n free (v ∷ []) z returns
-        (λ u. S.Assign u node) x (step_at m l f (Does i (op_of (O.Unary op) (Some z) (v ∷ []))) s) h.1.1 (h.1.0, tt) wide
+        (λ u. S.Assign u node) x (step_at m l f (Does i (op_of (O.Unary op) (Some z) (v ∷ []))) s) h.1.1
+        (h.1.0, tt) wide
         sees
         (λ y r.
         let o = one_of m l ws s y.env v d r.words r.have in

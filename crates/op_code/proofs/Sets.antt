@@ -1,5 +1,5 @@
 -- An output is set: its variable is assigned, or a local that is stored then.
-use Rattle.std.proofs.Common.{◌≡◌, ℕ, ◌<◌, ◌≤◌, Bool, List, [], ◌∷◌, length, Option, Some, None, refl, sym, ap, ◌∙◌, subst}
+use Rattle.std.proofs.Common.{◌≡◌, ℕ, ◌<◌, ◌≤◌, Bool, List, [], ◌∷◌, length, Some, None, refl, sym, ap, ◌∙◌, subst}
 use Rattle.machine.specs.Trace.{End}
 use Rattle.bits_core.specs.Value.{limit}
 use Rattle.pcode_model.specs.declared.listing.SpaceKind.{SpaceKind}

@@ -1,7 +1,7 @@
 -- What a step of the listing does, by the words that its op reads.
-use Rattle.std.proofs.Common.{◌≡◌, ◌≢◌, ℕ, Bool, true, false, List, [], ◌∷◌, Option, Some, None, refl, sym, ap, ◌∙◌, arith}
-use Rattle.std.specs.Prelude.{◌==◌, Result, Ok, Err}
-use Rattle.machine.specs.Trace.{End, DivZero}
+use Rattle.std.proofs.Common.{◌≡◌, ◌≢◌, ℕ, List, [], ◌∷◌, Option, Some, None, ap, ◌∙◌}
+use Rattle.std.specs.Prelude.{Ok}
+use Rattle.machine.specs.Trace.{DivZero}
 use Rattle.bits_core.specs.declared.ops.Unary.{Unary}
 use Rattle.bits_core.specs.declared.ops.Binary.{Binary}
 use Rattle.bits_core.specs.declared.ops.Divide.{Divide}
@@ -10,7 +10,6 @@ use Rattle.laws.proofs.Division.{divide_some}
 use Rattle.pcode_model.specs.declared.listing.Varnode.{Varnode}
 use Rattle.pcode_model.specs.declared.listing.Instruction.{Instruction}
 use Rattle.pcode_model.specs.declared.listing.Op.{Op}
-use Rattle.pcode_model.specs.declared.listing.Place.{Place}
 use Rattle.pcode_model.specs.declared.listing.Listing.{Listing}
 use Rattle.pcode_model.specs.declared.opcode.Opcode.{Opcode}
 use Rattle.pcode_model.specs.declared.opcode.Opcode.TheVariants as O

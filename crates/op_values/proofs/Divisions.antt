@@ -44,7 +44,8 @@ signed_has op w a b h =
     let t : (a == half w && b == limit w - 1) ≡ false = grind (arith, nat_tests) in
     ap (λ c. cond c None (divide_value op w a b)) t
 
-module _ (ws : ℕ → ℕ) (env : ℕ → Option ℕ) (w a b : ℕ) (d e : Expr) (m : Means ws env d w a) (n : Means ws env e w b) where
+module _ (ws : ℕ → ℕ) (env : ℕ → Option ℕ) (w a b : ℕ) (d e : Expr) (m : Means ws env d w a)
+    (n : Means ws env e w b) where
   -- by the values of both
   both : (c : Expr) (f : ℕ → ℕ → ℕ → Option ℕ) (o : Option ℕ)
       → value_of ws env c ≡ with_values (value_of ws env d) (value_of ws env e) (f (width_of ws d))

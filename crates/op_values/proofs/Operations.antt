@@ -162,7 +162,8 @@ module _ (ws : ℕ → ℕ) (env : ℕ → Option ℕ) where
   binary_means B.Subpiece u v w a b k d e s drops input narrow below m n =
       let P : ℕ → Type 0 = λ j. Means ws env (part_node (nearest u) k w d) w (part a j w) in
       let Q : ℕ → Type 0 = λ v. Means ws env (part_node v k w d) w (part a k w) in
-      subst P drops (subst Q (sym (nearest_is u input.0 input.1)) (part_means ws env u k w a d narrow.0 narrow.1 below m))
+      subst P drops (subst Q (sym (nearest_is u input.0 input.1))
+      (part_means ws env u k w a d narrow.0 narrow.1 below m))
   binary_means B.Add u v w a b k d e s drops input narrow below m n = arithmetic_means Add u v w a b d e s.0 m n
   binary_means B.Subtract u v w a b k d e s drops input narrow below m n = arithmetic_means Sub u v w a b d e s.0 m n
   binary_means B.Multiply u v w a b k d e s drops input narrow below m n = arithmetic_means Mul u v w a b d e s.0 m n
@@ -173,14 +174,21 @@ module _ (ws : ℕ → ℕ) (env : ℕ → Option ℕ) where
   binary_means B.NotEqual u v w a b k d e s drops input narrow below m n = compare_means Ne u v w a b d e s.1 m n
   binary_means B.Less u v w a b k d e s drops input narrow below m n = compare_means Lt u v w a b d e s.1 m n
   binary_means B.LessEqual u v w a b k d e s drops input narrow below m n = compare_means Le u v w a b d e s.1 m n
-  binary_means B.SignedLess u v w a b k d e s drops input narrow below m n = signed_compare_means SLt u v w a b d e s.1 m n
-  binary_means B.SignedLessEqual u v w a b k d e s drops input narrow below m n = signed_compare_means SLe u v w a b d e s.1 m n
+  binary_means B.SignedLess u v w a b k d e s drops input narrow below m n =
+      signed_compare_means SLt u v w a b d e s.1 m n
+  binary_means B.SignedLessEqual u v w a b k d e s drops input narrow below m n =
+      signed_compare_means SLe u v w a b d e s.1 m n
   binary_means B.Carry u v w a b k d e s drops input narrow below m n = overflow_means Carry u v w a b d e s.1 m n
-  binary_means B.SignedCarry u v w a b k d e s drops input narrow below m n = overflow_means SCarry u v w a b d e s.1 m n
-  binary_means B.SignedBorrow u v w a b k d e s drops input narrow below m n = overflow_means SBorrow u v w a b d e s.1 m n
+  binary_means B.SignedCarry u v w a b k d e s drops input narrow below m n =
+      overflow_means SCarry u v w a b d e s.1 m n
+  binary_means B.SignedBorrow u v w a b k d e s drops input narrow below m n =
+      overflow_means SBorrow u v w a b d e s.1 m n
   binary_means B.Left u v w a b k d e s drops input narrow below m n = shift_means Shl u v w a b d e s m n
   binary_means B.Right u v w a b k d e s drops input narrow below m n = shift_means Shr u v w a b d e s m n
   binary_means B.SignedRight u v w a b k d e s drops input narrow below m n = shift_means Sar u v w a b d e s m n
-  binary_means B.BoolAnd u v w a b k d e s drops input narrow below m n = arithmetic_means And u v w a b d e (s.0 ∙ sym s.2) m n
-  binary_means B.BoolOr u v w a b k d e s drops input narrow below m n = arithmetic_means Or u v w a b d e (s.0 ∙ sym s.2) m n
-  binary_means B.BoolXor u v w a b k d e s drops input narrow below m n = arithmetic_means Xor u v w a b d e (s.0 ∙ sym s.2) m n
+  binary_means B.BoolAnd u v w a b k d e s drops input narrow below m n =
+      arithmetic_means And u v w a b d e (s.0 ∙ sym s.2) m n
+  binary_means B.BoolOr u v w a b k d e s drops input narrow below m n =
+      arithmetic_means Or u v w a b d e (s.0 ∙ sym s.2) m n
+  binary_means B.BoolXor u v w a b k d e s drops input narrow below m n =
+      arithmetic_means Xor u v w a b d e (s.0 ∙ sym s.2) m n

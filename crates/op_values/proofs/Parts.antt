@@ -14,7 +14,8 @@ use Rattle.cmeaning.proofs.Value.{width_of_part, value_of_part, width_of_extend,
 use Rattle.op_values.specs.Nodes.{nearest, width_by, constant, within_node, part_node}
 use Rattle.op_values.proofs.Means.{Means, nearest_is, constant_means, one}
 
-module _ (ws : ℕ → ℕ) (env : ℕ → Option ℕ) (u k : ℕ) (a : ℕ) (e : Expr) (below : a < limit u) (m : Means ws env e u a) where
+module _ (ws : ℕ → ℕ) (env : ℕ → Option ℕ) (u k : ℕ) (a : ℕ) (e : Expr) (below : a < limit u)
+    (m : Means ws env e u a) where
   within_by : (t : Bool) (w : ℕ)
       → (w == u) ≡ t
       → k + w ≤ u

@@ -78,7 +78,7 @@ part_node u k w e = if nat_le u k then constant w 0
 
 -- ---- two operands
 
--- An operation with two inputs. Of SUBPIECE the first input has u bytes, its second one is k, and the output has w bytes.
+-- An operation with two inputs. Of SUBPIECE the first input has u bytes, the second one is k, and the output has w.
 abbrev pub binary_node : Binary → (u k w : ℕ) → Expr → Expr → Expr
 binary_node B.Piece u k w d e = E.Concat d e
 binary_node B.Subpiece u k w d e = part_node (nearest u) k w d
@@ -106,8 +106,8 @@ binary_node B.BoolXor u k w d e = E.Arithmetic Xor d e
 
 -- ---- divisions
 
--- Whether a division of words of w bytes by a constant is an expression: the constant isn't 0, and of a signed division
--- it isn't all ones.
+-- Whether a division of words of w bytes by a constant is an expression: the constant isn't 0, nor all ones where the
+-- division is signed.
 abbrev pub divides_by : Divide → (w n : ℕ) → Bool
 divides_by D.Quotient w n = not (n == 0)
 divides_by D.Remainder w n = not (n == 0)
@@ -129,8 +129,8 @@ statement_of D.SignedRemainder = statement.SRem
 
 -- ---- addresses
 
--- The byte address that an expression of w bytes counts, in a space whose offsets have s bytes and whose words have k: a
--- product of the wider of both widths.
+-- The byte address that an expression of w bytes counts, in a space whose offsets have s bytes and whose words have
+-- k: a product of the wider of both widths.
 abbrev pub address_node : (s k w : ℕ) → Expr → Expr
 address_node s k w e = if k == 1 then e
     else (if nat_lt w s then E.Arithmetic Mul (E.Extend Zext (width_by s) e) (constant s k)
