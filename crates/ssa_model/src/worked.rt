@@ -3,7 +3,7 @@
 ghost use Rattle.ssa_model.specs.Edits.{IsSsa};
 ghost use Rattle.ssa_model.specs.Examples.{sum_loop};
 ghost use Rattle.ssa_model.specs.Outline.{form};
-ghost use Rattle.ssa_model.specs.Worked.{Texts};
+ghost use Rattle.ssa_model.specs.Worked.{Runs, Texts};
 
 /// A loop with two MULTIEQUALs, an endless loop, and a switch over each other kind of line.
 pub fn texts()
@@ -13,4 +13,9 @@ pub fn texts()
 /// The loop is strict and formed.
 pub fn sum_is_ssa()
     ensures { IsSsa (form sum_loop) }
+{}
+
+/// What the loop, the endless loop and the switch show.
+pub fn runs()
+    ensures { Runs }
 {}
