@@ -12,7 +12,7 @@ use Rattle.pcode_model.specs.WellFormed.{IsRegister, IsStackPointer, IsWellForme
 use Rattle.cmeaning.specs.Do.{accessed, space_named}
 use Rattle.run_world.specs.Setting.{HasShape}
 use Rattle.run_world.specs.declared.shape.Shape.{Shape}
-use Rattle.run_world.proofs.Declared.{size_most}
+use Rattle.run_world.proofs.Declared.{kind_at, size_most}
 use Rattle.cmeaning.specs.Fits.{lies_in, names_ram}
 
 pub both : (a b : Bool) → a && b ≡ true → (a ≡ true) × (b ≡ true)
@@ -40,11 +40,7 @@ same_is Unique Register h = absurd cc
 
 -- the first space of a kind is of that kind
 first_is : (k : SpaceKind) (ss : List Space) → 1 ≤ how_many k ss → kind_in (slice_get ss (number_of k ss)) ≡ k
-first_is k [] some = absurd (omega (arith, some))
-first_is k (s ∷ ss) some = step (same_kind k s.kind) refl some (first_is k ss) where
-  step : (b : Bool) → same_kind k s.kind ≡ b → 1 ≤ cond b (suc (how_many k ss)) (how_many k ss) → (1 ≤ how_many k ss → kind_in (slice_get ss (number_of k ss)) ≡ k) → kind_in (slice_get (s ∷ ss) (cond b 0 (suc (number_of k ss)))) ≡ k
-  step true is some rest = same_is k s.kind is
-  step false is some rest = rest some
+first_is k ss some = same_is k (kind_in (slice_get ss (number_of k ss))) (kind_at k ss some)
 
 pub ram_accessed : (l : Listing) (space : Option (List ℕ)) → IsWellFormed l → names_ram l space ≡ true → kind_of l (accessed l space) ≡ Ram
 ram_accessed l None formed h = first_is Ram l.spaces formed.complete.ram
@@ -53,9 +49,6 @@ ram_accessed l (Some name) formed h = same_is Ram (kind_of l (space_named name l
 -- sizes
 pub small_of : (l : Listing) (n : ℕ) (k : SpaceKind) → IsWellFormed l → kind_of l n ≡ k → same_kind Constant k ≡ false → size_of l n ≤ 2 ^ 64
 small_of l n k formed is other = size_most l.spaces n formed.spaces (ap (same_kind Constant) is ∙ other)
-
-pub ram_small : (l : Listing) → IsWellFormed l → size_of l (first_ram l) ≤ 2 ^ 64
-ram_small l formed = small_of l (first_ram l) Ram formed (first_is Ram l.spaces formed.complete.ram) refl
 
 pub registers_small : (l : Listing) → IsWellFormed l → size_of l (register_space l) ≤ 2 ^ 64
 registers_small l formed = small_of l (register_space l) Register formed (first_is Register l.spaces (omega (arith, formed.complete.register))) refl

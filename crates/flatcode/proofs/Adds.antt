@@ -13,7 +13,7 @@ use Rattle.cmeaning.proofs.Flat.{branch_of, branch_is, piece_of_if, piece_of_if_
 use Rattle.flatcode.specs.declared.draft.Draft.{Draft}
 use Rattle.flatcode.specs.Steps.{flat_steps, place_in, arm_of, arms_of}
 use Rattle.flatcode.specs.Adds.{Adds, pair_of, Puts, PutsAll, PutsArm, PutsArms}
-use Rattle.flatcode.proofs.Turns.{front}
+use Rattle.run_world.proofs.Effects.{rest_at}
 
 abbrev Labels : Type 0
 Labels = List (ℕ × ℕ)
@@ -195,13 +195,13 @@ pub body_turn : (returns : ℕ → Bool) (a b c : Draft) (body : List Stmt) (i :
     → Puts a b (piece_of returns s) out → PutsAll b c (pieces_of returns (drop (i + 1) body)) out → PutsAll a c (pieces_of returns (drop i body)) out
 body_turn returns a b c body i s out within is x y =
     let P : List Stmt → Type 0 = λ z. PutsAll a c (pieces_of returns z) out in
-    subst P (sym (front body i s within is)) (body_cons a b c (piece_of returns s) (pieces_of returns (drop (i + 1) body)) out x y)
+    subst P (sym (rest_at body i s within is)) (body_cons a b c (piece_of returns s) (pieces_of returns (drop (i + 1) body)) out x y)
 
 pub arms_turn : (returns : ℕ → Bool) (a b c : Draft) (arms : List Arm) (i : ℕ) (arm : Arm) (out past : ℕ) → i < length arms → arm ≡ get_or arms i arm
     → PutsArm a b (arm_of returns arm) out past → PutsArms b c (arms_of returns (drop (i + 1) arms)) out past → PutsArms a c (arms_of returns (drop i arms)) out past
 arms_turn returns a b c arms i arm out past within is x y =
     let P : List Arm → Type 0 = λ z. PutsArms a c (arms_of returns z) out past in
-    subst P (sym (front arms i arm within is)) (arms_cons a b c (arm_of returns arm) (arms_of returns (drop (i + 1) arms)) out past x y)
+    subst P (sym (rest_at arms i arm within is)) (arms_cons a b c (arm_of returns arm) (arms_of returns (drop (i + 1) arms)) out past x y)
 
 -- ---- statements of one step or none
 

@@ -5,7 +5,7 @@ use Rattle.cmeaning.specs.Flat.{found_in}
 use Rattle.flatcode.specs.declared.draft.Placed.{Placed}
 use Rattle.flatcode.specs.Steps.{place_in}
 use Rattle.flatcode.specs.Adds.{pair_of}
-use Rattle.flatcode.proofs.Turns.{front}
+use Rattle.run_world.proofs.Effects.{rest_at}
 
 -- a number without a label makes no difference
 pub room_made : (t : List (Option ℕ)) (end n : ℕ) → place_in (t ++ None ∷ []) end n ≡ place_in t end n
@@ -25,4 +25,4 @@ pub table_turn : (labels : List Placed) (k : ℕ) (x : Placed) (end n before aft
     → before ≡ found_in (map pair_of (drop (k + 1) labels)) end n → after ≡ (if x.label == n then x.position else before) → after ≡ found_in (map pair_of (drop k labels)) end n
 table_turn labels k x end n before after within is h put =
     put ∙ ap (λ z. if x.label == n then x.position else z) h
-    ∙ sym (ap (λ xs. found_in (map pair_of xs) end n) (front labels k x within is))
+    ∙ sym (ap (λ xs. found_in (map pair_of xs) end n) (rest_at labels k x within is))

@@ -10,24 +10,9 @@ use Rattle.pcode_model.specs.declared.listing.Listing.{Listing}
 use Rattle.pcode_model.specs.Places.{place, instruction_in, instruction_at, standing, standing_in, standing_of, op_in}
 use Rattle.pcode_model.specs.Flow.{IsIn, Rising, AreApart, stands, stands_by}
 use Rattle.flow.specs.Slots.{slots_of, slots, indices, ArePlaces}
-use Rattle.flow.proofs.Order.{same_place, rising_both}
+use Rattle.flow.proofs.Order.{rising_both}
 use Rattle.instructions.proofs.Apart.{apart_rest, apart_head, found_in, long, number_in, found_at}
-
--- ---- members of lists
-
-pub in_front : {A : Type 0} (x : A) (xs ys : List A) → IsIn x xs → IsIn x (xs ++ ys)
-in_front x [] ys h = absurd h
-in_front x (z ∷ xs) ys (inl e) = inl e
-in_front x (z ∷ xs) ys (inr h) = inr (in_front x xs ys h)
-
-pub in_back : {A : Type 0} (x : A) (xs ys : List A) → IsIn x ys → IsIn x (xs ++ ys)
-in_back x [] ys h = h
-in_back x (z ∷ xs) ys h = inr (in_back x xs ys h)
-
-pub in_either : {A : Type 0} (x : A) (xs ys : List A) → IsIn x (xs ++ ys) → IsIn x xs ⊎ IsIn x ys
-in_either x [] ys h = inr h
-in_either x (z ∷ xs) ys (inl e) = inl (inl e)
-in_either x (z ∷ xs) ys (inr h) = ⊎_elim (λ a. inl (inr a)) (λ b. inr b) (in_either x xs ys h)
+use Rattle.instructions.proofs.Members.{behind, in_either, in_front, same_place}
 
 -- ---- the places of one instruction
 
@@ -37,14 +22,14 @@ in_indices a (suc n) p h =
     ⊎_elim
     (λ b. let r = in_indices a n p b in (r.0, omega (arith, r.1)))
     (λ b. ⊎_elim (λ e. (ap (λ (q : Place). q.address) e, omega (arith, ap (λ (q : Place). q.index) e))) (λ bad. absurd bad) b)
-    (in_either p (indices a n) (place a n ∷ []) h)
+    (in_either (indices a n) (place a n ∷ []) p h)
 
 pub indices_in : (a n : ℕ) (p : Place) → p.address ≡ a → p.index < n → IsIn p (indices a n)
 indices_in a zero p e lt = absurd (omega arith)
 indices_in a (suc n) p e lt =
     ⊎_elim
-    (λ f. in_back p (indices a n) (place a n ∷ []) (inl (same_place p (place a n) e f)))
-    (λ ne. in_front p (indices a n) (place a n ∷ []) (indices_in a n p e (below p.index n lt ne)))
+    (λ f. behind (indices a n) (place a n ∷ []) p (inl (same_place p (place a n) e f)))
+    (λ ne. in_front (indices a n) (place a n ∷ []) p (indices_in a n p e (below p.index n lt ne)))
     (cases_eq p.index n) where
       below : (k m : ℕ) → k < suc m → (k ≡ m → ⊥) → k < m
       below k m lt ne = ⊎_elim (λ h. h) (λ h. absurd (ne (omega arith))) (cases_lt k m)
@@ -82,14 +67,14 @@ place_in (i ∷ code) p h =
     ⊎_elim
     (λ a. let r = in_indices i.address (slots i) p a in record { owner = i; member = inl refl; address = r.0; index = r.1 })
     (λ b. let r = place_in code p b in record { owner = r.owner; member = inr r.member; address = r.address; index = r.index })
-    (in_either p (indices i.address (slots i)) (places_in code) h)
+    (in_either (indices i.address (slots i)) (places_in code) p h)
 
 pub in_place : (code : List Instruction) (p : Place) (i : Instruction) → IsIn i code → p.address ≡ i.address → p.index < slots i → IsIn p (places_in code)
 in_place [] p i h e lt = absurd h
 in_place (x ∷ code) p i (inl same) e lt =
     let P : Instruction → Type 0 = λ y. IsIn p (indices y.address (slots y) ++ places_in code) in
-    subst P same (in_front p (indices i.address (slots i)) (places_in code) (indices_in i.address (slots i) p e lt))
-in_place (x ∷ code) p i (inr h) e lt = in_back p (indices x.address (slots x)) (places_in code) (in_place code p i h e lt)
+    subst P same (in_front (indices i.address (slots i)) (places_in code) p (indices_in i.address (slots i) p e lt))
+in_place (x ∷ code) p i (inr h) e lt = behind (indices x.address (slots x)) (places_in code) p (in_place code p i h e lt)
 
 pub rising_places : (code : List Instruction) → AreApart code → Rising (places_in code)
 rising_places [] a = tt

@@ -16,7 +16,7 @@ use Rattle.flow.specs.Slots.{at, Marked, ArePlaces, MarksReached, MarksStarts, p
 use Rattle.flow.specs.Edges.{AllMean, targets_of}
 use Rattle.flow.specs.Marks.{Marks, MarksBranch}
 use Rattle.flow.proofs.Order.{at_before, in_at, rising_both}
-use Rattle.flow.proofs.Listed.{in_front, in_back, in_either}
+use Rattle.instructions.proofs.Members.{behind, in_either, in_front}
 use Rattle.flow.proofs.Rounds.{marked_back, marked_set}
 use Rattle.flow.proofs.Reaching.{at_once, targets_lead, leads_targets, lead_stands, none_marked}
 
@@ -35,7 +35,7 @@ pub marks_both : (seen : List Bool) (xs : List ℕ) (seen' : List Bool) (ys : Li
 marks_both seen xs seen' ys seen'' x y = record {
   long = y.long ∙ x.long;
   keeps = λ n h. y.keeps n (x.keeps n h);
-  all = λ n h. ⊎_elim (λ a. y.keeps n (x.all n a)) (λ b. y.all n b) (in_either n xs ys h);
+  all = λ n h. ⊎_elim (λ a. y.keeps n (x.all n a)) (λ b. y.all n b) (in_either xs ys n h);
   fresh = λ n h. ⊎_elim (λ old. ⊎_elim (λ a. inl a) (λ b. inr (front n xs b)) (x.fresh n old)) (λ new. inr (back n xs new)) (y.fresh n h);
 } where
   front : (n : ℕ) (zs : List ℕ) → IsIn n zs → IsIn n (zs ++ ys)
@@ -147,18 +147,18 @@ picked_in flags ps (suc n) q h =
     ⊎_elim
     (λ a. let x = picked_in flags ps n q a in (x.0, (omega (arith, x.1.0), x.1.1)))
     (λ b. let x = in_one (slice_index_or flags n false) (at ps n) q b in (n, (omega arith, x)))
-    (in_either q (picked flags ps n) (one_if (slice_index_or flags n false) (at ps n)) h)
+    (in_either (picked flags ps n) (one_if (slice_index_or flags n false) (at ps n)) q h)
 
 pub in_picked : (flags : List Bool) (ps : List Place) (n k : ℕ) → k < n → Marked flags k → IsIn (at ps k) (picked flags ps n)
 in_picked flags ps zero k lt m = absurd (omega arith)
 in_picked flags ps (suc n) k lt m =
     let P : ℕ → Type 0 = λ j. IsIn (at ps j) (picked flags ps n ++ one_if (slice_index_or flags n false) (at ps n)) in
     ⊎_elim
-    (λ a. in_front (at ps k) (picked flags ps n) (one_if (slice_index_or flags n false) (at ps n)) (in_picked flags ps n k a m))
+    (λ a. in_front (picked flags ps n) (one_if (slice_index_or flags n false) (at ps n)) (at ps k) (in_picked flags ps n k a m))
     (λ a.
     let same : k ≡ n = omega arith in
     let Q : ℕ → Type 0 = λ j. Marked flags j in
-    subst P (sym same) (in_back (at ps n) (picked flags ps n) (one_if (slice_index_or flags n false) (at ps n)) (one_in (slice_index_or flags n false) (at ps n) (subst Q same m))))
+    subst P (sym same) (behind (picked flags ps n) (one_if (slice_index_or flags n false) (at ps n)) (at ps n) (one_in (slice_index_or flags n false) (at ps n) (subst Q same m))))
     (cases_lt k n)
 
 rising_one : (b : Bool) (p : Place) → Rising (one_if b p)

@@ -7,6 +7,7 @@ use Rattle.pcode_model.specs.declared.listing.Place.{Place}
 use Rattle.pcode_model.specs.Places.{place}
 use Rattle.pcode_model.specs.Flow.{IsIn, IsBefore, Rising}
 use Rattle.flow.specs.Slots.{at, IsLowerBound}
+use Rattle.instructions.proofs.Members.{in_either, same_place}
 
 pub before_trans : (p q r : Place) → IsBefore p q → IsBefore q r → IsBefore p r
 before_trans p q r (inl a) (inl b) = inl (omega arith)
@@ -20,9 +21,6 @@ not_before p (inr a) = omega arith
 
 pub before_once : (p q : Place) → IsBefore p q → IsBefore q p → ⊥
 before_once p q a b = not_before p (before_trans p q p a b)
-
-pub same_place : (p q : Place) → p.address ≡ q.address → p.index ≡ q.index → p ≡ q
-same_place p q e f = ap (λ a. place a p.index) e ∙ ap (λ n. place q.address n) f
 
 pub ordered : (p q : Place) → (p ≡ q) ⊎ (IsBefore p q ⊎ IsBefore q p)
 ordered p q =
@@ -74,11 +72,7 @@ rising_cons p (q ∷ ps) r all = (all q (inl refl), r)
 
 pub rising_both : (ps qs : List Place) → Rising ps → Rising qs → ((p q : Place) → IsIn p ps → IsIn q qs → IsBefore p q) → Rising (ps ++ qs)
 rising_both [] qs r s all = s
-rising_both (p ∷ ps) qs r s all = rising_cons p (ps ++ qs) (rising_both ps qs (rising_rest p ps r) s (λ x y h k. all x y (inr h) k)) (λ q h. ⊎_elim (λ a. rising_head p ps r q a) (λ b. all p q (inl refl) b) (in_either q ps qs h)) where
-  in_either : (x : Place) (xs ys : List Place) → IsIn x (xs ++ ys) → IsIn x xs ⊎ IsIn x ys
-  in_either x [] ys h = inr h
-  in_either x (z ∷ xs) ys (inl e) = inl (inl e)
-  in_either x (z ∷ xs) ys (inr h) = ⊎_elim (λ a. inl (inr a)) (λ b. inr b) (in_either x xs ys h)
+rising_both (p ∷ ps) qs r s all = rising_cons p (ps ++ qs) (rising_both ps qs (rising_rest p ps r) s (λ x y h k. all x y (inr h) k)) (λ q h. ⊎_elim (λ a. rising_head p ps r q a) (λ b. all p q (inl refl) b) (in_either ps qs q h))
 
 -- ---- lower bounds
 

@@ -25,7 +25,7 @@ use Rattle.flow.specs.Edges.{Means, AllMean, targets_of, edge_targets, Inside, E
 use Rattle.flow.specs.Steps.{Noted, Expanded}
 use Rattle.flow.proofs.Order.{at_before, not_before, in_at, at_in}
 use Rattle.flow.proofs.Adjacent.{lead_same}
-use Rattle.flow.proofs.Listed.{in_front, in_back, in_either}
+use Rattle.instructions.proofs.Members.{behind, in_either, in_front}
 use Rattle.flow.proofs.Rounds.{marked_back}
 
 -- ---- places that edges lead to stand
@@ -90,7 +90,7 @@ targets_lead ps (One e) ws b m h = let P : List Way → Type 0 = λ x. IsIn (Lea
 targets_lead ps (Two e f) ws b m h =
     let P : List Way → Type 0 = λ x. IsIn (Leads (at ps b)) x in
     subst P (sym m.1.1.1.1)
-    (⊎_elim (λ a. inl (edge_leads ps e m.0 b m.1.0 a)) (λ a. inr (inl (edge_leads ps f m.1.1.0 b m.1.1.1.0 a))) (in_either b (edge_targets e) (edge_targets f) h))
+    (⊎_elim (λ a. inl (edge_leads ps e m.0 b m.1.0 a)) (λ a. inr (inl (edge_leads ps f m.1.1.0 b m.1.1.1.0 a))) (in_either (edge_targets e) (edge_targets f) b h))
 
 leads_edge : (ps : List Place) → Rising ps → (e : Edge) (w : Way) (b : ℕ) → b < length ps → Means ps e w → Leads (at ps b) ≡ w → IsIn b (edge_targets e)
 leads_edge ps r (To s) w b lt m e = inl (at_once ps r b s lt m.0 (lead_same (at ps b) (at ps s) (e ∙ m.1)))
@@ -103,8 +103,8 @@ leads_targets ps r (One e) ws b lt m h =
     ⊎_elim (λ a. leads_edge ps r e m.0 b lt m.1.0 a) (λ bad. absurd bad) (subst P m.1.1 h)
 leads_targets ps r (Two e f) ws b lt m h =
     let P : List Way → Type 0 = λ x. IsIn (Leads (at ps b)) x in
-    ⊎_elim (λ a. in_front b (edge_targets e) (edge_targets f) (leads_edge ps r e m.0 b lt m.1.0 a))
-    (λ k. ⊎_elim (λ a. in_back b (edge_targets e) (edge_targets f) (leads_edge ps r f m.1.1.0 b lt m.1.1.1.0 a)) (λ bad. absurd bad) k)
+    ⊎_elim (λ a. in_front (edge_targets e) (edge_targets f) b (leads_edge ps r e m.0 b lt m.1.0 a))
+    (λ k. ⊎_elim (λ a. behind (edge_targets e) (edge_targets f) b (leads_edge ps r f m.1.1.0 b lt m.1.1.1.0 a)) (λ bad. absurd bad) k)
     (subst P m.1.1.1.1 h)
 
 edge_inside : (ps : List Place) (e : Edge) (w : Way) (n : ℕ) → length ps ≡ n → Means ps e w → EdgeInside n e
@@ -127,17 +127,17 @@ pub record Searching (l : Listing) (ps : List Place) (start : ℕ) (seen : List 
 
 pub searched_on : (l : Listing) (ps : List Place) (start : ℕ) (seen : List Bool) (work : List ℕ) (n : ℕ) (edges : Leaving) (seen' : List Bool) (work' : List ℕ) → Rising ps → Searching l ps start seen (work ++ n ∷ []) → AllMean ps edges (ways l [] (at ps n)) → Expanded seen work (targets_of edges) seen' work' → Searching l ps start seen' work'
 searched_on l ps start seen work n edges seen' work' r s m x =
-    let mine : Marked seen n = s.known n (in_back n work (n ∷ []) (inl refl)) in
+    let mine : Marked seen n = s.known n (behind work (n ∷ []) n (inl refl)) in
     record {
       long = x.long ∙ s.long;
       begun = x.keeps start s.begun;
       sound = λ k h. ⊎_elim (λ old. s.sound k old) (λ new. Next (at ps n) (at ps k) (s.sound n mine) (targets_lead ps edges (ways l [] (at ps n)) k m new.0)) (x.fresh k h);
-      known = λ k h. ⊎_elim (λ old. x.keeps k (s.known k (in_front k work (n ∷ []) old))) (λ new. new) (x.only k h);
+      known = λ k h. ⊎_elim (λ old. x.keeps k (s.known k (in_front work (n ∷ []) k old))) (λ new. new) (x.only k h);
       closed = λ a b h lt e. ⊎_elim
           (λ old. ⊎_elim
           (λ w. ⊎_elim (λ w'. inl (x.waits a w'))
           (λ is. ⊎_elim (λ same. inr (x.all b (leads_targets ps r edges (ways l [] (at ps n)) b lt m (let P : ℕ → Type 0 = λ k. LeadsTo l [] (at ps k) (at ps b) in subst P same e)))) (λ bad. absurd bad) is)
-          (in_either a work (n ∷ []) w))
+          (in_either work (n ∷ []) a w))
           (λ k. inr (x.keeps b k))
           (s.closed a b old lt e))
           (λ new. inl new.1)
@@ -211,7 +211,7 @@ marked_inside (b ∷ seen) (suc n) h = omega (arith, marked_inside seen n h)
 
 -- the last of the work is a place
 pub last_inside : (l : Listing) (ps : List Place) (start : ℕ) (seen : List Bool) (work : List ℕ) (n : ℕ) → Searching l ps start seen (work ++ n ∷ []) → n < length ps
-last_inside l ps start seen work n s = omega (arith, marked_inside seen n (s.known n (in_back n work (n ∷ []) (inl refl))), s.long)
+last_inside l ps start seen work n s = omega (arith, marked_inside seen n (s.known n (behind work (n ∷ []) n (inl refl))), s.long)
 
 pub same_work : (l : Listing) (ps : List Place) (start : ℕ) (seen : List Bool) (w w' : List ℕ) → w ≡ w' → Searching l ps start seen w → Searching l ps start seen w'
 same_work l ps start seen w w' e s = let P : List ℕ → Type 0 = λ x. Searching l ps start seen x in subst P e s

@@ -5,7 +5,7 @@ use Rattle.std.proofs.lemmas.List.{get_or-set_same, get_or-set_other}
 use Rattle.std.proofs.lemmas.Bool.{cases_eq}
 use Rattle.flow.specs.Slots.{Marked}
 use Rattle.flow.specs.Steps.{unmarked, Noted, Expanded}
-use Rattle.flow.proofs.Listed.{in_back, in_front, in_either}
+use Rattle.instructions.proofs.Members.{behind, in_either, in_front}
 
 pub unmarked_set : (seen : List Bool) (m : ℕ) → m < length seen → get_or seen m false ≡ false → unmarked (set seen m true) + 1 ≡ unmarked seen
 unmarked_set [] m lt e = absurd (omega arith)
@@ -41,8 +41,8 @@ more_old seen work xs seen' work' m x old = record {
   long = x.long;
   keeps = x.keeps;
   waits = x.waits;
-  all = λ n h. ⊎_elim (λ a. x.all n a) (λ b. ⊎_elim (λ e. let P : ℕ → Type 0 = λ k. Marked seen' k in subst P (sym e) old) (λ bad. absurd bad) b) (in_either n xs (m ∷ []) h);
-  fresh = λ n h. ⊎_elim (λ a. inl a) (λ b. inr (in_front n xs (m ∷ []) b.0, b.1)) (x.fresh n h);
+  all = λ n h. ⊎_elim (λ a. x.all n a) (λ b. ⊎_elim (λ e. let P : ℕ → Type 0 = λ k. Marked seen' k in subst P (sym e) old) (λ bad. absurd bad) b) (in_either xs (m ∷ []) n h);
+  fresh = λ n h. ⊎_elim (λ a. inl a) (λ b. inr (in_front xs (m ∷ []) n b.0, b.1)) (x.fresh n h);
   only = x.only;
   less = x.less;
 }
@@ -52,16 +52,16 @@ more_new : (seen : List Bool) (work xs : List ℕ) (seen' : List Bool) (work' : 
 more_new seen work xs seen' work' m x lt new = record {
   long = length-set seen' m true ∙ x.long;
   keeps = λ n h. marked_set seen' m n lt (x.keeps n h);
-  waits = λ n h. in_front n work' (m ∷ []) (x.waits n h);
-  all = λ n h. ⊎_elim (λ a. marked_set seen' m n lt (x.all n a)) (λ b. ⊎_elim (λ e. let P : ℕ → Type 0 = λ k. Marked (set seen' m true) k in subst P (sym e) (get_or-set_same seen' m true false lt)) (λ bad. absurd bad) b) (in_either n xs (m ∷ []) h);
+  waits = λ n h. in_front work' (m ∷ []) n (x.waits n h);
+  all = λ n h. ⊎_elim (λ a. marked_set seen' m n lt (x.all n a)) (λ b. ⊎_elim (λ e. let P : ℕ → Type 0 = λ k. Marked (set seen' m true) k in subst P (sym e) (get_or-set_same seen' m true false lt)) (λ bad. absurd bad) b) (in_either xs (m ∷ []) n h);
   fresh = λ n h. ⊎_elim
-      (λ e. inr (in_back n xs (m ∷ []) (inl e), in_back n work' (m ∷ []) (inl e)))
-      (λ old. ⊎_elim (λ a. inl a) (λ b. inr (in_front n xs (m ∷ []) b.0, in_front n work' (m ∷ []) b.1)) (x.fresh n old))
+      (λ e. inr (behind xs (m ∷ []) n (inl e), behind work' (m ∷ []) n (inl e)))
+      (λ old. ⊎_elim (λ a. inl a) (λ b. inr (in_front xs (m ∷ []) n b.0, in_front work' (m ∷ []) n b.1)) (x.fresh n old))
       (marked_back seen' m n h);
   only = λ n h. ⊎_elim
       (λ a. ⊎_elim (λ w. inl w) (λ k. inr (marked_set seen' m n lt k)) (x.only n a))
       (λ b. ⊎_elim (λ e. inr (let P : ℕ → Type 0 = λ k. Marked (set seen' m true) k in subst P (sym e) (get_or-set_same seen' m true false lt))) (λ bad. absurd bad) b)
-      (in_either n work' (m ∷ []) h);
+      (in_either work' (m ∷ []) n h);
   less = omega (arith, unmarked_set seen' m lt new, length-append work' (m ∷ []), x.less);
 }
 
@@ -81,10 +81,10 @@ expanded_both seen work xs seen' work' ys seen'' work'' x y = record {
   long = y.long ∙ x.long;
   keeps = λ n h. y.keeps n (x.keeps n h);
   waits = λ n h. y.waits n (x.waits n h);
-  all = λ n h. ⊎_elim (λ a. y.keeps n (x.all n a)) (λ b. y.all n b) (in_either n xs ys h);
+  all = λ n h. ⊎_elim (λ a. y.keeps n (x.all n a)) (λ b. y.all n b) (in_either xs ys n h);
   fresh = λ n h. ⊎_elim
-      (λ old. ⊎_elim (λ a. inl a) (λ b. inr (in_front n xs ys b.0, y.waits n b.1)) (x.fresh n old))
-      (λ new. inr (in_back n xs ys new.0, new.1))
+      (λ old. ⊎_elim (λ a. inl a) (λ b. inr (in_front xs ys n b.0, y.waits n b.1)) (x.fresh n old))
+      (λ new. inr (behind xs ys n new.0, new.1))
       (y.fresh n h);
   only = λ n h. ⊎_elim (λ old. ⊎_elim (λ a. inl a) (λ k. inr (y.keeps n k)) (x.only n old)) (λ k. inr k) (y.only n h);
   less = y.less ∙ x.less;

@@ -6,6 +6,7 @@ use Rattle.std.proofs.lemmas.Option.{slice_get_within}
 use Rattle.pcode_model.specs.declared.listing.Instruction.{Instruction}
 use Rattle.pcode_model.specs.Places.{instruction_in}
 use Rattle.pcode_model.specs.Flow.{IsIn, AreApart}
+use Rattle.instructions.proofs.Members.{member_at}
 
 pub apart_rest : (i : Instruction) (code : List Instruction) → AreApart (i ∷ code) → AreApart code
 apart_rest i [] a = tt
@@ -44,11 +45,6 @@ found_in (x ∷ code) a i e =
       miss h = let t : (x.address == a) ≡ false = ne_eqb x.address a h in ap (λ (b : Bool). cond b (Some x) (instruction_in code a)) t
 
 -- ---- instructions by number
-
-pub member_at : (code : List Instruction) (k : ℕ) (i : Instruction) → slice_get code k ≡ Some i → IsIn i code
-member_at [] k i e = absurd (cc)
-member_at (x ∷ code) zero i e = inl (cc)
-member_at (x ∷ code) (suc k) i e = inr (member_at code k i e)
 
 pub rising_at : (code : List Instruction) → AreApart code → (j k : ℕ) (i m : Instruction) → j < k → slice_get code j ≡ Some i → slice_get code k ≡ Some m → i.address < m.address
 rising_at [] a j k i m lt e f = absurd (cc)

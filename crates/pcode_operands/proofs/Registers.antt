@@ -10,19 +10,8 @@ use Rattle.pcode_model.specs.declared.listing.SpaceKind.TheVariants.{Constant, R
 use Rattle.pcode_model.specs.declared.listing.Varnode.{Varnode}
 use Rattle.pcode_model.specs.Spaces.{first_ram, kind_in, offset_bytes_in, same_kind, size_in, size_of}
 use Rattle.pcode_model.specs.WellFormed.{AreSpaces, IsDeclared, IsRegister, IsStackPointer, IsWellFormed}
-use Rattle.run_world.proofs.Declared.{kind_at, size_most, ram_not_constant}
+use Rattle.run_world.proofs.Declared.{register_not_constant, size_most}
 use Rattle.pcode_operands.specs.Used.{IsInside, IsStack}
-
-pub ram_size : (l : Listing) → IsWellFormed l → size_of l (first_ram l) ≤ 2 ^ 64
-ram_size l good =
-    size_most l.spaces (first_ram l) good.spaces
-    (ram_not_constant (kind_in (slice_get l.spaces (first_ram l))) (kind_at Ram l.spaces good.complete.ram))
-
-register_not_constant : (k : SpaceKind) → same_kind Register k ≡ true → same_kind Constant k ≡ false
-register_not_constant Constant e = sym e
-register_not_constant Ram e = refl
-register_not_constant Register e = refl
-register_not_constant Unique e = refl
 
 pub register_inside : (l : Listing) (v : Varnode) → AreSpaces l.spaces → IsRegister l.spaces v → IsInside l v
 register_inside l v good is =

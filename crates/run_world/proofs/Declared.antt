@@ -5,11 +5,12 @@ use Rattle.std.specs.List.{AllByRecursion}
 use Rattle.std.proofs.Math.Nat.{pow-le-pow_right}
 use Rattle.std.proofs.lemmas.Bool.Decides.{nat_tests}
 use Rattle.pcode_model.specs.declared.listing.Fixed.{Fixed}
+use Rattle.pcode_model.specs.declared.listing.Listing.{Listing}
 use Rattle.pcode_model.specs.declared.listing.Space.{Space}
 use Rattle.pcode_model.specs.declared.listing.SpaceKind.{SpaceKind}
 use Rattle.pcode_model.specs.declared.listing.SpaceKind.TheVariants.{Constant, Ram, Register, Unique}
-use Rattle.pcode_model.specs.Spaces.{kind_in, size_in, same_kind, number_of}
-use Rattle.pcode_model.specs.WellFormed.{AreSpaces, IsDeclared, IsFixed, constant_space, how_many}
+use Rattle.pcode_model.specs.Spaces.{first_ram, kind_in, number_of, same_kind, size_in, size_of}
+use Rattle.pcode_model.specs.WellFormed.{AreSpaces, IsDeclared, IsFixed, IsWellFormed, how_many}
 
 -- the number of the first space of a kind that is there
 pub number_below : (k : SpaceKind) (ss : List Space) → 1 ≤ how_many k ss → number_of k ss < length ss
@@ -63,6 +64,12 @@ unique_not_constant Constant e = sym e
 unique_not_constant Ram e = refl
 unique_not_constant Register e = refl
 unique_not_constant Unique e = refl
+
+-- the first ram space has at most 2 to the 64 bytes
+pub ram_size : (l : Listing) → IsWellFormed l → size_of l (first_ram l) ≤ 2 ^ 64
+ram_size l good =
+    size_most l.spaces (first_ram l) good.spaces
+    (ram_not_constant (kind_in (slice_get l.spaces (first_ram l))) (kind_at Ram l.spaces good.complete.ram))
 
 pub fixed_ends : (ss : List Space) (f : Fixed) → AreSpaces ss → IsFixed ss f → f.offset + length f.bytes ≤ 2 ^ 64
 fixed_ends ss f good is =

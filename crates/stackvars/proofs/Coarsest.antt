@@ -61,7 +61,7 @@ same_storage (P.Stack m) (P.Register n) a o = absurd (registers_stacked (sym a))
 same_storage (P.Stack m) (P.Unique n) a o = absurd (uniques_stacked (sym a))
 same_storage (P.Stack m) (P.Stack n) a o = ap P.Stack o
 
-same_atom : (a b : Atom) → a.storage ≡ b.storage → a.size ≡ b.size → a ≡ b
+pub same_atom : (a b : Atom) → a.storage ≡ b.storage → a.size ≡ b.size → a ≡ b
 same_atom a b s k =
     let left : ParamStorage → Atom = λ x. model.range x a.size in
     let right : ℕ → Atom = λ n. model.range b.storage n in

@@ -16,29 +16,11 @@ use Rattle.pcode_model.specs.declared.atoms.Atom.{Atom}
 use Rattle.pcode_model.specs.Spaces.{register_space, unique_space}
 use Rattle.pcode_model.specs.Flow.{IsFlow, IsIn, places_of}
 use Rattle.pcode_model.specs.Atoms.{Accesses, IsLocal, ranges_at}
+use Rattle.instructions.proofs.Members.{behind, in_either, in_front, of_member}
 use Rattle.stackvars.specs.Accessed.{range, range_at, range_of}
 use Rattle.stackvars.specs.Collected.{atom_at, atom_of, atoms_at, atoms_in, atoms_of, storage_of}
 
 -- ---- members of lists
-
-in_front : {A : Type 0} (x : A) (xs ys : List A) → IsIn x xs → IsIn x (xs ++ ys)
-in_front x [] ys h = absurd h
-in_front x (z ∷ xs) ys (inl e) = inl e
-in_front x (z ∷ xs) ys (inr h) = inr (in_front x xs ys h)
-
-in_back : {A : Type 0} (x : A) (xs ys : List A) → IsIn x ys → IsIn x (xs ++ ys)
-in_back x [] ys h = h
-in_back x (z ∷ xs) ys h = inr (in_back x xs ys h)
-
-in_either : {A : Type 0} (x : A) (xs ys : List A) → IsIn x (xs ++ ys) → IsIn x xs ⊎ IsIn x ys
-in_either x [] ys h = inr h
-in_either x (z ∷ xs) ys (inl e) = inl (inl e)
-in_either x (z ∷ xs) ys (inr h) = ⊎_elim (λ a. inl (inr a)) (λ b. inr b) (in_either x xs ys h)
-
-from_recursion : {A : Type 0} (Q : A → Type 0) (xs : List A) → AllByRecursion Q xs → (a : A) → IsIn a xs → Q a
-from_recursion Q [] all a is = absurd is
-from_recursion Q (x ∷ xs) all a (inl e) = subst Q (sym e) all.0
-from_recursion Q (x ∷ xs) all a (inr is) = from_recursion Q xs all.1 a is
 
 to_recursion : {A : Type 0} (Q : A → Type 0) (xs : List A) → ((a : A) → IsIn a xs → Q a) → AllByRecursion Q xs
 to_recursion Q [] h = tt
@@ -48,7 +30,7 @@ pub permuted : {A : Type 0} (xs ys : List A) → IsPermutation xs ys → (a : A)
 permuted {A} xs ys moved a is =
     let Q : A → Type 0 = λ x. IsIn x ys in
     let all : All Q ys = All-from_recursion Q ys (to_recursion Q ys (λ x h. h)) in
-    from_recursion Q xs (recursion_from_All Q xs (All-permutation Q ys xs (IsPermutation-sym xs ys moved) all)) a is
+    of_member Q a xs (recursion_from_All Q xs (All-permutation Q ys xs (IsPermutation-sym xs ys moved) all)) is
 
 -- ---- one range
 
@@ -142,17 +124,17 @@ one_of l (v ∷ vs) a h =
     ⊎_elim
     (λ k. record { of = v; member = inl refl; stands = atom_stands l v a k })
     (λ k. let r = one_of l vs a k in record { of = r.of; member = inr r.member; stands = r.stands })
-    (in_either a (atom_of l v) (atoms_of l vs) h)
+    (in_either (atom_of l v) (atoms_of l vs) a h)
 
 listed_of : (l : Listing) (vs : List Varnode) (v : Varnode) → IsIn v vs → IsLocal l v.space → Listed l (atoms_of l vs) v
 listed_of l [] v h is = absurd h
 listed_of l (x ∷ vs) v (inl e) is =
     let r = atom_listed l v is in
     let f : IsIn r.atom (atom_of l x) = subst (λ (y : Varnode). IsIn r.atom (atom_of l y)) e r.member in
-    record { atom = r.atom; member = in_front r.atom (atom_of l x) (atoms_of l vs) f; range = r.range }
+    record { atom = r.atom; member = in_front (atom_of l x) (atoms_of l vs) r.atom f; range = r.range }
 listed_of l (x ∷ vs) v (inr h) is =
     let r = listed_of l vs v h is in
-    record { atom = r.atom; member = in_back r.atom (atom_of l x) (atoms_of l vs) r.member; range = r.range }
+    record { atom = r.atom; member = behind (atom_of l x) (atoms_of l vs) r.atom r.member; range = r.range }
 
 record OneAt (l : Listing) (ps : List Place) (a : Atom) : Type 0 where
   place : Place
@@ -165,17 +147,17 @@ one_at l (p ∷ ps) a h =
     ⊎_elim
     (λ k. record { place = p; member = inl refl; range = one_of l (ranges_at l [] p) a k })
     (λ k. let r = one_at l ps a k in record { place = r.place; member = inr r.member; range = r.range })
-    (in_either a (atoms_of l (ranges_at l [] p)) (atoms_at l ps) h)
+    (in_either (atoms_of l (ranges_at l [] p)) (atoms_at l ps) a h)
 
 listed_at : (l : Listing) (ps : List Place) (p : Place) (v : Varnode) → IsIn p ps → IsIn v (ranges_at l [] p) → IsLocal l v.space → Listed l (atoms_at l ps) v
 listed_at l [] p v h k is = absurd h
 listed_at l (q ∷ ps) p v (inl e) k is =
     let r = listed_of l (ranges_at l [] p) v k is in
     let f : IsIn r.atom (atoms_of l (ranges_at l [] q)) = subst (λ (y : Place). IsIn r.atom (atoms_of l (ranges_at l [] y))) e r.member in
-    record { atom = r.atom; member = in_front r.atom (atoms_of l (ranges_at l [] q)) (atoms_at l ps) f; range = r.range }
+    record { atom = r.atom; member = in_front (atoms_of l (ranges_at l [] q)) (atoms_at l ps) r.atom f; range = r.range }
 listed_at l (q ∷ ps) p v (inr h) k is =
     let r = listed_at l ps p v h k is in
-    record { atom = r.atom; member = in_back r.atom (atoms_of l (ranges_at l [] q)) (atoms_at l ps) r.member; range = r.range }
+    record { atom = r.atom; member = behind (atoms_of l (ranges_at l [] q)) (atoms_at l ps) r.atom r.member; range = r.range }
 
 -- ---- the blocks
 

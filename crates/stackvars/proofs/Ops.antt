@@ -14,7 +14,9 @@ use Rattle.pcode_model.specs.Places.{instruction_in, op_in, standing, standing_i
 use Rattle.pcode_model.specs.Step.{all_but_first, all_read, operands}
 use Rattle.pcode_model.specs.Atoms.{further_ranges, one_range, op_ranges, ranges_read}
 use Rattle.supported.specs.Supported.{are_supported_ops, is_supported_code, is_supported_code_of, is_supported_op}
-use Rattle.stackvars.specs.Collected.{atom_of, atoms_of, op_of, past_first, read_inputs}
+use Rattle.pcode_model.specs.Rules.{past_first}
+use Rattle.instructions.specs.Standing.{op_of}
+use Rattle.stackvars.specs.Collected.{atom_of, atoms_of, read_inputs}
 
 read_all : (vs : List Varnode) → ranges_read (all_read vs) ≡ vs
 read_all [] = refl

@@ -11,7 +11,7 @@ use Rattle.pcode_model.specs.declared.storage.ParamStorage.TheVariants as P
 use Rattle.pcode_model.specs.declared.atoms.Atom.{Atom}
 use Rattle.pcode_model.specs.declared.flow.Block.{Block}
 use Rattle.pcode_model.specs.Spaces.{register_space, unique_space}
-use Rattle.pcode_model.specs.Places.{Standing, Nothing, Passes, Does}
+use Rattle.pcode_model.specs.Rules.{past_first}
 use Rattle.pcode_model.specs.Atoms.{ranges_at}
 
 -- where a register or unique range stands
@@ -37,15 +37,6 @@ atoms_at l (p ∷ ps) = atoms_of l (ranges_at l [] p) ++ atoms_at l ps
 abbrev pub atoms_in : Listing → List Block → List Atom
 atoms_in l [] = []
 atoms_in l (b ∷ bs) = atoms_at l b.places ++ atoms_in l bs
-
-abbrev pub op_of : Standing → Option Op
-op_of Nothing = None
-op_of (Passes i) = None
-op_of (Does i op) = Some op
-
-abbrev pub past_first : List Varnode → List Varnode
-past_first [] = []
-past_first (v ∷ vs) = vs
 
 -- the inputs that an op of the built kinds reads: not the destination of a branch
 abbrev pub read_inputs : Opcode → List Varnode → List Varnode

@@ -1,12 +1,13 @@
 use Rattle.std.proofs.Common.{◌≤◌, ◌^◌, ℕ, sym, subst}
 use Rattle.pcode_model.specs.Spaces.{size_of}
 use Rattle.c_run.proofs.Every.{flat_fits, flat_may}
-use Rattle.c_run.proofs.Spaces.{ram_small, registers_small, uniques_small}
+use Rattle.run_world.proofs.Declared.{ram_size}
+use Rattle.c_run.proofs.Spaces.{registers_small, uniques_small}
 use Rattle.c_run.proofs.Turns.{fit_all, may_all}
 use Rattle.c_run.proofs.run.run_c.Goals as goal
 
 pub new-requires-2 : goal.new-requires-2
-new-requires-2 c = subst (λ (n : ℕ). size_of c.args.listing.now n ≤ 2 ^ 64) (sym c.in_ok-setting.ensures.first_ram) (ram_small c.args.listing.now c.requires.formed)
+new-requires-2 c = subst (λ (n : ℕ). size_of c.args.listing.now n ≤ 2 ^ 64) (sym c.in_ok-setting.ensures.first_ram) (ram_size c.args.listing.now c.requires.formed)
 
 pub new-requires-3 : goal.new-requires-3
 new-requires-3 c = subst (λ (n : ℕ). size_of c.args.listing.now n ≤ 2 ^ 64) (sym c.in_ok-setting.ensures.registers) (registers_small c.args.listing.now c.requires.formed)

@@ -1,9 +1,9 @@
 use Rattle.std.proofs.Common.{◌≡◌, ℕ, ◌+◌, ap, ◌∙◌, arith, Option, Some, None, ◌≤◌, ◌-◌}
 use Rattle.std.specs.Prelude.{MatchOption, pos, ◌+ℤ◌, SomeIff}
 use Rattle.bits_core.specs.Value.{signed}
-use Rattle.flow.specs.Edges.{IsNegative}
-use Rattle.flow.proofs.Relative.{forward_wide, forward_by, back_by, back_past, below}
-use Rattle.flow.proofs.edges.relative_index.Goals as goal
+use Rattle.instructions.specs.Relative.{IsNegative}
+use Rattle.instructions.proofs.Indices.{forward_wide, forward_by, back_by, back_past, below}
+use Rattle.instructions.proofs.relative.relative_index.Goals as goal
 
 pub returns-then-count-gt8 : goal.returns-then-count-gt8
 returns-then-count-gt8 c =

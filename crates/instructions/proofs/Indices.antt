@@ -8,9 +8,7 @@ use Rattle.std.proofs.Math.Nat.{le-mul_of_pos_right, mod-eq_of_lt}
 use Rattle.std.proofs.Math.Pow.{pow-lt}
 use Rattle.bits_core.specs.Value.{limit, half, signed}
 use Rattle.bits_core.proofs.Limits.{limit_is, half_is}
-use Rattle.pcode_model.specs.declared.listing.Instruction.{Instruction}
-use Rattle.pcode_model.specs.Places.{place, index_place, next_instruction}
-use Rattle.flow.specs.Edges.{IsNegative}
+use Rattle.instructions.specs.Relative.{IsNegative}
 
 half_by : (w : ℕ) → half w ≡ limit w / 2
 unfolding half
@@ -50,32 +48,6 @@ back_by w n a m e le fits = back w n a (omega (arith, half_by w, ap (λ x. x / 2
 
 pub back_past : (w n a m : ℕ) → m ≡ limit w → m / 2 ≤ a → n + a < m → IsNegative (pos n +ℤ signed w a)
 back_past w n a m e le short = (m - (n + a) - 1, back w n a (omega (arith, half_by w, ap (λ x. x / 2) e)) ∙ (ap (λ x. pos n +ℤ (pos a -ℤ pos x)) (sym e) ∙ omega (arith, ints)))
-
--- ---- the place of an index
-
-pub index_in : (i : Instruction) (z : ℤ) (m : ℕ) → z ≡ pos m → m < length i.ops → index_place i z ≡ Some (place i.address m)
-index_in i z m e lt =
-    let f : (m == length i.ops) ≡ false = ne_eqb m (length i.ops) (λ h. omega arith) in
-    let g : nat_lt m (length i.ops) ≡ true = lt-ltb m (length i.ops) lt in
-    ap (λ x. index_place i x) e
-    ∙ (ap (λ (b : Bool). cond b (Some (next_instruction i)) (cond (nat_lt m (length i.ops)) (Some (place i.address m)) None)) f
-    ∙ ap (λ (b : Bool). cond b (Some (place i.address m)) None) g)
-
-pub index_end : (i : Instruction) (z : ℤ) (m : ℕ) → z ≡ pos m → m ≡ length i.ops → index_place i z ≡ Some (next_instruction i)
-index_end i z m e same =
-    let f : (m == length i.ops) ≡ true = eq-eqb m (length i.ops) same in
-    ap (λ x. index_place i x) e ∙ ap (λ (b : Bool). cond b (Some (next_instruction i)) (cond (nat_lt m (length i.ops)) (Some (place i.address m)) None)) f
-
-pub index_past : (i : Instruction) (z : ℤ) (m : ℕ) → z ≡ pos m → length i.ops < m → index_place i z ≡ None
-index_past i z m e gt =
-    let f : (m == length i.ops) ≡ false = ne_eqb m (length i.ops) (λ h. omega arith) in
-    let g : nat_lt m (length i.ops) ≡ false = le-ltb m (length i.ops) (omega arith) in
-    ap (λ x. index_place i x) e
-    ∙ (ap (λ (b : Bool). cond b (Some (next_instruction i)) (cond (nat_lt m (length i.ops)) (Some (place i.address m)) None)) f
-    ∙ ap (λ (b : Bool). cond b (Some (place i.address m)) None) g)
-
-pub index_under : (i : Instruction) (z : ℤ) → IsNegative z → index_place i z ≡ None
-index_under i z n = ap (λ x. index_place i x) n.1
 
 pub below : (m n : ℕ) → (n ≤ m → ⊥) → m < n
 below m n over = ⊎_elim (λ h. h) (λ h. absurd (over h)) (cases_lt m n)
