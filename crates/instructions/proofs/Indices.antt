@@ -44,10 +44,16 @@ back w n a le =
     ap (λ (b : Bool). pos n +ℤ cond b (pos a) (pos a -ℤ pos (limit w))) e
 
 pub back_by : (w n a m : ℕ) → m ≡ limit w → m / 2 ≤ a → m ≤ n + a → pos n +ℤ signed w a ≡ pos (n + a - m)
-back_by w n a m e le fits = back w n a (omega (arith, half_by w, ap (λ x. x / 2) e)) ∙ (ap (λ x. pos n +ℤ (pos a -ℤ pos x)) (sym e) ∙ omega (arith, ints))
+back_by w n a m e le fits =
+    back w n a (omega (arith, half_by w, ap (λ x. x / 2) e))
+    ∙ (ap (λ x. pos n +ℤ (pos a -ℤ pos x)) (sym e) ∙ omega (arith, ints))
 
 pub back_past : (w n a m : ℕ) → m ≡ limit w → m / 2 ≤ a → n + a < m → IsNegative (pos n +ℤ signed w a)
-back_past w n a m e le short = (m - (n + a) - 1, back w n a (omega (arith, half_by w, ap (λ x. x / 2) e)) ∙ (ap (λ x. pos n +ℤ (pos a -ℤ pos x)) (sym e) ∙ omega (arith, ints)))
+back_past w n a m e le short = (
+  m - (n + a) - 1,
+  back w n a (omega (arith, half_by w, ap (λ x. x / 2) e))
+      ∙ (ap (λ x. pos n +ℤ (pos a -ℤ pos x)) (sym e) ∙ omega (arith, ints)),
+)
 
 pub below : (m n : ℕ) → (n ≤ m → ⊥) → m < n
 below m n over = ⊎_elim (λ h. h) (λ h. absurd (over h)) (cases_lt m n)

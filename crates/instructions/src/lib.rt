@@ -3,8 +3,6 @@
 
 mod relative;
 
-pub use relative::relative_index;
-
 ghost use Rattle.std.specs.Prelude.{◌≡◌, None};
 ghost use Rattle.std.specs.Option.{option_copied};
 ghost use Rattle.pcode_model.specs.Places.{instruction_at, standing};
@@ -13,6 +11,7 @@ ghost use Rattle.pcode_model.specs.Flow.{AreApart};
 ghost use Rattle.instructions.specs.Standing.{op_of};
 
 use pcode_model::{Instruction, Listing, Op, Place, Varnode};
+pub use relative::relative_index;
 
 /// The instruction that stands at the address, which may be past the end of every space.
 pub fn instruction(listing: &Listing, address: u128) -> Option<&Instruction>

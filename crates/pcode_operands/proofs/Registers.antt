@@ -16,7 +16,10 @@ use Rattle.pcode_operands.specs.Used.{IsInside, IsStack}
 pub register_inside : (l : Listing) (v : Varnode) → AreSpaces l.spaces → IsRegister l.spaces v → IsInside l v
 register_inside l v good is =
     let inside : nat_lt (size_in (slice_get l.spaces v.space)) (v.offset + v.size) ≡ false = is.inside in
-    record { inside = grind (arith, nat_tests, inside); small = size_most l.spaces v.space good (register_not_constant (kind_in (slice_get l.spaces v.space)) is.kind) }
+    record {
+      inside = grind (arith, nat_tests, inside);
+      small = size_most l.spaces v.space good (register_not_constant (kind_in (slice_get l.spaces v.space)) is.kind);
+    }
 
 declared_few : (ss : List Space) (n : ℕ) → AllByRecursion IsDeclared ss → offset_bytes_in (slice_get ss n) ≤ 8
 declared_few [] n all = omega arith
@@ -36,6 +39,11 @@ stack_is l v good e =
     let is : IsStackPointer l.spaces v = subst P e good.stack in
     let narrow : v.size ≤ 8 = omega (arith, is.wide, offset_few l.spaces (first_ram l) good.spaces) in
     record {
-      local = record { some = is.register.some; few = omega (arith, narrow); inside = register_inside l v good.spaces is.register };
+      local =
+          record {
+            some = is.register.some;
+            few = omega (arith, narrow);
+            inside = register_inside l v good.spaces is.register;
+          };
       narrow = narrow;
     }

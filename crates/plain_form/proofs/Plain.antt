@@ -68,7 +68,9 @@ rest_in [] v h = absurd h
 rest_in (x ∷ vs) v h = inr h
 
 -- what is read isn't a destination
-chosen : (b : Bool) (vs : List Varnode) (v : Varnode) → IsIn v (past_first vs) → IsIn v (if b then past_first vs else vs)
+chosen : (b : Bool) (vs : List Varnode) (v : Varnode)
+    → IsIn v (past_first vs)
+    → IsIn v (if b then past_first vs else vs)
 chosen true vs v h = h
 chosen false vs v h = rest_in vs v h
 
@@ -312,7 +314,11 @@ local_kind l ranges v Register h is = is
 local_kind l ranges v Unique h is = is
 
 -- By the op check the output has at most 16 bytes.
-pub output_narrow : (out : Option Varnode) → output_wide out ≡ false → (v : Varnode) → IsIn v (one_range out) → v.size ≤ 16
+pub output_narrow : (out : Option Varnode)
+    → output_wide out ≡ false
+    → (v : Varnode)
+    → IsIn v (one_range out)
+    → v.size ≤ 16
 output_narrow None h v is = absurd is
 output_narrow (Some z) h v (inl e) = let P : Varnode → Type 0 = λ y. y.size ≤ 16 in subst P (sym e) (not_wide z.size h)
 output_narrow (Some z) h v (inr is) = absurd is
@@ -393,7 +399,8 @@ module _ (l : Listing) (good : first_bad l ≡ None) (sup : IsSupported l) (form
       let P : Opcode → Type 0 = λ c. IsIn v (further_ranges l None c op.inputs) in
       let Q : Option Varnode → Type 0 = λ o. IsIn v (one_range o) in
       subst P (sym is) (subst Q (sym e) (inl refl)) in
-      let accessed = behind (ranges_read (operands l op.code op.inputs)) _ v (behind (one_range op.out) _ v further) in (
+      let accessed =
+      behind (ranges_read (operands l op.code op.inputs)) _ v (behind (one_range op.out) _ v further) in (
         (inside.some, inside.narrow),
         local_kind l ranges v (kind_of l v.space) inside.local
             (variable v inside.local accessed),

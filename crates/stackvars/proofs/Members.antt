@@ -38,7 +38,8 @@ permuted {A} xs ys moved a is =
 abbrev IsStored : Listing → Varnode → Type 0
 IsStored l v =
     ((v.space ≡ register_space l) × (storage_of l v ≡ Some (P.Register v.offset)))
-    ⊎ (((v.space ≡ unique_space l) × (storage_of l v ≡ Some (P.Unique v.offset))) ⊎ ((IsLocal l v.space → ⊥) × (storage_of l v ≡ None)))
+    ⊎ (((v.space ≡ unique_space l) × (storage_of l v ≡ Some (P.Unique v.offset)))
+    ⊎ ((IsLocal l v.space → ⊥) × (storage_of l v ≡ None)))
 
 is_stored : (l : Listing) (v : Varnode) → IsStored l v
 is_stored l v =
@@ -46,10 +47,20 @@ is_stored l v =
     let u : Option ParamStorage = Some (P.Unique v.offset) in
     let n : Option ParamStorage = None in
     ⊎_elim
-    (λ e. let t : (v.space == register_space l) ≡ true = eq-eqb v.space (register_space l) e in inl (e, ap (λ (b : Bool). cond b r (cond (v.space == unique_space l) u n)) t))
+    (λ e.
+    let t : (v.space == register_space l) ≡ true = eq-eqb v.space (register_space l) e in
+    inl (e, ap (λ (b : Bool). cond b r (cond (v.space == unique_space l) u n)) t))
     (λ ne. let t : (v.space == register_space l) ≡ false = ne_eqb v.space (register_space l) ne in ⊎_elim
-    (λ f. let s : (v.space == unique_space l) ≡ true = eq-eqb v.space (unique_space l) f in inr (inl (f, ap (λ (b : Bool). cond b r (cond (v.space == unique_space l) u n)) t ∙ ap (λ (b : Bool). cond b u n) s)))
-    (λ nf. let s : (v.space == unique_space l) ≡ false = ne_eqb v.space (unique_space l) nf in inr (inr (λ is. ⊎_elim ne nf is, ap (λ (b : Bool). cond b r (cond (v.space == unique_space l) u n)) t ∙ ap (λ (b : Bool). cond b u n) s)))
+    (λ f.
+    let s : (v.space == unique_space l) ≡ true = eq-eqb v.space (unique_space l) f in
+    inr (inl
+    (f, ap (λ (b : Bool). cond b r (cond (v.space == unique_space l) u n)) t ∙ ap (λ (b : Bool). cond b u n) s)))
+    (λ nf.
+    let s : (v.space == unique_space l) ≡ false = ne_eqb v.space (unique_space l) nf in
+    inr (inr (
+      λ is. ⊎_elim ne nf is,
+      ap (λ (b : Bool). cond b r (cond (v.space == unique_space l) u n)) t ∙ ap (λ (b : Bool). cond b u n) s,
+    )))
     (cases_eq v.space (unique_space l)))
     (cases_eq v.space (register_space l))
 
@@ -59,15 +70,23 @@ pub record Stands (l : Listing) (v : Varnode) (a : Atom) : Type 0 where
   pub range : range_of l a ≡ Some v
   pub alone : atom_of l v ≡ a ∷ []
 
-register_range : (l : Listing) (v : Varnode) → v.space ≡ register_space l → range_at l (P.Register v.offset) v.size ≡ Some v
+register_range : (l : Listing) (v : Varnode)
+    → v.space ≡ register_space l
+    → range_at l (P.Register v.offset) v.size ≡ Some v
 register_range l v e = ap (λ (s : ℕ). Some (range s v.offset v.size)) (sym e)
 
 unique_range : (l : Listing) (v : Varnode) → v.space ≡ unique_space l → range_at l (P.Unique v.offset) v.size ≡ Some v
 unique_range l v e = ap (λ (s : ℕ). Some (range s v.offset v.size)) (sym e)
 
-only : (l : Listing) (v : Varnode) (a : Atom) (s : ParamStorage) → storage_of l v ≡ Some s → IsIn a (atom_of l v) → IsLocal l v.space → range_at l s v.size ≡ Some v → Stands l v a
+only : (l : Listing) (v : Varnode) (a : Atom) (s : ParamStorage)
+    → storage_of l v ≡ Some s
+    → IsIn a (atom_of l v)
+    → IsLocal l v.space
+    → range_at l s v.size ≡ Some v
+    → Stands l v a
 only l v a s e h is r =
-    let k : IsIn a (record { storage = s; size = v.size } ∷ []) = subst (λ (o : Option ParamStorage). IsIn a (atom_at o v.size)) e h in
+    let k : IsIn a (record { storage = s; size = v.size } ∷ []) =
+    subst (λ (o : Option ParamStorage). IsIn a (atom_at o v.size)) e h in
     ⊎_elim
     (λ same. record {
       is_local = is;
@@ -93,10 +112,15 @@ pub record Listed (l : Listing) (xs : List Atom) (v : Varnode) : Type 0 where
   pub member : IsIn atom xs
   pub range : range_of l atom ≡ Some v
 
-sole : (l : Listing) (v : Varnode) (s : ParamStorage) → storage_of l v ≡ Some s → range_at l s v.size ≡ Some v → Listed l (atom_of l v) v
+sole : (l : Listing) (v : Varnode) (s : ParamStorage)
+    → storage_of l v ≡ Some s
+    → range_at l s v.size ≡ Some v
+    → Listed l (atom_of l v) v
 sole l v s e r = record {
   atom = record { storage = s; size = v.size };
-  member = subst (λ (o : Option ParamStorage). IsIn (record { storage = s; size = v.size }) (atom_at o v.size)) (sym e) (inl refl);
+  member =
+      subst (λ (o : Option ParamStorage). IsIn (record { storage = s; size = v.size }) (atom_at o v.size)) (sym e)
+      (inl refl);
   range = r;
 }
 
@@ -149,25 +173,39 @@ one_at l (p ∷ ps) a h =
     (λ k. let r = one_at l ps a k in record { place = r.place; member = inr r.member; range = r.range })
     (in_either (atoms_of l (ranges_at l [] p)) (atoms_at l ps) a h)
 
-listed_at : (l : Listing) (ps : List Place) (p : Place) (v : Varnode) → IsIn p ps → IsIn v (ranges_at l [] p) → IsLocal l v.space → Listed l (atoms_at l ps) v
+listed_at : (l : Listing) (ps : List Place) (p : Place) (v : Varnode)
+    → IsIn p ps
+    → IsIn v (ranges_at l [] p)
+    → IsLocal l v.space
+    → Listed l (atoms_at l ps) v
 listed_at l [] p v h k is = absurd h
 listed_at l (q ∷ ps) p v (inl e) k is =
     let r = listed_of l (ranges_at l [] p) v k is in
-    let f : IsIn r.atom (atoms_of l (ranges_at l [] q)) = subst (λ (y : Place). IsIn r.atom (atoms_of l (ranges_at l [] y))) e r.member in
-    record { atom = r.atom; member = in_front (atoms_of l (ranges_at l [] q)) (atoms_at l ps) r.atom f; range = r.range }
+    let f : IsIn r.atom (atoms_of l (ranges_at l [] q)) =
+    subst (λ (y : Place). IsIn r.atom (atoms_of l (ranges_at l [] y))) e r.member in
+    record
+    { atom = r.atom; member = in_front (atoms_of l (ranges_at l [] q)) (atoms_at l ps) r.atom f; range = r.range }
 listed_at l (q ∷ ps) p v (inr h) k is =
     let r = listed_at l ps p v h k is in
-    record { atom = r.atom; member = behind (atoms_of l (ranges_at l [] q)) (atoms_at l ps) r.atom r.member; range = r.range }
+    record {
+      atom = r.atom;
+      member = behind (atoms_of l (ranges_at l [] q)) (atoms_at l ps) r.atom r.member;
+      range = r.range;
+    }
 
 -- ---- the blocks
 
 atoms_at_both : (l : Listing) (ps qs : List Place) → atoms_at l (ps ++ qs) ≡ atoms_at l ps ++ atoms_at l qs
 atoms_at_both l [] qs = refl
-atoms_at_both l (p ∷ ps) qs = ap (λ (xs : List Atom). atoms_of l (ranges_at l [] p) ++ xs) (atoms_at_both l ps qs) ∙ sym (append_assoc (atoms_of l (ranges_at l [] p)) (atoms_at l ps) (atoms_at l qs))
+atoms_at_both l (p ∷ ps) qs =
+    ap (λ (xs : List Atom). atoms_of l (ranges_at l [] p) ++ xs) (atoms_at_both l ps qs)
+    ∙ sym (append_assoc (atoms_of l (ranges_at l [] p)) (atoms_at l ps) (atoms_at l qs))
 
 blocks_places : (l : Listing) (bs : List Block) → atoms_in l bs ≡ atoms_at l (places_of bs)
 blocks_places l [] = refl
-blocks_places l (b ∷ bs) = ap (λ (xs : List Atom). atoms_at l b.places ++ xs) (blocks_places l bs) ∙ sym (atoms_at_both l b.places (places_of bs))
+blocks_places l (b ∷ bs) =
+    ap (λ (xs : List Atom). atoms_at l b.places ++ xs) (blocks_places l bs)
+    ∙ sym (atoms_at_both l b.places (places_of bs))
 
 -- each atom of the list has an accessed range
 abbrev pub AreAccesses : Listing → List Atom → Type 0
@@ -178,8 +216,18 @@ HasAccesses l xs = (v : Varnode) → Accesses l [] v → (a : Atom) × (IsIn a x
 
 pub collected_accessed : (l : Listing) (bs : List Block) → IsFlow l [] bs → AreAccesses l (atoms_in l bs)
 collected_accessed l bs flow a h =
-    let r = one_at l (places_of bs) a (subst (λ (xs : List Atom). IsIn a xs) (blocks_places l bs) h) in
-    (r.range.of, (r.range.stands.range, record { at = r.place; reached = (flow.each r.place).0 r.member; range = r.range.member; is_local = r.range.stands.is_local }))
+    let r = one_at l (places_of bs) a (subst (λ (xs : List Atom). IsIn a xs) (blocks_places l bs) h) in (
+      r.range.of,
+      (
+        r.range.stands.range,
+        record {
+          at = r.place;
+          reached = (flow.each r.place).0 r.member;
+          range = r.range.member;
+          is_local = r.range.stands.is_local;
+        },
+      ),
+    )
 
 pub collected_all : (l : Listing) (bs : List Block) → IsFlow l [] bs → HasAccesses l (atoms_in l bs)
 collected_all l bs flow v h =
@@ -190,13 +238,18 @@ collected_all l bs flow v h =
 abbrev pub AreOnce : Listing → List Atom → Type 0
 AreOnce l xs = (a b : Atom) → IsIn a xs → IsIn b xs → range_of l a ≡ range_of l b → a ≡ b
 
-one_of_range : (l : Listing) (a b : Atom) (v w : Varnode) → Stands l v a → Stands l w b → range_of l a ≡ range_of l b → a ≡ b
-one_of_range l a b v w p q e = heads (sym p.alone ∙ (ap (λ (x : Varnode). atom_of l x) (some_is (sym p.range ∙ (e ∙ q.range))) ∙ q.alone)) where
-  some_is : Some v ≡ Some w → v ≡ w
-  some_is h = cc
+one_of_range : (l : Listing) (a b : Atom) (v w : Varnode)
+    → Stands l v a
+    → Stands l w b
+    → range_of l a ≡ range_of l b
+    → a ≡ b
+one_of_range l a b v w p q e =
+    heads (sym p.alone ∙ (ap (λ (x : Varnode). atom_of l x) (some_is (sym p.range ∙ (e ∙ q.range))) ∙ q.alone)) where
+      some_is : Some v ≡ Some w → v ≡ w
+      some_is h = cc
 
-  heads : a ∷ [] ≡ b ∷ [] → a ≡ b
-  heads h = cc
+      heads : a ∷ [] ≡ b ∷ [] → a ≡ b
+      heads h = cc
 
 pub collected_once : (l : Listing) (bs : List Block) → AreOnce l (atoms_in l bs)
 collected_once l bs a b h k e =

@@ -16,7 +16,9 @@ use Rattle.pcode_model.specs.Atoms.{ranges_at}
 
 -- where a register or unique range stands
 abbrev pub storage_of : Listing → Varnode → Option ParamStorage
-storage_of l v = if v.space == register_space l then Some (P.Register v.offset) else (if v.space == unique_space l then Some (P.Unique v.offset) else None)
+storage_of l v =
+    if v.space == register_space l then Some (P.Register v.offset) else
+    (if v.space == unique_space l then Some (P.Unique v.offset) else None)
 
 abbrev pub atom_at : Option ParamStorage → ℕ → List Atom
 atom_at None k = []
@@ -60,4 +62,5 @@ is_last (Some m) n = m == n
 -- the atoms whose rank isn't that of the one before
 abbrev pub without_repeats : Option ℕ → List Atom → List Atom
 without_repeats last [] = []
-without_repeats last (a ∷ rest) = if is_last last (rank a) then without_repeats (Some (rank a)) rest else a ∷ without_repeats (Some (rank a)) rest
+without_repeats last (a ∷ rest) =
+    if is_last last (rank a) then without_repeats (Some (rank a)) rest else a ∷ without_repeats (Some (rank a)) rest

@@ -47,7 +47,8 @@ read_inputs code vs = vs
 
 -- the operation is built, and no varnode that it reads or writes is in ram
 abbrev pub is_supported_op : Listing → Op → Bool
-is_supported_op l op = is_supported_code op.code && (none_in_ram l (read_inputs op.code op.inputs) && output_off_ram l op.out)
+is_supported_op l op =
+    is_supported_code op.code && (none_in_ram l (read_inputs op.code op.inputs) && output_off_ram l op.out)
 
 abbrev pub are_supported_ops : Listing → List Op → Bool
 are_supported_ops l [] = true

@@ -10,5 +10,8 @@ use Rattle.c_run.proofs.calls.values.Given as goal
 abbrev pub invariant-loop-e : goal.invariant-loop-e
 invariant-loop-e l = record {
   right : are_right (widths_in l.local.variables.f.now) (drop l.e-index l.args) ≡ true;
-  values : all_of (values_of (widths_in l.local.variables.f.now) (env_of l.local.variables.words.items) l.args) ≡ option_map (λ ns. map value_of l.words ++ ns) (all_of (values_of (widths_in l.local.variables.f.now) (env_of l.local.variables.words.items) (drop l.e-index l.args)));
+  values : all_of (values_of (widths_in l.local.variables.f.now) (env_of l.local.variables.words.items) l.args)
+      ≡ option_map (λ ns. map value_of l.words ++ ns)
+      (all_of (values_of (widths_in l.local.variables.f.now) (env_of l.local.variables.words.items)
+      (drop l.e-index l.args)));
 }

@@ -13,12 +13,22 @@ returns-then-count-gt8 c =
 pub returns-then-offset-limit : goal.returns-then-offset-limit
 returns-then-offset-limit c =
     let e : c.args.index + c.args.count.offset ≡ c.from.result + c.from-offset.result = omega arith in
-    forward_by c.args.count.size c.args.index c.args.count.offset c.limit-limit.result c.limit-limit.ensures (omega arith) ∙ ap pos e
+    forward_by c.args.count.size c.args.index c.args.count.offset c.limit-limit.result c.limit-limit.ensures
+    (omega arith)
+    ∙ ap pos e
 
 pub returns-else-offset-limit : goal.returns-else-offset-limit
 returns-else-offset-limit c = by c.checked_sub.result c.checked_sub.ensures where
-  by : (o : Option ℕ) → SomeIff o (c.limit-limit.result ≤ c.from.result + c.from-offset.result) (c.from.result + c.from-offset.result - c.limit-limit.result) → MatchOption o (IsNegative (pos c.args.index +ℤ signed c.args.count.size c.args.count.offset)) (λ m. pos c.args.index +ℤ signed c.args.count.size c.args.count.offset ≡ pos m)
-  by None h = back_past c.args.count.size c.args.index c.args.count.offset c.limit-limit.result c.limit-limit.ensures (omega arith) (below (c.args.index + c.args.count.offset) c.limit-limit.result (λ le. h (omega arith)))
+  by : (o : Option ℕ)
+      → SomeIff o (c.limit-limit.result ≤ c.from.result + c.from-offset.result)
+      (c.from.result + c.from-offset.result - c.limit-limit.result)
+      → MatchOption o (IsNegative (pos c.args.index +ℤ signed c.args.count.size c.args.count.offset))
+      (λ m. pos c.args.index +ℤ signed c.args.count.size c.args.count.offset ≡ pos m)
+  by None h =
+      back_past c.args.count.size c.args.index c.args.count.offset c.limit-limit.result c.limit-limit.ensures
+      (omega arith) (below (c.args.index + c.args.count.offset) c.limit-limit.result (λ le. h (omega arith)))
   by (Some m) h =
       let e : c.args.index + c.args.count.offset - c.limit-limit.result ≡ m = omega (arith, h.1) in
-      back_by c.args.count.size c.args.index c.args.count.offset c.limit-limit.result c.limit-limit.ensures (omega arith) (omega (arith, h.0)) ∙ ap pos e
+      back_by c.args.count.size c.args.index c.args.count.offset c.limit-limit.result c.limit-limit.ensures
+      (omega arith) (omega (arith, h.0))
+      ∙ ap pos e
