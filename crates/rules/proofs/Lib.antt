@@ -1,0 +1,11 @@
+pub mod Arithmetic
+pub mod Booleans
+pub mod Comparisons
+pub mod Folds
+pub mod Has
+pub mod Nodes
+pub mod Parts
+pub mod Shifts
+pub mod Sound
+pub mod Total
+pub mod Words
