@@ -112,7 +112,9 @@ fn way_to(places: &[Place], why: FlowWhy, address: u128, index: usize) -> Edge
 
 fn to_next_instruction(places: &[Place], instruction: &Instruction) -> Edge
     requires { Rising places.now }
-    ensures { (l : Listing) → ArePlaces l places.now → Means places.now result (way_of l FlowWhy.FallsOff (next_instruction instruction.now)) }
+    ensures { (l : Listing)
+        → ArePlaces l places.now
+        → Means places.now result (way_of l FlowWhy.FallsOff (next_instruction instruction.now)) }
 {
     let end = u128::from(instruction.address) + u128::from(instruction.length);
     way_to(places, FlowWhy::FallsOff, end, 0)
@@ -120,7 +122,9 @@ fn to_next_instruction(places: &[Place], instruction: &Instruction) -> Edge
 
 fn to_next(places: &[Place], instruction: &Instruction, index: u32) -> Edge
     requires { Rising places.now }
-    ensures { (l : Listing) → ArePlaces l places.now → Means places.now result (way_of l FlowWhy.FallsOff (next_place instruction.now index)) }
+    ensures { (l : Listing)
+        → ArePlaces l places.now
+        → Means places.now result (way_of l FlowWhy.FallsOff (next_place instruction.now index)) }
 {
     let next = index as usize + 1;
     if next < instruction.ops.len() {
@@ -137,7 +141,9 @@ fn to_next(places: &[Place], instruction: &Instruction, index: u32) -> Edge
 
 fn relative(places: &[Place], instruction: &Instruction, index: u32, count: Varnode) -> Edge
     requires { Rising places.now }
-    ensures { (l : Listing) → ArePlaces l places.now → Means places.now result (relative_way l (relative_place instruction.now index count)) }
+    ensures { (l : Listing)
+        → ArePlaces l places.now
+        → Means places.now result (relative_way l (relative_place instruction.now index count)) }
 {
     let ops = instruction.ops.len() as u128;
     match relative_index(index, count) {

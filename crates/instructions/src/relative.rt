@@ -15,7 +15,8 @@ fn limit(size: u32) -> u128
 
 /// The index of a relative branch, whose count is signed at its own size. None where it is negative.
 pub fn relative_index(index: u32, count: Varnode) -> Option<u128>
-    ensures { MatchOption result (IsNegative (pos index +ℤ signed count.size count.offset)) (λ m. pos index +ℤ signed count.size count.offset ≡ pos m) }
+    ensures { MatchOption result (IsNegative (pos index +ℤ signed count.size count.offset))
+        (λ m. pos index +ℤ signed count.size count.offset ≡ pos m) }
 {
     let offset = u128::from(count.offset);
     let sum = u128::from(index) + offset;

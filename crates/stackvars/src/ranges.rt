@@ -69,7 +69,8 @@ fn push_inputs(out: &mut Vec<Atom>, listing: &Listing, op: &Op) -> Result<(), Me
 
 fn push_result(out: &mut Vec<Atom>, listing: &Listing, op: &Op) -> Result<(), Memory>
     requires { is_supported_op listing.now op.now ≡ true }
-    ensures { OnOk result (out.new.items ≡ out.old.items ++ atoms_of listing.now (further_ranges listing.now None op.now.code op.now.inputs)) }
+    ensures { OnOk result (out.new.items
+        ≡ out.old.items ++ atoms_of listing.now (further_ranges listing.now None op.now.code op.now.inputs)) }
 {
     match &op.code {
         Opcode::Return => push_optional(out, listing, result_range(listing)),
