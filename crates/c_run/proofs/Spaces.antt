@@ -1,5 +1,5 @@
 -- The spaces of a well-formed listing.
-use Rattle.std.proofs.Common.{◌≡◌, ℕ, suc, ◌+◌, ◌<◌, ◌≤◌, ◌^◌, ◌&&◌, not, Bool, true, false, cond, List, [], ◌∷◌, Option, Some, None, refl, ap, ◌∙◌, arith, subst}
+use Rattle.std.proofs.Common.{◌≡◌, ℕ, ◌+◌, ◌<◌, ◌≤◌, ◌^◌, ◌&&◌, not, Bool, true, false, List, Option, Some, None, refl, ap, ◌∙◌, arith, subst}
 use Rattle.std.specs.Prelude.{IfSome, nat_lt, slice_get}
 use Rattle.std.proofs.lemmas.Bool.Decides.{nat_tests}
 use Rattle.pcode_model.specs.declared.listing.Listing.{Listing}
@@ -7,7 +7,7 @@ use Rattle.pcode_model.specs.declared.listing.Space.{Space}
 use Rattle.pcode_model.specs.declared.listing.SpaceKind.{SpaceKind}
 use Rattle.pcode_model.specs.declared.listing.SpaceKind.TheVariants.{Constant, Ram, Register, Unique}
 use Rattle.pcode_model.specs.declared.listing.Varnode.{Varnode}
-use Rattle.pcode_model.specs.Spaces.{first_ram, kind_in, kind_of, number_of, register_space, same_kind, size_of, unique_space}
+use Rattle.pcode_model.specs.Spaces.{kind_in, kind_of, number_of, register_space, same_kind, size_of, unique_space}
 use Rattle.pcode_model.specs.WellFormed.{IsRegister, IsStackPointer, IsWellFormed, how_many}
 use Rattle.cmeaning.specs.Do.{accessed, space_named}
 use Rattle.run_world.specs.Setting.{HasShape}

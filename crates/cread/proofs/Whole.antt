@@ -1,6 +1,6 @@
 -- A valid tree is read again from its text, so each text has one tree.
 use Rattle.std.proofs.Common.{◌≡◌, ℕ, ◌+◌, ◌-◌, ◌<◌, Bool, true, false, List, [], ◌∷◌, ◌++◌, length, Option, Some, None, Err, refl, sym, ap, ◌∙◌, arith, append_assoc, lit<}
-use Rattle.std.specs.Prelude.{codes, map, ◌↔◌, IsTrue, slice_get}
+use Rattle.std.specs.Prelude.{codes, map, IsTrue, slice_get}
 use Rattle.bits_core.specs.declared.word.Width.{Width}
 use Rattle.cmeaning.specs.declared.tree.CFunction.{CFunction}
 use Rattle.cmeaning.specs.declared.tree.CName.TheVariants.{Declared}

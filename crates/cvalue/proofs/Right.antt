@@ -165,6 +165,7 @@ layer_agrees ws f h (Expr-F.Overflow op a b) s is =
     (sym (shape_roll ws (Expr-F.Overflow op (f a) (f b))) ∙ is) in
     o.width ∙ sym (width_roll ws (Expr-F.Overflow op (f a) (f b)))
 
+-- the width that the shape of an expression tells is that of its meaning
 pub agrees : (ws : ℕ → ℕ) (e : Expr) → Agrees ws e
 agrees ws e =
     ind-Expr (Agrees ws)

@@ -6,6 +6,7 @@ use Rattle.cmeaning.specs.Valid.{IsValid}
 use Rattle.ctext.specs.Text.{text_of}
 use Rattle.exact_c.specs.Tree.{IsTreeOf}
 
+-- what is false holds of nothing
 pub not_true : (b : Bool) → b ≡ false → IsTrue b → ⊥
 not_true true f h = absurd cc
 not_true false f h = absurd (let e : false ≡ true = h in cc)

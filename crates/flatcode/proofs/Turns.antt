@@ -1,5 +1,5 @@
 -- The turns of loops over arms.
-use Rattle.std.proofs.Common.{◌≡◌, ℕ, suc, ◌+◌, ◌<◌, Bool, List, ◌∷◌, ◌++◌, length, get_or, drop, map, sym, ap, ◌∙◌, add-one, append_assoc, arith}
+use Rattle.std.proofs.Common.{◌≡◌, ℕ, ◌+◌, ◌<◌, Bool, List, ◌++◌, length, get_or, drop, map, sym, ap, ◌∙◌, append_assoc, arith}
 use Rattle.cmeaning.specs.declared.tree.Arm.{Arm}
 use Rattle.cmeaning.specs.Flat.{arm_cases, arm_span, arm_spans, cases_at}
 use Rattle.flatcode.specs.declared.step.Case.{Case}

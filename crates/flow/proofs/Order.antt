@@ -9,12 +9,14 @@ use Rattle.pcode_model.specs.Flow.{IsIn, IsBefore, Rising}
 use Rattle.flow.specs.Slots.{at, IsLowerBound}
 use Rattle.instructions.proofs.Members.{in_either, same_place}
 
+-- the order of places is transitive
 pub before_trans : (p q r : Place) → IsBefore p q → IsBefore q r → IsBefore p r
 before_trans p q r (inl a) (inl b) = inl (omega arith)
 before_trans p q r (inl a) (inr b) = inl (omega arith)
 before_trans p q r (inr a) (inl b) = inl (omega arith)
 before_trans p q r (inr a) (inr b) = inr (omega arith, omega arith)
 
+-- no place stands before itself
 pub not_before : (p : Place) → IsBefore p p → ⊥
 not_before p (inl a) = omega arith
 not_before p (inr a) = omega arith

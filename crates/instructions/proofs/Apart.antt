@@ -8,14 +8,17 @@ use Rattle.pcode_model.specs.Places.{instruction_in}
 use Rattle.pcode_model.specs.Flow.{IsIn, AreApart}
 use Rattle.instructions.proofs.Members.{member_at}
 
+-- the instructions behind the first stay apart
 pub apart_rest : (i : Instruction) (code : List Instruction) → AreApart (i ∷ code) → AreApart code
 apart_rest i [] a = tt
 apart_rest i (j ∷ code) a = a.1.1
 
+-- an instruction has a byte at least
 pub long : (i : Instruction) (code : List Instruction) → AreApart (i ∷ code) → 0 < i.length
 long i [] a = a
 long i (j ∷ code) a = a.0
 
+-- the first instruction ends before each other one begins
 pub apart_head : (i : Instruction) (code : List Instruction)
     → AreApart (i ∷ code)
     → (j : Instruction)
@@ -27,6 +30,7 @@ apart_head i (x ∷ code) a j (inl e) =
     subst P (sym e) a.1.0
 apart_head i (x ∷ code) a j (inr h) = omega (arith, a.1.0, apart_head x code a.1.1 j h)
 
+-- of two instructions the one that begins first ends before the other begins
 pub apart_in : (code : List Instruction)
     → AreApart code
     → (i j : Instruction)
@@ -44,6 +48,7 @@ apart_in (x ∷ code) a i j (inr h) (inl f) lt =
     absurd (omega (arith, apart_head x code a i h, ap (λ (y : Instruction). y.address) f))
 apart_in (x ∷ code) a i j (inr h) (inr k) lt = apart_in code (apart_rest x code a) i j h k lt
 
+-- what is found at an address is an instruction of the code, and stands there
 pub found_in : (code : List Instruction) (a : ℕ) (i : Instruction)
     → instruction_in code a ≡ Some i
     → IsIn i code × (i.address ≡ a)
@@ -86,6 +91,7 @@ rising_at (x ∷ code) a zero (suc k) i m lt e f =
       some_same h = cc
 rising_at (x ∷ code) a (suc j) (suc k) i m lt e f = rising_at code (apart_rest x code a) j k i m (omega arith) e f
 
+-- an instruction of the code has a number
 pub number_in : (code : List Instruction) (i : Instruction) → IsIn i code → (k : ℕ) × (slice_get code k ≡ Some i)
 number_in [] i h = absurd h
 number_in (x ∷ code) i (inl e) = (zero, ap Some (sym e))

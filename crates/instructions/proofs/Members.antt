@@ -1,5 +1,5 @@
 -- Members of lists, and places by their parts.
-use Rattle.std.proofs.Common.{◌≡◌, ◌∙◌, ℕ, zero, suc, List, [], ◌∷◌, ◌++◌, ◌⊎◌, inl, inr, Option, Some, None, ap, sym, subst}
+use Rattle.std.proofs.Common.{◌≡◌, ◌∙◌, ℕ, zero, suc, List, [], ◌∷◌, ◌++◌, ◌⊎◌, inl, inr, Some, ap, sym, subst}
 use Rattle.std.specs.Prelude.{slice_get}
 use Rattle.std.specs.List.{AllByRecursion}
 use Rattle.pcode_model.specs.declared.listing.Place.{Place}
@@ -8,15 +8,18 @@ use Rattle.pcode_model.specs.Flow.{IsIn}
 
 -- ---- lists that stand one behind the other
 
+-- a member of the first list is one of both
 pub in_front : {A : Type 0} (xs ys : List A) (x : A) → IsIn x xs → IsIn x (xs ++ ys)
 in_front [] ys x h = absurd h
 in_front (y ∷ xs) ys x (inl e) = inl e
 in_front (y ∷ xs) ys x (inr h) = inr (in_front xs ys x h)
 
+-- a member of the second list is one of both
 pub behind : {A : Type 0} (xs ys : List A) (x : A) → IsIn x ys → IsIn x (xs ++ ys)
 behind [] ys x h = h
 behind (y ∷ xs) ys x h = inr (behind xs ys x h)
 
+-- a member of both is one of the first list or of the second
 pub in_either : {A : Type 0} (xs ys : List A) (x : A) → IsIn x (xs ++ ys) → IsIn x xs ⊎ IsIn x ys
 in_either [] ys x h = inr h
 in_either (y ∷ xs) ys x (inl e) = inl (inl e)
@@ -38,5 +41,6 @@ of_member P x (y ∷ xs) all (inr is) = of_member P x xs all.1 is
 
 -- ---- places
 
+-- places with one address and one index are the same
 pub same_place : (p q : Place) → p.address ≡ q.address → p.index ≡ q.index → p ≡ q
 same_place p q e f = ap (λ a. place a p.index) e ∙ ap (λ n. place q.address n) f

@@ -6,6 +6,7 @@ use Rattle.pcode_model.specs.Memory.{Bytes, Whole, Layout, conceal, is_framed}
 use Rattle.pcode_model.specs.Spaces.{is_some, or, put, first_ram}
 use Rattle.pcode_memory.specs.Context.{spoil}
 
+-- memories are the same where their bytes, their hidden bytes and their spoiled ones are
 pub whole_is : (b c : Bytes) (h g : ℕ → Option ℕ) (s t : ℕ → Bool)
     → b ≡ c
     → h ≡ g

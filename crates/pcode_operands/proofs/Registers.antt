@@ -1,18 +1,17 @@
 -- The spaces and the stack pointer of a well formed listing.
-use Rattle.std.proofs.Common.{◌≡◌, ◌+◌, ◌≤◌, ◌^◌, ℕ, zero, suc, true, false, List, [], ◌∷◌, Option, Some, ap, refl, sym, subst, arith}
+use Rattle.std.proofs.Common.{◌≡◌, ◌+◌, ◌≤◌, ℕ, zero, suc, false, List, [], ◌∷◌, Option, Some, ap, subst, arith}
 use Rattle.std.specs.Prelude.{nat_lt, slice_get, IfSome}
 use Rattle.std.specs.List.{AllByRecursion}
 use Rattle.std.proofs.lemmas.Bool.Decides.{nat_tests}
 use Rattle.pcode_model.specs.declared.listing.Listing.{Listing}
 use Rattle.pcode_model.specs.declared.listing.Space.{Space}
-use Rattle.pcode_model.specs.declared.listing.SpaceKind.{SpaceKind}
-use Rattle.pcode_model.specs.declared.listing.SpaceKind.TheVariants.{Constant, Ram, Register, Unique}
 use Rattle.pcode_model.specs.declared.listing.Varnode.{Varnode}
-use Rattle.pcode_model.specs.Spaces.{first_ram, kind_in, offset_bytes_in, same_kind, size_in, size_of}
+use Rattle.pcode_model.specs.Spaces.{first_ram, kind_in, offset_bytes_in, size_in}
 use Rattle.pcode_model.specs.WellFormed.{AreSpaces, IsDeclared, IsRegister, IsStackPointer, IsWellFormed}
 use Rattle.run_world.proofs.Declared.{register_not_constant, size_most}
 use Rattle.pcode_operands.specs.Used.{IsInside, IsStack}
 
+-- a range of registers lies inside its space, which has at most 2 to the 64 bytes
 pub register_inside : (l : Listing) (v : Varnode) → AreSpaces l.spaces → IsRegister l.spaces v → IsInside l v
 register_inside l v good is =
     let inside : nat_lt (size_in (slice_get l.spaces v.space)) (v.offset + v.size) ≡ false = is.inside in

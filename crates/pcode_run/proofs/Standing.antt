@@ -1,12 +1,11 @@
 -- What stands at a place of a well formed listing whose ops obey their rules.
-use Rattle.std.proofs.Common.{◌≡◌, ◌<◌, ◌^◌, ◌==◌, ℕ, zero, suc, Bool, true, false, cond, List, [], ◌∷◌, length, Option, Some, None, inl, inr, sym, subst, ap, ◌∙◌}
+use Rattle.std.proofs.Common.{◌≡◌, ◌<◌, ◌^◌, ℕ, List, [], ◌∷◌, length, Option, Some, None, inl, inr, sym, subst, ap, ◌∙◌}
 use Rattle.std.specs.Prelude.{slice_get}
-use Rattle.std.specs.List.{AllByRecursion}
 use Rattle.pcode_model.specs.declared.listing.Instruction.{Instruction}
 use Rattle.pcode_model.specs.declared.listing.Listing.{Listing}
 use Rattle.pcode_model.specs.declared.listing.Op.{Op}
 use Rattle.pcode_model.specs.Flow.{IsIn}
-use Rattle.pcode_model.specs.Places.{Does, instruction_at, instruction_in, op_in, place, standing, standing_in, standing_of}
+use Rattle.pcode_model.specs.Places.{Does, instruction_at, op_in, place, standing, standing_in, standing_of}
 use Rattle.pcode_model.specs.Rules.{HasFewOps, first_bad}
 use Rattle.pcode_model.specs.WellFormed.{HasOps, IsOp, IsWellFormed}
 use Rattle.pcode_laws.proofs.Rules.{in_code}

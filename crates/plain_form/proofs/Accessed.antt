@@ -187,6 +187,7 @@ by_standing l sup p Nothing e v local h = absurd h
 by_standing l sup p (Passes i) e v local h = absurd h
 by_standing l sup p (Does i op) e v local h = named_op l sup i op (stands_in l p i op e) v local h
 
+-- what a reached op accesses is one of the ranges that the listing names
 pub accessed_named : (l : Listing)
     → IsSupported l
     → IsFormed l

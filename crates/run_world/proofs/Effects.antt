@@ -33,6 +33,7 @@ pub any_later : {A : Type 0} (f : A → Bool) (xs : List A) (i : ℕ) (d : A)
 any_later f xs i d more isnt =
     ap (list_any f) (drop_more xs i d more) ∙ ap (λ b. b || list_any f (drop (i + 1) xs)) isnt
 
+-- what is left of a list, by its first item
 pub rest_at : {A : Type 0} (xs : List A) (i : ℕ) (x : A)
     → i < length xs
     → x ≡ get_or xs i x
@@ -41,9 +42,11 @@ rest_at xs i x more is = drop_more xs i x more ∙ ap (λ y. y ∷ drop (i + 1) 
 
 -- ---- read-only bytes
 
+-- a setting looks up the read-only bytes of its listing
 pub fixed_is : (l : Listing) (s : Setting) → IsSetting l s → (n o : ℕ) → is_some (at s.fixed n o) ≡ is_fixed l n o
 fixed_is l s is n o = ap (λ (f : ℕ → ℕ → Option ℕ). is_some (f n o)) is.fixed
 
+-- and so whether a range of a space of this shape meets one
 pub meets_is : (l : Listing) (s : Setting) (shape : Shape) (n a k : ℕ)
     → IsSetting l s
     → HasShape l n shape

@@ -71,6 +71,7 @@ one_more_fits n b i below byte few =
 pub one_more_below : (n b i : ℕ) → n < 256 ^ i → b < 256 → n * 256 + b < 256 ^ (i + 1)
 one_more_below n b i below byte = rw (add-one i) (rw (pow-suc 256 i) (omega arith))
 
+-- a byte that is read and pushed leaves the others to be read
 pub read_step : (size : ℕ) (f : ℕ → ℕ) (here count i : ℕ) (out all : List ℕ) (b later : ℕ) (longer : List ℕ)
     → b ≡ f here
     → later ≡ next size here
@@ -83,6 +84,7 @@ read_step size f here count i out all b later longer byte place pushed more befo
     ∙ ap (λ p. (out ++ f here ∷ []) ++ bytes_at size f p (count - (i + 1))) place
     ∙ read_more size f here count i out all more before
 
+-- a byte that is looked at and has no fault leaves the others to be looked at
 pub look_step : (size : ℕ) (f : ℕ → Bool) (here count i later : ℕ) (all found : Bool)
     → found ≡ f here
     → found ≡ false
@@ -103,6 +105,7 @@ pub low_step : (rest count i : ℕ) (out all longer : List ℕ)
 low_step rest count i out all longer pushed more before =
     ap (λ xs. xs ++ bytes (count - (i + 1)) (rest / 256)) pushed ∙ bytes_more rest count i out all more before
 
+-- the test of an option that std has is that of the definitions
 pub same_some : (x : Option ℕ) → option.is_some x ≡ is_some x
 same_some None = refl
 same_some (Some b) = refl
