@@ -2,7 +2,7 @@
 
 use super::{failing, made};
 use outside::{
-    Bytes, Fails, File, Files, MemShelf, MemSink, MemSource, ReadEnd, Shelf, read_all, write_all,
+    Bytes, File, Files, MemShelf, MemSink, MemSource, ReadEnd, Shelf, read_all, write_all,
 };
 use std::alloc::Global;
 use std::process::Abort;
