@@ -127,7 +127,8 @@ module _ (ws : ℕ → ℕ) (u : Under ws) where
       → Has ws u (E.Division Div x (E.Const c)) w n → Has ws u x w n
   a2_div x c z w n h =
       let v : ℕ → ℕ → ℕ = quotient_or_rest D.Quotient w in
-      alone x c w n v (H.beside ws u x c w w v n (H.division_has ws u Div x (E.Const c) h)) (λ y p e. ap (v y) z ∙ div_one y)
+      alone x c w n v (H.beside ws u x c w w v n (H.division_has ws u Div x (E.Const c) h))
+      (λ y p e. ap (v y) z ∙ div_one y)
 
   a2_sdiv : (x : Expr) (c : Word) → c.value ≡ 1 → (w n : ℕ)
       → Has ws u (E.SignedDivision SDiv x (E.Const c)) w n → Has ws u x w n

@@ -82,7 +82,11 @@ module _ (ws : ℕ → ℕ) (u : Under ws) where
       H.signed_compare_made ws u to y x w (eq n 0) t.two.right t.two.left t.byte
       (sym (law t.width t.two.x t.two.y) ∙ ap (λ v. eq v 0) t.two.is)
 
-pub negated_has : (ws : ℕ → ℕ) (u : Under ws) (k m : Expr) → Negated k m → (w n : ℕ) → Has ws u k w n → Has ws u m w (eq n 0)
+pub negated_has : (ws : ℕ → ℕ) (u : Under ws) (k m : Expr)
+    → Negated k m
+    → (w n : ℕ)
+    → Has ws u k w n
+    → Has ws u m w (eq n 0)
 negated_has ws u k m (Eq x y) w n h = compare_negated ws u C.Eq C.Ne x y w n (λ t a b. compare.not_eq a b) h
 negated_has ws u k m (Ne x y) w n h = compare_negated ws u C.Ne C.Eq x y w n (λ t a b. compare.not_ne a b) h
 negated_has ws u k m (Lt x y) w n h = compare_negated_over ws u C.Lt C.Le x y w n (λ t a b. compare.not_lt a b) h
@@ -157,7 +161,9 @@ boolean_has ws u l r (B2_ne b c i z) w n h = b2_ne ws u b c i z w n h
 boolean_has ws u l r (B2_eq b c i z) w n h = b2_eq ws u b c i z w n h
 
 pub boolean_depth : (l r : Expr) → Deciding l r → depth_of r ≤ depth_of l
-boolean_depth l r (B1_xor k m c g z) = let e : depth_of m ≡ depth_of k = negated_depth k m g in simp depths (omega arith)
+boolean_depth l r (B1_xor k m c g z) =
+    let e : depth_of m ≡ depth_of k = negated_depth k m g in
+    simp depths (omega arith)
 boolean_depth l r (B1_eq k m c g z) = let e : depth_of m ≡ depth_of k = negated_depth k m g in simp depths (omega arith)
 boolean_depth l r (B1_ne k m c g z) = let e : depth_of m ≡ depth_of k = negated_depth k m g in simp depths (omega arith)
 boolean_depth l r (B2_ne b c i z) = simp depths (omega arith)

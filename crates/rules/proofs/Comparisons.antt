@@ -203,9 +203,12 @@ module _ (ws : ℕ → ℕ) (u : Under ws) where
       → Has ws u (E.Compare Ne (E.SignedCompare SLt (E.Arithmetic A.Sub x y) (E.Const c)) (E.Overflow SBorrow x y)) w n
       → Has ws u (E.SignedCompare SLt x y) w n
   c3_ne x y c z w n h =
-      let p = H.compare_has ws u Ne (E.SignedCompare SLt (E.Arithmetic A.Sub x y) (E.Const c)) (E.Overflow SBorrow x y) h in
+      let p =
+      H.compare_has ws u Ne (E.SignedCompare SLt (E.Arithmetic A.Sub x y) (E.Const c)) (E.Overflow SBorrow x y) h in
       let f = flags x y c z p.width w p.two.x p.two.y p.two.left p.two.right p.byte in
-      let law = compare.slt_by_borrow f.width f.a f.b (H.some ws u x f.left.size) (H.below ws u x f.left) (H.below ws u y f.right) in
+      let law =
+      compare.slt_by_borrow f.width f.a f.b (H.some ws u x f.left.size) (H.below ws u x f.left)
+      (H.below ws u y f.right) in
       H.signed_compare_made ws u SLt x y w n f.left f.right p.byte
       (sym law ∙ ap (λ v. ne v (sborrow f.width f.a f.b)) f.first ∙ ap (ne p.two.x) f.second ∙ p.two.is)
 
@@ -213,15 +216,21 @@ module _ (ws : ℕ → ℕ) (u : Under ws) where
       → Has ws u (E.Compare Eq (E.SignedCompare SLt (E.Arithmetic A.Sub x y) (E.Const c)) (E.Overflow SBorrow x y)) w n
       → Has ws u (E.SignedCompare SLe y x) w n
   c3_eq x y c z w n h =
-      let p = H.compare_has ws u Eq (E.SignedCompare SLt (E.Arithmetic A.Sub x y) (E.Const c)) (E.Overflow SBorrow x y) h in
+      let p =
+      H.compare_has ws u Eq (E.SignedCompare SLt (E.Arithmetic A.Sub x y) (E.Const c)) (E.Overflow SBorrow x y) h in
       let f = flags x y c z p.width w p.two.x p.two.y p.two.left p.two.right p.byte in
-      let law = compare.sle_by_borrow f.width f.a f.b (H.some ws u x f.left.size) (H.below ws u x f.left) (H.below ws u y f.right) in
+      let law =
+      compare.sle_by_borrow f.width f.a f.b (H.some ws u x f.left.size) (H.below ws u x f.left)
+      (H.below ws u y f.right) in
       H.signed_compare_made ws u SLe y x w n f.right f.left p.byte
       (sym law ∙ ap (λ v. eq v (sborrow f.width f.a f.b)) f.first ∙ ap (eq p.two.x) f.second ∙ p.two.is)
 
   -- a test of equality beside a comparison of the same letters, both under a bitwise operation
   joined_signed : (outer : ArithmeticOp) (op : CompareOp) (q to : SignedCompareOp) (x y : Expr)
-      → ((v t a b : ℕ) → a < limit t → b < limit t → on outer v (test op t a b) (signed_test q t a b) ≡ signed_test to t a b)
+      → ((v t a b : ℕ)
+      → a < limit t
+      → b < limit t
+      → on outer v (test op t a b) (signed_test q t a b) ≡ signed_test to t a b)
       → (w n : ℕ)
       → Has ws u (E.Arithmetic outer (E.Compare op x y) (E.SignedCompare q x y)) w n
       → Has ws u (E.SignedCompare to x y) w n
@@ -339,8 +348,10 @@ module _ (ws : ℕ → ℕ) (u : Under ws) where
 
 pub comparison_has : (ws : ℕ → ℕ) (u : Under ws) (l r : Expr) → Comparing l r → (w n : ℕ)
     → Has ws u l w n → Has ws u r w n
-comparison_has ws u l r (C1_sub op x y c k z) w n h = c1 ws u op A.Sub x y c z (λ t a b p q. difference op t a b k p q) w n h
-comparison_has ws u l r (C1_xor op x y c k z) w n h = c1 ws u op A.Xor x y c z (λ t a b p q. unlike op t a b k p q) w n h
+comparison_has ws u l r (C1_sub op x y c k z) w n h =
+    c1 ws u op A.Sub x y c z (λ t a b p q. difference op t a b k p q) w n h
+comparison_has ws u l r (C1_xor op x y c k z) w n h =
+    c1 ws u op A.Xor x y c z (λ t a b p q. unlike op t a b k p q) w n h
 comparison_has ws u l r (C2_add op x c d e k f) w n h =
     c2 ws u op A.Add A.Sub x c d e f (λ t a p q s. moved_sum op t a c.value d.value k p q s) w n h
 comparison_has ws u l r (C2_add_over op x c d e k f) w n h =

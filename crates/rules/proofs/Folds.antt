@@ -67,7 +67,9 @@ module _ (r : Reading) (reads : IsReading r) (ws : ℕ → ℕ) (env : ℕ → O
 
 -- The value of a node over constants is one number, by whatever reading.
 pub data Holds (l : Expr) (m : ℕ) : Type 0 where
-  Is : ((r : Reading) (reads : IsReading r) (ws : ℕ → ℕ) (env : ℕ → Option ℕ) (n : ℕ) → value_by r ws env l ≡ Some n → m ≡ n)
+  Is : ((r : Reading) (reads : IsReading r) (ws : ℕ → ℕ) (env : ℕ → Option ℕ) (n : ℕ)
+      → value_by r ws env l ≡ Some n
+      → m ≡ n)
       → Holds l m
 
 held : (l : Expr) (m : ℕ)
@@ -84,7 +86,9 @@ closed l (Arithmetic op c d) = held _ _
 closed l (Division op c d) = (
   quotient_or_rest (division_of op) c.width.bytes c.value d.value,
   Is (λ r i ws env n at. i.plain (division_of op) c.width.bytes c.value d.value n
-      (sym (over r i ws env c d (r.plain (division_of op))) ∙ sym (N.value_by_division r ws env op (E.Const c) (E.Const d)) ∙ at)),
+      (sym (over r i ws env c d (r.plain (division_of op)))
+      ∙ sym (N.value_by_division r ws env op (E.Const c) (E.Const d))
+      ∙ at)),
 )
 closed l (SignedDivision op c d) = (
   quotient_or_rest (signed_division_of op) c.width.bytes c.value d.value,
@@ -125,7 +129,8 @@ agree l m (Is f) r q i i' ws env other j k a b = sym (f r i ws env j a) ∙ f q 
 pub fold_has : (ws : ℕ → ℕ) (u : Under ws) (l r : Expr) → Folding ws l r → (w n : ℕ) → Has ws u l w n → Has ws u r w n
 fold_has ws u l r (F1 l' e c v) w n h =
     let k = closed l c in
-    let is : e.value ≡ n = agree l k.0 k.1 as_ops u.reading ops_read u.reads ws (λ v. None) u.env e.value n v.value h.value in
+    let is : e.value ≡ n =
+    agree l k.0 k.1 as_ops u.reading ops_read u.reads ws (λ v. None) u.env e.value n v.value h.value in
     H.const_made ws u e w n (some_is _ _ (sym v.width ∙ h.size)) is
 
 -- a node is at least as deep as a constant

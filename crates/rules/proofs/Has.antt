@@ -193,7 +193,8 @@ module _ (ws : ℕ → ℕ) (u : Under ws) where
       → Pair ws u a b w w (λ x y. binary_value (arithmetic_of op) w x w y w) n
   arithmetic_has op a b {w} {n} h =
       let s = alike (λ v k. v) (size_of ws a) (size_of ws b) w (sym (N.size_of_arithmetic ws op a b) ∙ h.size) in
-      pair a b w w (λ t x k y. binary_value (arithmetic_of op) t x k y t) n (s.1.0 ∙ ap Some s.1.2) (s.1.1 ∙ ap Some s.1.2)
+      pair a b w w (λ t x k y. binary_value (arithmetic_of op) t x k y t) n (s.1.0 ∙ ap Some s.1.2)
+      (s.1.1 ∙ ap Some s.1.2)
       (sym (N.value_by_arithmetic u.reading ws u.env op a b) ∙ h.value)
 
   pub arithmetic_made : (op : ArithmeticOp) (a b : Expr) {w x y : ℕ} (n : ℕ) → Has ws u a w x → Has ws u b w y
@@ -361,7 +362,8 @@ module _ (ws : ℕ → ℕ) (u : Under ws) where
 
   -- to more bytes
   pub extend_has : (op : ExtendOp) (v : Width) (a : Expr) {w n : ℕ} → Has ws u (E.Extend op v a) w n
-      → (t : ℕ) × ((x : ℕ) × (Has ws u a t x × (unary_value (extend_of op) t x v.bytes ≡ n) × (t < v.bytes) × (v.bytes ≡ w)))
+      → (t : ℕ)
+      × ((x : ℕ) × (Has ws u a t x × (unary_value (extend_of op) t x v.bytes ≡ n) × (t < v.bytes) × (v.bytes ≡ w)))
   extend_has op v a {w} {n} h =
       let s = single_width (λ t. nat_lt t v.bytes) (λ t. v.bytes) (size_of ws a) w
       (sym (N.size_of_extend ws op v a) ∙ h.size) in
@@ -378,7 +380,8 @@ module _ (ws : ℕ → ℕ) (u : Under ws) where
   }
 
   pub part_has : (k : ℕ) (v : Width) (a : Expr) {w n : ℕ} → Has ws u (E.Part k v a) w n
-      → (t : ℕ) × ((x : ℕ) × (Has ws u a t x × (part x k v.bytes ≡ n) × (k + v.bytes ≤ t) × (v.bytes < t) × (v.bytes ≡ w)))
+      → (t : ℕ)
+      × ((x : ℕ) × (Has ws u a t x × (part x k v.bytes ≡ n) × (k + v.bytes ≤ t) × (v.bytes < t) × (v.bytes ≡ w)))
   part_has k v a {w} {n} h =
       let s = single_width (is_part k v.bytes) (λ t. v.bytes) (size_of ws a) w
       (sym (N.size_of_part ws k v a) ∙ h.size) in

@@ -5,6 +5,7 @@ pub mod Folds
 pub mod Has
 pub mod Nodes
 pub mod Parts
+pub mod Shapes
 pub mod Shifts
 pub mod Sound
 pub mod Total

@@ -1,5 +1,5 @@
 -- The width, the depth and the value of each kind of expression.
-use Rattle.std.proofs.Common.{◌≡◌, ℕ, ◌+◌, nat_lt, nat_le, max, true, if◌then◌else◌, Option, Some, None, sym, ap, ◌∙◌}
+use Rattle.std.proofs.Common.{◌≡◌, ℕ, ◌+◌, ◌<◌, subst, arith, nat_lt, nat_le, max, true, if◌then◌else◌, Option, Some, None, sym, ap, ◌∙◌}
 use Rattle.bits_core.specs.declared.word.Width.{Width}
 use Rattle.bits_core.specs.declared.word.Word.{Word}
 use Rattle.bits_core.specs.declared.ops.Binary.TheVariants as B
@@ -14,7 +14,7 @@ use Rattle.cmeaning.specs.declared.tree.SignedCompareOp.{SignedCompareOp}
 use Rattle.cmeaning.specs.declared.tree.ExtendOp.{ExtendOp}
 use Rattle.cmeaning.specs.declared.tree.OverflowOp.{OverflowOp}
 use Rattle.cmeaning.specs.declared.tree.CountOp.{CountOp}
-use Rattle.cmeaning.specs.declared.tree.Expr.{Expr, fold-roll-Expr, roll-Expr, map-Expr}
+use Rattle.cmeaning.specs.declared.tree.Expr.{Expr, fold-roll-Expr, ind-Expr, roll-Expr, map-Expr}
 use Rattle.cmeaning.specs.declared.tree.Expr.TheOpen.{Expr-F}
 use Rattle.cmeaning.specs.declared.tree.Expr.TheVariants as E
 use Rattle.cmeaning.specs.Shape.{is_part}
@@ -91,38 +91,46 @@ pub size_of_arithmetic : (ws : ℕ → ℕ) (op : ArithmeticOp) (a b : Expr)
     → size_of ws (E.Arithmetic op a b) ≡ alike (size_of ws a) (size_of ws b)
 size_of_arithmetic ws op a b = sized ws (E.Arithmetic op a b) (Expr-F.Arithmetic op a b) (E.rolls-Arithmetic op a b)
 
-pub depth_of_arithmetic : (op : ArithmeticOp) (a b : Expr) → depth_of (E.Arithmetic op a b) ≡ max (depth_of a) (depth_of b) + 1
+pub depth_of_arithmetic : (op : ArithmeticOp) (a b : Expr)
+    → depth_of (E.Arithmetic op a b) ≡ max (depth_of a) (depth_of b) + 1
 depth_of_arithmetic op a b = deep (E.Arithmetic op a b) (Expr-F.Arithmetic op a b) (E.rolls-Arithmetic op a b)
 
 pub value_by_arithmetic : (r : Reading) (ws : ℕ → ℕ) (env : ℕ → Option ℕ) (op : ArithmeticOp) (a b : Expr)
     → value_by r ws env (E.Arithmetic op a b)
     ≡ with_values (value_by r ws env a) (value_by r ws env b)
     (λ x y. Some (binary_value (arithmetic_of op) (wide r ws a) x (wide r ws b) y (wide r ws a)))
-value_by_arithmetic r ws env op a b = valued r ws env (E.Arithmetic op a b) (Expr-F.Arithmetic op a b) (E.rolls-Arithmetic op a b)
+value_by_arithmetic r ws env op a b =
+    valued r ws env (E.Arithmetic op a b) (Expr-F.Arithmetic op a b) (E.rolls-Arithmetic op a b)
 
 pub size_of_division : (ws : ℕ → ℕ) (op : DivisionOp) (a b : Expr)
     → size_of ws (E.Division op a b) ≡ alike (size_of ws a) (size_of ws b)
 size_of_division ws op a b = sized ws (E.Division op a b) (Expr-F.Division op a b) (E.rolls-Division op a b)
 
-pub depth_of_division : (op : DivisionOp) (a b : Expr) → depth_of (E.Division op a b) ≡ max (depth_of a) (depth_of b) + 1
+pub depth_of_division : (op : DivisionOp) (a b : Expr)
+    → depth_of (E.Division op a b) ≡ max (depth_of a) (depth_of b) + 1
 depth_of_division op a b = deep (E.Division op a b) (Expr-F.Division op a b) (E.rolls-Division op a b)
 
 pub value_by_division : (r : Reading) (ws : ℕ → ℕ) (env : ℕ → Option ℕ) (op : DivisionOp) (a b : Expr)
     → value_by r ws env (E.Division op a b)
     ≡ with_values (value_by r ws env a) (value_by r ws env b) (r.plain (division_of op) (wide r ws a))
-value_by_division r ws env op a b = valued r ws env (E.Division op a b) (Expr-F.Division op a b) (E.rolls-Division op a b)
+value_by_division r ws env op a b =
+    valued r ws env (E.Division op a b) (Expr-F.Division op a b) (E.rolls-Division op a b)
 
 pub size_of_signed_division : (ws : ℕ → ℕ) (op : SignedDivisionOp) (a b : Expr)
     → size_of ws (E.SignedDivision op a b) ≡ alike (size_of ws a) (size_of ws b)
-size_of_signed_division ws op a b = sized ws (E.SignedDivision op a b) (Expr-F.SignedDivision op a b) (E.rolls-SignedDivision op a b)
+size_of_signed_division ws op a b =
+    sized ws (E.SignedDivision op a b) (Expr-F.SignedDivision op a b) (E.rolls-SignedDivision op a b)
 
-pub depth_of_signed_division : (op : SignedDivisionOp) (a b : Expr) → depth_of (E.SignedDivision op a b) ≡ max (depth_of a) (depth_of b) + 1
-depth_of_signed_division op a b = deep (E.SignedDivision op a b) (Expr-F.SignedDivision op a b) (E.rolls-SignedDivision op a b)
+pub depth_of_signed_division : (op : SignedDivisionOp) (a b : Expr)
+    → depth_of (E.SignedDivision op a b) ≡ max (depth_of a) (depth_of b) + 1
+depth_of_signed_division op a b =
+    deep (E.SignedDivision op a b) (Expr-F.SignedDivision op a b) (E.rolls-SignedDivision op a b)
 
 pub value_by_signed_division : (r : Reading) (ws : ℕ → ℕ) (env : ℕ → Option ℕ) (op : SignedDivisionOp) (a b : Expr)
     → value_by r ws env (E.SignedDivision op a b)
     ≡ with_values (value_by r ws env a) (value_by r ws env b) (r.signed (signed_division_of op) (wide r ws a))
-value_by_signed_division r ws env op a b = valued r ws env (E.SignedDivision op a b) (Expr-F.SignedDivision op a b) (E.rolls-SignedDivision op a b)
+value_by_signed_division r ws env op a b =
+    valued r ws env (E.SignedDivision op a b) (Expr-F.SignedDivision op a b) (E.rolls-SignedDivision op a b)
 
 pub size_of_shift : (ws : ℕ → ℕ) (op : ShiftOp) (a b : Expr)
     → size_of ws (E.Shift op a b) ≡ two_size (λ v w. true) (λ v w. v) (size_of ws a) (size_of ws b)
@@ -152,16 +160,20 @@ value_by_compare r ws env op a b = valued r ws env (E.Compare op a b) (Expr-F.Co
 
 pub size_of_signed_compare : (ws : ℕ → ℕ) (op : SignedCompareOp) (a b : Expr)
     → size_of ws (E.SignedCompare op a b) ≡ tested (size_of ws a) (size_of ws b)
-size_of_signed_compare ws op a b = sized ws (E.SignedCompare op a b) (Expr-F.SignedCompare op a b) (E.rolls-SignedCompare op a b)
+size_of_signed_compare ws op a b =
+    sized ws (E.SignedCompare op a b) (Expr-F.SignedCompare op a b) (E.rolls-SignedCompare op a b)
 
-pub depth_of_signed_compare : (op : SignedCompareOp) (a b : Expr) → depth_of (E.SignedCompare op a b) ≡ max (depth_of a) (depth_of b) + 1
-depth_of_signed_compare op a b = deep (E.SignedCompare op a b) (Expr-F.SignedCompare op a b) (E.rolls-SignedCompare op a b)
+pub depth_of_signed_compare : (op : SignedCompareOp) (a b : Expr)
+    → depth_of (E.SignedCompare op a b) ≡ max (depth_of a) (depth_of b) + 1
+depth_of_signed_compare op a b =
+    deep (E.SignedCompare op a b) (Expr-F.SignedCompare op a b) (E.rolls-SignedCompare op a b)
 
 pub value_by_signed_compare : (r : Reading) (ws : ℕ → ℕ) (env : ℕ → Option ℕ) (op : SignedCompareOp) (a b : Expr)
     → value_by r ws env (E.SignedCompare op a b)
     ≡ with_values (value_by r ws env a) (value_by r ws env b)
     (λ x y. Some (binary_value (signed_compare_of op) (wide r ws a) x (wide r ws b) y 1))
-value_by_signed_compare r ws env op a b = valued r ws env (E.SignedCompare op a b) (Expr-F.SignedCompare op a b) (E.rolls-SignedCompare op a b)
+value_by_signed_compare r ws env op a b =
+    valued r ws env (E.SignedCompare op a b) (Expr-F.SignedCompare op a b) (E.rolls-SignedCompare op a b)
 
 pub size_of_extend : (ws : ℕ → ℕ) (op : ExtendOp) (w : Width) (a : Expr)
     → size_of ws (E.Extend op w a) ≡ one_size (λ v. nat_lt v w.bytes) (λ v. w.bytes) (size_of ws a)
@@ -204,14 +216,16 @@ pub size_of_overflow : (ws : ℕ → ℕ) (op : OverflowOp) (a b : Expr)
     → size_of ws (E.Overflow op a b) ≡ tested (size_of ws a) (size_of ws b)
 size_of_overflow ws op a b = sized ws (E.Overflow op a b) (Expr-F.Overflow op a b) (E.rolls-Overflow op a b)
 
-pub depth_of_overflow : (op : OverflowOp) (a b : Expr) → depth_of (E.Overflow op a b) ≡ max (depth_of a) (depth_of b) + 1
+pub depth_of_overflow : (op : OverflowOp) (a b : Expr)
+    → depth_of (E.Overflow op a b) ≡ max (depth_of a) (depth_of b) + 1
 depth_of_overflow op a b = deep (E.Overflow op a b) (Expr-F.Overflow op a b) (E.rolls-Overflow op a b)
 
 pub value_by_overflow : (r : Reading) (ws : ℕ → ℕ) (env : ℕ → Option ℕ) (op : OverflowOp) (a b : Expr)
     → value_by r ws env (E.Overflow op a b)
     ≡ with_values (value_by r ws env a) (value_by r ws env b)
     (λ x y. Some (binary_value (overflow_of op) (wide r ws a) x (wide r ws b) y 1))
-value_by_overflow r ws env op a b = valued r ws env (E.Overflow op a b) (Expr-F.Overflow op a b) (E.rolls-Overflow op a b)
+value_by_overflow r ws env op a b =
+    valued r ws env (E.Overflow op a b) (Expr-F.Overflow op a b) (E.rolls-Overflow op a b)
 
 pub size_of_count : (ws : ℕ → ℕ) (op : CountOp) (a : Expr)
     → size_of ws (E.Count op a) ≡ one_size (λ v. true) (λ v. 1) (size_of ws a)
@@ -226,4 +240,37 @@ pub value_by_count : (r : Reading) (ws : ℕ → ℕ) (env : ℕ → Option ℕ)
 value_by_count r ws env op a = valued r ws env (E.Count op a) (Expr-F.Count op a) (E.rolls-Count op a)
 
 -- what depths are made of, for `simp`
-pub ruleset depths = (depth_of_const, depth_of_unary, depth_of_arithmetic, depth_of_division, depth_of_signed_division, depth_of_shift, depth_of_compare, depth_of_signed_compare, depth_of_extend, depth_of_part, depth_of_concat, depth_of_overflow)
+pub ruleset depths = (
+  depth_of_const,
+  depth_of_unary,
+  depth_of_arithmetic,
+  depth_of_division,
+  depth_of_signed_division,
+  depth_of_shift,
+  depth_of_compare,
+  depth_of_signed_compare,
+  depth_of_extend,
+  depth_of_part,
+  depth_of_concat,
+  depth_of_overflow,
+)
+
+step_some : (l : Expr-F ℕ) → 0 < depth_step l
+step_some (Expr-F.Const c) = omega arith
+step_some (Expr-F.Var v) = omega arith
+step_some (Expr-F.Unary op a) = omega arith
+step_some (Expr-F.Arithmetic op a b) = omega arith
+step_some (Expr-F.Division op a b) = omega arith
+step_some (Expr-F.SignedDivision op a b) = omega arith
+step_some (Expr-F.Shift op a b) = omega arith
+step_some (Expr-F.Compare op a b) = omega arith
+step_some (Expr-F.SignedCompare op a b) = omega arith
+step_some (Expr-F.Extend op w a) = omega arith
+step_some (Expr-F.Part k w a) = omega arith
+step_some (Expr-F.Concat a b) = omega arith
+step_some (Expr-F.Overflow op a b) = omega arith
+step_some (Expr-F.Count op a) = omega arith
+
+pub depth_some : (e : Expr) → 0 < depth_of e
+depth_some = ind-Expr (λ e. 0 < depth_of e)
+    (λ l y is. subst (λ n. 0 < n) (sym (depth_roll l)) (step_some (map-Expr Expr ℕ depth_of l)))

@@ -255,7 +255,8 @@ module _ (ws : ℕ → ℕ) (u : Under ws) where
       let outer : p.0 < w.bytes = p.1.1.2 in
       let le : v.bytes ≤ w.bytes = omega arith in
       let narrow : q.0 ≤ v.bytes = omega arith in
-      let law = parts.sext_sext q.0 v.bytes w.bytes q.1.0 (H.some ws u x q.1.1.0.size) narrow le (H.below ws u x q.1.1.0) in
+      let law =
+      parts.sext_sext q.0 v.bytes w.bytes q.1.0 (H.some ws u x q.1.1.0.size) narrow le (H.below ws u x q.1.1.0) in
       H.extend_made ws u Sext w x s n q.1.1.0 (omega arith) p.1.1.3
       (sym law ∙ ap (λ t. sext t w.bytes (sext q.0 v.bytes q.1.0)) e ∙ ap (sext p.0 w.bytes) q.1.1.1 ∙ p.1.1.1)
 

@@ -49,7 +49,11 @@ module _ (ws : ℕ → ℕ) (u : Under ws) where
       let m : 8 * w ≤ c.value = subst (λ k. 8 * k ≤ c.value) t more in
       H.const_made ws u z w n t (e ∙ sym (past op w b.0 b.1.x c.value plain (H.below ws u x b.1.left) m) ∙ b.1.is)
 
-  s2 : (x : Expr) (v : ℕ) (c e : Word) → IsWide ws x v → 8 * v ≤ c.value → IsWord c.width.bytes (8 * v - 1) e → (w n : ℕ)
+  s2 : (x : Expr) (v : ℕ) (c e : Word)
+      → IsWide ws x v
+      → 8 * v ≤ c.value
+      → IsWord c.width.bytes (8 * v - 1) e
+      → (w n : ℕ)
       → Has ws u (E.Shift Sar x (E.Const c)) w n → Has ws u (E.Shift Sar x (E.Const e)) w n
   s2 x v c e s more f w n h =
       let b = beside Sar x c w n h in

@@ -54,7 +54,8 @@ pub keeps_by : (ws : ℕ → ℕ) (l r : Expr)
 keeps_by ws l r f d = record {
   size = λ w s. (
       let t = total ws l w s in
-      let u : Under ws = record { reading = everywhere; reads = everywhere_reads; env = zeros; words = zero_words ws } in
+      let u : Under ws =
+      record { reading = everywhere; reads = everywhere_reads; env = zeros; words = zero_words ws } in
       (f u w t.0 (record { size = s; value = t.1 })).size);
   value_by = λ q i env words w n s at. (
       let u : Under ws = record { reading = q; reads = i; env = env; words = words } in
@@ -110,10 +111,12 @@ depth ws l r (TurnedFlag op x y z k f) =
     let p : depth_of r ≤ depth_of (E.Overflow op x y) = form_depth ws (E.Overflow op x y) r f in
     let q : depth_of (E.Overflow op x y) ≡ depth_of (E.Overflow op y x) = turned_flag_depth op x y in omega arith
 depth ws l r (F2 op c x k no_const) =
-    let q : depth_of (E.Arithmetic op x (E.Const c)) ≡ depth_of (E.Arithmetic op (E.Const c) x) = turned_depth op x (E.Const c) in
+    let q : depth_of (E.Arithmetic op x (E.Const c)) ≡ depth_of (E.Arithmetic op (E.Const c) x) =
+    turned_depth op x (E.Const c) in
     omega arith
 depth ws l r (F2_test op c x k no_const) =
-    let q : depth_of (E.Compare op x (E.Const c)) ≡ depth_of (E.Compare op (E.Const c) x) = turned_test_depth op x (E.Const c) in
+    let q : depth_of (E.Compare op x (E.Const c)) ≡ depth_of (E.Compare op (E.Const c) x) =
+    turned_test_depth op x (E.Const c) in
     omega arith
 
 -- Each rule keeps the width and the value of what it rewrites, and makes it no deeper.

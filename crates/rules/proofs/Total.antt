@@ -50,8 +50,10 @@ two_total right to v m k (Some t) None g h w is = cc
 two_total right to v m k (Some t) (Some u) g h w is =
     let a = g t refl in
     let b = h u refl in
-    let f : ℕ → ℕ → Option ℕ = λ x y. Some (v m.width k.width x y) in
-    (v m.width k.width a.0 b.0, ap (λ z. with_values z (k.value zeros) f) a.1 ∙ ap (λ z. with_values (Some a.0) z f) b.1)
+    let f : ℕ → ℕ → Option ℕ = λ x y. Some (v m.width k.width x y) in (
+      v m.width k.width a.0 b.0,
+      ap (λ z. with_values z (k.value zeros) f) a.1 ∙ ap (λ z. with_values (Some a.0) z f) b.1,
+    )
 
 module _ (ws : ℕ → ℕ) where
   rolled : (l : Expr-F Expr)
@@ -70,7 +72,8 @@ module _ (ws : ℕ → ℕ) where
     s a = size_of ws (f a)
 
     of_one : (right : ℕ → Bool) (to : ℕ → ℕ) (v : ℕ → ℕ → ℕ) (a : A)
-        → Total (record { width = to (m a).width; value = λ x. with_value ((m a).value x) (λ n. Some (v (m a).width n)) })
+        → Total
+        (record { width = to (m a).width; value = λ x. with_value ((m a).value x) (λ n. Some (v (m a).width n)) })
         (one_size right to (s a))
     of_one right to v a = one_total right to v (m a) (s a) (h a)
 
@@ -112,5 +115,6 @@ module _ (ws : ℕ → ℕ) where
 
   pub total : (e : Expr) (w : ℕ) → size_of ws e ≡ Some w → (n : ℕ) × (value_by everywhere ws zeros e ≡ Some n)
   total = ind-Expr (λ e. Total (read_as everywhere ws e) (size_of ws e))
-      (λ l y is. let P : Expr-F Expr → Type 0 = λ z. Total (read_as everywhere ws (roll-Expr z)) (size_of ws (roll-Expr z)) in
+      (λ l y is.
+      let P : Expr-F Expr → Type 0 = λ z. Total (read_as everywhere ws (roll-Expr z)) (size_of ws (roll-Expr z)) in
       subst P is (layer_total (λ p. p.0) (λ p. p.1) y))

@@ -92,7 +92,8 @@ two_good : (env : ℕ → Option ℕ) (right : ℕ → ℕ → Bool) (to : ℕ �
     → n < limit (to t u))
     → ((t u : ℕ) → right t u ≡ true → 0 < t → 0 < u → 0 < to t u)
     → Good env m o → Good env k p
-    → Good env (record { width = to m.width k.width; value = λ x. with_values (m.value x) (k.value x) (v m.width k.width) })
+    → Good env
+    (record { width = to m.width k.width; value = λ x. with_values (m.value x) (k.value x) (v m.width k.width) })
     (two_size right to o p)
 two_good env right to v m k None p fits some g h w is = cc
 two_good env right to v m k (Some t) None fits some g h w is = cc
@@ -123,7 +124,8 @@ unary_fits op w u a n some s p is = subst (λ z. z < limit w) (some_is _ _ is) (
 
 binary_fits : (op : Binary) (w t u a b n : ℕ) → 0 < w → IsBinarySized op t u w → a < limit t → b < limit u
     → Some (binary_value op t a u b w) ≡ Some n → n < limit w
-binary_fits op w t u a b n some s p q is = subst (λ z. z < limit w) (some_is _ _ is) (binary_word op t u w a b some s p q)
+binary_fits op w t u a b n some s p q is =
+    subst (λ z. z < limit w) (some_is _ _ is) (binary_word op t u w a b some s p q)
 
 part_fits : (w x k n : ℕ) → Some (part x k w) ≡ Some n → n < limit w
 unfolding part
@@ -238,7 +240,8 @@ module _ (r : Reading) (reads : IsReading r) (ws : ℕ → ℕ) (env : ℕ → O
     count_good : (op : CountOp) (a : A) → Good env (m a) (s a)
         → Good env (reading_step r ws (Expr-F.Count op (m a))) (size_step ws (Expr-F.Count op (s a)))
     count_good op a h = one_good env (λ v. true) (λ v. 1) (λ u x. Some (unary_value (count_of op) u x 1)) (m a) (s a)
-        (λ u x n g some p at. unary_fits (count_of op) 1 u x n one_some (count_sized op u) p at) (λ u g some. one_some) h
+        (λ u x n g some p at. unary_fits (count_of op) 1 u x n one_some (count_sized op u) p at)
+        (λ u g some. one_some) h
 
     module _ (a b : A) (ga : Good env (m a) (s a)) (gb : Good env (m b) (s b)) where
       arithmetic_good : (op : ArithmeticOp)
@@ -246,13 +249,15 @@ module _ (r : Reading) (reads : IsReading r) (ws : ℕ → ℕ) (env : ℕ → O
           (size_step ws (Expr-F.Arithmetic op (s a) (s b)))
       arithmetic_good op = two_good env (λ v w. v == w) (λ v w. v)
           (λ t u x y. Some (binary_value (arithmetic_of op) t x u y t)) (m a) (m b) (s a) (s b)
-          (λ t u x y n g h i p q at. binary_fits (arithmetic_of op) t t u x y n h (arithmetic_sized op t u (eq_of t u g)) p q at)
+          (λ t u x y n g h i p q at.
+          binary_fits (arithmetic_of op) t t u x y n h (arithmetic_sized op t u (eq_of t u g)) p q at)
           (λ t u g h i. h) ga gb
 
       division_good : (op : DivisionOp)
           → Good env (reading_step r ws (Expr-F.Division op (m a) (m b)))
           (size_step ws (Expr-F.Division op (s a) (s b)))
-      division_good op = two_good env (λ v w. v == w) (λ v w. v) (λ t u. r.plain (division_of op) t) (m a) (m b) (s a) (s b)
+      division_good op =
+          two_good env (λ v w. v == w) (λ v w. v) (λ t u. r.plain (division_of op) t) (m a) (m b) (s a) (s b)
           (λ t u x y n g h i p q at. quotient_fits (division_of op) t x y n p (reads.plain (division_of op) t x y n at))
           (λ t u g h i. h) ga gb
 
@@ -276,7 +281,8 @@ module _ (r : Reading) (reads : IsReading r) (ws : ℕ → ℕ) (env : ℕ → O
           → Good env (reading_step r ws (Expr-F.Compare op (m a) (m b))) (size_step ws (Expr-F.Compare op (s a) (s b)))
       compare_good op = two_good env (λ v w. v == w) (λ v w. 1)
           (λ t u x y. Some (binary_value (compare_of op) t x u y 1)) (m a) (m b) (s a) (s b)
-          (λ t u x y n g h i p q at. binary_fits (compare_of op) 1 t u x y n one_some (compare_sized op t u (eq_of t u g)) p q at)
+          (λ t u x y n g h i p q at.
+          binary_fits (compare_of op) 1 t u x y n one_some (compare_sized op t u (eq_of t u g)) p q at)
           (λ t u g h i. one_some) ga gb
 
       signed_compare_good : (op : SignedCompareOp)
@@ -299,7 +305,8 @@ module _ (r : Reading) (reads : IsReading r) (ws : ℕ → ℕ) (env : ℕ → O
           (size_step ws (Expr-F.Overflow op (s a) (s b)))
       overflow_good op = two_good env (λ v w. v == w) (λ v w. 1)
           (λ t u x y. Some (binary_value (overflow_of op) t x u y 1)) (m a) (m b) (s a) (s b)
-          (λ t u x y n g h i p q at. binary_fits (overflow_of op) 1 t u x y n one_some (overflow_sized op t u (eq_of t u g)) p q at)
+          (λ t u x y n g h i p q at.
+          binary_fits (overflow_of op) 1 t u x y n one_some (overflow_sized op t u (eq_of t u g)) p q at)
           (λ t u g h i. one_some) ga gb
 
   layer_good : {A : Type 0} (f : A → Expr)
@@ -309,7 +316,8 @@ module _ (r : Reading) (reads : IsReading r) (ws : ℕ → ℕ) (env : ℕ → O
   layer_good f h (Expr-F.Const c) = rolled (Expr-F.Const c) (const_good c)
   layer_good f h (Expr-F.Var v) = rolled (Expr-F.Var v) (var_good v)
   layer_good f h (Expr-F.Unary op a) = rolled (Expr-F.Unary op (f a)) (unary_good f op a (h a))
-  layer_good f h (Expr-F.Arithmetic op a b) = rolled (Expr-F.Arithmetic op (f a) (f b)) (arithmetic_good f a b (h a) (h b) op)
+  layer_good f h (Expr-F.Arithmetic op a b) =
+      rolled (Expr-F.Arithmetic op (f a) (f b)) (arithmetic_good f a b (h a) (h b) op)
   layer_good f h (Expr-F.Division op a b) = rolled (Expr-F.Division op (f a) (f b)) (division_good f a b (h a) (h b) op)
   layer_good f h (Expr-F.SignedDivision op a b) =
       rolled (Expr-F.SignedDivision op (f a) (f b)) (signed_division_good f a b (h a) (h b) op)

@@ -40,6 +40,7 @@ pub data Parting (ws : ℕ → ℕ) : Expr → Expr → Type 0 where
   Z5 : (y : Expr) (u : ℕ) (c : Word) (w : Width) → c.value ≡ 0 → IsWide ws y u → w.bytes ≡ c.width.bytes + u
       → Parting ws (E.Concat (E.Const c) y) (E.Extend Zext w y)
   -- Zext(Zext x), Sext(Zext x): Zext x
-  Z6_zext : (op : ExtendOp) (x : Expr) (v w : Width) → Parting ws (E.Extend op w (E.Extend Zext v x)) (E.Extend Zext w x)
+  Z6_zext : (op : ExtendOp) (x : Expr) (v w : Width)
+      → Parting ws (E.Extend op w (E.Extend Zext v x)) (E.Extend Zext w x)
   -- Sext(Sext x): Sext x
   Z6_sext : (x : Expr) (v w : Width) → Parting ws (E.Extend Sext w (E.Extend Sext v x)) (E.Extend Sext w x)

@@ -29,7 +29,8 @@ abbrev pub as_ops : Reading
 as_ops = record { plain = divide_value; signed = divide_value }
 
 abbrev pub quotient_step : Quotients → Divide → Meaning → Meaning → Meaning
-quotient_step q op a b = record { width = a.width; value = λ env. with_values (a.value env) (b.value env) (q op a.width) }
+quotient_step q op a b =
+    record { width = a.width; value = λ env. with_values (a.value env) (b.value env) (q op a.width) }
 
 abbrev pub reading_step : Reading → (ℕ → ℕ) → Expr-F Meaning → Meaning
 reading_step r ws (Expr-F.Division op a b) = quotient_step r.plain (division_of op) a b
