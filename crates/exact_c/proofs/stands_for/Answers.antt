@@ -1,5 +1,5 @@
-use Rattle.cread.proofs.Whole.{not_tree, tree_when}
-use Rattle.cread.proofs.read.stands_for.Goals as goal
+use Rattle.exact_c.proofs.Judged.{not_tree, tree_when}
+use Rattle.exact_c.proofs.stands_for.Goals as goal
 
 pub returns-then-not-right : goal.returns-then-not-right
 returns-then-not-right c =
