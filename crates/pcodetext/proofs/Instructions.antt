@@ -8,7 +8,8 @@ use Rattle.pcode_model.specs.declared.listing.Instruction.{Instruction}
 use Rattle.pcode_model.specs.declared.listing.Op.{Op}
 use Rattle.pcode_model.specs.Flow.{AreApart}
 use Rattle.pcode_model.specs.Rules.{HasFewOps}
-use Rattle.pcodetext.specs.Faults.{is_behind, of_some}
+use Rattle.pcodetext.specs.AtLine.{is_behind}
+use Rattle.pcodetext.specs.Checks.{of_some}
 use Rattle.pcode_model.specs.WellFormed.{total_ops}
 use Rattle.pcodetext.proofs.Passing.{all_snoc, length_snoc, right_false}
 

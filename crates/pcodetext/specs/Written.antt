@@ -6,9 +6,9 @@ use Rattle.listing_lines.specs.Text.{Line, parts_of}
 use Rattle.listing_lines.specs.Tokens.{decimal_of, hexadecimal_of, is_name}
 use Rattle.pcode_model.specs.declared.listing.Space.{Space}
 use Rattle.pcodetext.specs.Tables.{place_in, space_name}
-use Rattle.pcodetext.specs.declared.form.Named.{Named}
-use Rattle.pcodetext.specs.declared.form.Named.TheVariants as named
-use Rattle.pcodetext.specs.declared.form.Written.{Written}
+use Rattle.pcodetext.specs.declared.written.Named.{Named}
+use Rattle.pcodetext.specs.declared.written.Named.TheVariants as named
+use Rattle.pcodetext.specs.declared.written.Written.{Written}
 
 abbrev pub numbered : Option ℕ → Named
 numbered None = named.Unknown

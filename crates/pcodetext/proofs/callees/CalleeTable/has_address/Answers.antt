@@ -2,7 +2,7 @@ use Rattle.std.proofs.Common.{◌∙◌, ap}
 use Rattle.std.specs.Prelude.{nat_eq}
 use Rattle.std.specs.List.{list_any}
 use Rattle.pcodetext.specs.Tables.{has_address}
-use Rattle.pcodetext.proofs.Taken.{addressed_is}
+use Rattle.pcodetext.proofs.Callees.{addressed_is}
 use Rattle.pcodetext.proofs.callees.CalleeTable.has_address.Goals as goal
 
 pub returns : goal.returns

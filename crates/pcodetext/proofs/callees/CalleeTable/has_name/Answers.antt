@@ -3,7 +3,7 @@ use Rattle.std.specs.List.{list_any}
 use Rattle.std.specs.Option.{is_some}
 use Rattle.listing_lines.specs.Text.{Line}
 use Rattle.pcodetext.specs.Tables.{has_name, place_in}
-use Rattle.pcodetext.proofs.Taken.{named_is}
+use Rattle.pcodetext.proofs.Callees.{named_is}
 use Rattle.pcodetext.proofs.callees.CalleeTable.has_name.Goals as goal
 
 pub returns : goal.returns

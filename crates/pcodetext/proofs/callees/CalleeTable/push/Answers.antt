@@ -2,7 +2,7 @@ use Rattle.std.proofs.Common.{◌≡◌, ◌∙◌, ap, false, map, sym}
 use Rattle.std.specs.List.{list_any}
 use Rattle.listing_lines.specs.Text.{Line}
 use Rattle.pcodetext.specs.Tables.{function_address, function_name, has_address, has_name, place_in}
-use Rattle.pcodetext.proofs.Taken.{addresses_back, addresses_more, names_more, other_name}
+use Rattle.pcodetext.proofs.Callees.{addresses_back, addresses_more, names_more, other_name}
 use Rattle.pcodetext.proofs.callees.CalleeTable.push.Goals as goal
 
 pub push-requires : goal.push-requires

@@ -2,10 +2,11 @@ use Rattle.std.proofs.Common.{◌≡◌, ◌∙◌, true, false, ap, sym}
 use Rattle.std.specs.List.{list_any}
 use Rattle.std.proofs.lemmas.Bool.{not-false}
 use Rattle.pcode_model.specs.declared.listing.Function.{Function}
-use Rattle.pcodetext.specs.Faults.{is_first_ram, is_taken_by, leaves_known}
+use Rattle.pcodetext.specs.Checks.{leaves_known}
+use Rattle.pcodetext.specs.FunctionLine.{is_first_ram, is_taken_by}
 use Rattle.pcodetext.specs.Tables.{has_address, has_name}
 use Rattle.pcodetext.proofs.Passing.{left_false, right_false}
-use Rattle.pcodetext.proofs.Taken.{free_address, free_name}
+use Rattle.pcodetext.proofs.FunctionLine.{free_address, free_name}
 use Rattle.pcodetext.proofs.partial_listing.PartialListing.callee.Goals as goal
 
 pub push-requires-clause-other_name : goal.push-requires-clause-other_name
