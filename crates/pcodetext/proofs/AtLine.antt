@@ -9,7 +9,7 @@ use Rattle.pcode_model.specs.declared.listing.Instruction.{Instruction}
 use Rattle.pcode_model.specs.WellFormed.{HasKnownOps, HasOps, total_ops}
 use Rattle.pcodetext.specs.declared.partial_listing.PartialListing.{PartialListing}
 use Rattle.pcodetext.specs.declared.at_line.AtLine.{AtLine}
-use Rattle.pcodetext.specs.declared.lines.Form.TheVariants as form
+use Rattle.pcodetext.specs.declared.line_kinds.Form.TheVariants as form
 use Rattle.pcodetext.specs.AtLine.{at_faults, at_form, at_made}
 use Rattle.pcodetext.proofs.FormIs.{IsForm, Known}
 use Rattle.pcodetext.proofs.Formed.{Keeps}

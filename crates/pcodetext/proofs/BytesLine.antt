@@ -1,5 +1,5 @@
 -- The line of read-only bytes: what its form has, and that it keeps to the rules.
-use Rattle.std.proofs.Common.{◌≡◌, ◌<◌, ◌≤◌, ◌+◌, ℕ, Bool, true, false, List, [], ◌∷◌, ◌++◌, length, sym, eq-eqb}
+use Rattle.std.proofs.Common.{◌≡◌, ◌<◌, ◌≤◌, ◌+◌, ℕ, Bool, true, false, List, [], ◌∷◌, ◌++◌, length, sym, arith, eq-eqb}
 use Rattle.std.specs.Prelude.{◌==◌, ◌&&◌, nat_le, nat_lt, Option, Some, None, IfSome}
 use Rattle.std.specs.List.{AllByRecursion}
 use Rattle.std.specs.Option.{is_none}
@@ -16,7 +16,7 @@ use Rattle.pcode_model.specs.Ranges.{meets}
 use Rattle.pcode_model.specs.WellFormed.{FixedRise, IsFixed}
 use Rattle.pcodetext.specs.declared.partial_listing.PartialListing.{PartialListing}
 use Rattle.pcodetext.specs.declared.bytes_line.BytesLine.{BytesLine}
-use Rattle.pcodetext.specs.declared.lines.Form.TheVariants as form
+use Rattle.pcodetext.specs.declared.line_kinds.Form.TheVariants as form
 use Rattle.pcodetext.specs.declared.written.Named.{Named}
 use Rattle.pcodetext.specs.declared.written.Named.TheVariants as named
 use Rattle.pcodetext.specs.BytesLine.{bytes_faults, bytes_form, bytes_made, fixed_of, is_double, is_late}

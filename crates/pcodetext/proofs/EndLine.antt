@@ -6,7 +6,7 @@ use Rattle.line_reader.proofs.Faults.{AllFalse, all_false}
 use Rattle.listing_lines.specs.Text.{Line}
 use Rattle.pcode_model.specs.declared.listing.Instruction.{Instruction}
 use Rattle.pcodetext.specs.declared.partial_listing.PartialListing.{PartialListing}
-use Rattle.pcodetext.specs.declared.lines.Form.TheVariants as form
+use Rattle.pcodetext.specs.declared.line_kinds.Form.TheVariants as form
 use Rattle.pcodetext.specs.EndLine.{end_faults, end_form}
 use Rattle.pcodetext.proofs.FormIs.{IsForm, Known}
 use Rattle.pcodetext.proofs.Formed.{Keeps}

@@ -13,13 +13,13 @@ use Rattle.pcode_model.specs.declared.listing.Space.{Space}
 use Rattle.pcode_model.specs.declared.listing.SpaceKind.TheVariants.{Constant}
 use Rattle.pcode_model.specs.Spaces.{same_kind}
 use Rattle.pcodetext.specs.declared.partial_listing.PartialListing.{PartialListing}
-use Rattle.pcodetext.specs.declared.lines.Form.{Form}
-use Rattle.pcodetext.specs.declared.lines.Form.TheVariants as form
+use Rattle.pcodetext.specs.declared.line_kinds.Form.{Form}
+use Rattle.pcodetext.specs.declared.line_kinds.Form.TheVariants as form
 use Rattle.pcodetext.specs.declared.function_line.FunctionLine.{FunctionLine}
 use Rattle.pcodetext.specs.declared.written.Named.{Named}
 use Rattle.pcodetext.specs.declared.written.Named.TheVariants as named
 use Rattle.pcodetext.specs.declared.written.Written.{Written}
-use Rattle.pcodetext.specs.Lines.{is_two}
+use Rattle.pcodetext.specs.LineKinds.{is_two}
 use Rattle.pcodetext.specs.Tables.{place_from, place_in}
 
 -- what the lines before say of the names of a line: whether they say version 2, and how many spaces and prototypes

@@ -1,5 +1,5 @@
--- What has been said keeps to the rules of a listing: the rules, what holds where a part is empty yet, and what is to be
--- shown of each kind of line.
+-- What has been said keeps to the rules of a listing: the rules, what holds where a part is empty yet, and what is to
+-- be shown of each kind of line.
 use Rattle.std.proofs.Common.{◌≡◌, ◌<◌, ◌≤◌, ◌⊎◌, ℕ, Bool, true, false, List, [], ◌∷◌, ◌++◌, length, ap, arith}
 use Rattle.std.specs.Prelude.{Option, Some, None, IfSome, codes}
 use Rattle.std.specs.List.{AllByRecursion}
@@ -14,8 +14,8 @@ use Rattle.pcode_model.specs.declared.listing.Varnode.{Varnode}
 use Rattle.pcode_model.specs.Flow.{AreApart}
 use Rattle.pcode_model.specs.WellFormed.{AreDistinct, AreSpaces, FixedRise, HasKnownOps, HasOps, HaveWords, IsComplete, IsFixed, IsFunction, IsNamedFunction, IsNamedProto, IsNamedSpace, IsProto, IsStackPointer, total_ops}
 use Rattle.pcodetext.specs.declared.partial_listing.PartialListing.{PartialListing}
-use Rattle.pcodetext.specs.declared.lines.Form.{Form}
-use Rattle.pcodetext.specs.Lines.{after, faults, is_two}
+use Rattle.pcodetext.specs.declared.line_kinds.Form.{Form}
+use Rattle.pcodetext.specs.LineKinds.{after, faults, is_two}
 use Rattle.pcodetext.specs.Tables.{function_address, function_name, proto_name, space_name}
 use Rattle.pcodetext.proofs.FormIs.{IsForm, known_of}
 use Rattle.pcodetext.proofs.Passing.{never, not_both}

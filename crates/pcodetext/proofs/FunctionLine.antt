@@ -17,12 +17,12 @@ use Rattle.pcode_model.specs.Spaces.{number_of}
 use Rattle.pcode_model.specs.WellFormed.{IsFunction, IsNamedFunction}
 use Rattle.pcodetext.specs.declared.partial_listing.PartialListing.{PartialListing}
 use Rattle.pcodetext.specs.declared.function_line.FunctionLine.{FunctionLine}
-use Rattle.pcodetext.specs.declared.lines.Form.TheVariants as form
+use Rattle.pcodetext.specs.declared.line_kinds.Form.TheVariants as form
 use Rattle.pcodetext.specs.declared.written.Named.{Named}
 use Rattle.pcodetext.specs.declared.written.Named.TheVariants as named
 use Rattle.pcodetext.specs.Checks.{leaves_known, of_some}
 use Rattle.pcodetext.specs.FunctionLine.{callee_faults, callee_form, callee_made, func_faults, func_form, func_made, function_made, function_of, is_first_ram, is_misplaced, is_taken, is_taken_by, proto_number, returns_by}
-use Rattle.pcodetext.specs.Lines.{is_two}
+use Rattle.pcodetext.specs.LineKinds.{is_two}
 use Rattle.pcodetext.specs.Tables.{function_address, function_name, has_address, has_name, place_in, proto_name}
 use Rattle.pcodetext.specs.Written.{place_of}
 use Rattle.pcodetext.proofs.Distinct.{distinct_after, other_number, other_text}
@@ -93,7 +93,8 @@ module _ (two : Bool) (spaces : List Space) (protos : List Proto) where
   callee_form_is (a ∷ b ∷ []) = tt
   callee_form_is (a ∷ b ∷ c ∷ parts) =
       let returns = returns_is two parts in
-      let made = function_made_is (IsOneBefore two true) protos a c (place_of spaces b) (returns_by two parts) returns in
+      let made =
+      function_made_is (IsOneBefore two true) protos a c (place_of spaces b) (returns_by two parts) returns in
       callee_made_is (known two spaces protos) _ made
 
 -- ---- names and addresses
@@ -228,11 +229,11 @@ module _
       let new : Function = function_of l in
       let all : List Function = option_to_list s.func ++ s.callees in
       let free : list_any (is_taken_by s.spaces l) all ≡ false =
-        free_of_all (is_taken_by s.spaces l) s.func s.callees taken in
+      free_of_all (is_taken_by s.spaces l) s.func s.callees taken in
       let first : is_first_ram s.spaces l.space ≡ true =
-        not-false _ (left_false _ (leaves_known s.spaces l.space l.address 1) placed) in
+      not-false _ (left_false _ (leaves_known s.spaces l.space l.address 1) placed) in
       let new_is : IsFunction s.spaces (length s.protos) new =
-        function_is s.spaces (length s.protos) l is.0 known placed in
+      function_is s.spaces (length s.protos) l is.0 known placed in
       let other_addresses = free_addresses s.spaces l first all free in
       record {
         func = f.func;
@@ -252,6 +253,7 @@ pub func_keeps : (s : PartialListing) (l : FunctionLine) → Keeps s (form.Func 
 func_keeps s l f is h =
     let p : AllFalse (func_faults s l) = all_false (func_faults s l) h in
     let some : 0 < length s.protos = zero_false _ (left_false _ _ p.0) in
+    let not_none : length s.protos ≡ 0 → ⊥ = λ z. omega (arith, z, some) in
     let empty : s.callees ≡ [] = (f.early (right_false _ _ p.0)).callees in
     record {
       version = f.version;
@@ -261,7 +263,7 @@ func_keeps s l f is h =
       functions = keep_func (is_two s.version) s l is.0 (left_false _ _ p.1.0) p.1.1.1.0 empty is.1;
       fixed = f.fixed;
       code = f.code;
-      no_func = λ z. absurd (omega (arith, z, some));
+      no_func = λ z. absurd (not_none z);
       early = λ z. absurd (never z);
     }
 

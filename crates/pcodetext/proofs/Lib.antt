@@ -1,5 +1,5 @@
 pub mod Passing
-pub mod Callees
+pub mod CalleeTable
 pub mod Tops
 pub mod Joining
 pub mod Reducing
@@ -18,5 +18,5 @@ pub mod BytesLine
 pub mod AtLine
 pub mod OpLine
 pub mod EndLine
-pub mod Lines
+pub mod LineKinds
 pub mod Whole

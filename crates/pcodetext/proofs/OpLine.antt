@@ -15,7 +15,7 @@ use Rattle.pcode_model.specs.declared.listing.Space.{Space}
 use Rattle.pcode_model.specs.declared.opcode.Opcode.{Opcode}
 use Rattle.pcode_model.specs.WellFormed.{AreSpaces, IsKnown, IsKnownOp, IsOp, IsOperand}
 use Rattle.pcodetext.specs.declared.partial_listing.PartialListing.{PartialListing}
-use Rattle.pcodetext.specs.declared.lines.Form.TheVariants as form
+use Rattle.pcodetext.specs.declared.line_kinds.Form.TheVariants as form
 use Rattle.pcodetext.specs.declared.op_line.OpLine.{OpLine}
 use Rattle.pcodetext.specs.declared.written.Named.{Named}
 use Rattle.pcodetext.specs.declared.written.Named.TheVariants as named
@@ -175,7 +175,7 @@ module _ (spaces : List Space) (are : AreSpaces spaces) where
         let op : Op = record { code = code; out = option_map varnode l.out; inputs = map varnode l.inputs } in
         let formed : IsOp op = record { out = output_is l.out out; inputs = inputs_are l.inputs inputs } in
         let known_op : IsKnownOp spaces op =
-          record { out = output_known l.out is.0; inputs = inputs_known l.inputs is.1 } in
+        record { out = output_known l.out is.0; inputs = inputs_known l.inputs is.1 } in
         record {
           apart = apart_same done i (record i { ops = i.ops ++ op ∷ [] }) refl refl f.apart;
           first = λ e. absurd (never e);

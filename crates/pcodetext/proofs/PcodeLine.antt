@@ -9,8 +9,8 @@ use Rattle.listing_lines.specs.Tokens.{decimal_of}
 use Rattle.pcode_model.specs.declared.listing.Function.{Function}
 use Rattle.pcode_model.specs.declared.listing.Space.{Space}
 use Rattle.pcodetext.specs.declared.partial_listing.PartialListing.{PartialListing}
-use Rattle.pcodetext.specs.declared.lines.Form.TheVariants as form
-use Rattle.pcodetext.specs.Lines.{is_two}
+use Rattle.pcodetext.specs.declared.line_kinds.Form.TheVariants as form
+use Rattle.pcodetext.specs.LineKinds.{is_two}
 use Rattle.pcodetext.specs.PcodeLine.{pcode_faults, pcode_form, pcode_made}
 use Rattle.pcodetext.proofs.FormIs.{IsForm, Known}
 use Rattle.pcodetext.proofs.Formed.{KeepFunctions, KeepSpaces, Keeps}

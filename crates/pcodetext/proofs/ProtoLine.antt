@@ -16,14 +16,14 @@ use Rattle.pcode_model.specs.declared.listing.Varnode.{Varnode}
 use Rattle.pcode_model.specs.Ranges.{meets}
 use Rattle.pcode_model.specs.WellFormed.{AreSpaces, IsArgument, IsFunction, IsNamedProto, IsProto, IsRegister, IsStorage, ShareNothing}
 use Rattle.pcodetext.specs.declared.partial_listing.PartialListing.{PartialListing}
-use Rattle.pcodetext.specs.declared.lines.Form.TheVariants as form
+use Rattle.pcodetext.specs.declared.line_kinds.Form.TheVariants as form
 use Rattle.pcodetext.specs.declared.proto_line.ProtoLine.{ProtoLine}
 use Rattle.pcodetext.specs.declared.written.Named.{Named}
 use Rattle.pcodetext.specs.declared.written.Named.TheVariants as named
 use Rattle.pcodetext.specs.declared.written.Written.{Written}
 use Rattle.pcodetext.specs.Checks.{is_complete, is_empty, is_of_kind, leaves_known, leaves_space, of_some, of_unknown}
 use Rattle.pcodetext.specs.Convert.{varnode}
-use Rattle.pcodetext.specs.Lines.{is_two}
+use Rattle.pcodetext.specs.LineKinds.{is_two}
 use Rattle.pcodetext.specs.ProtoLine.{has_bad_size, is_bad_argument, is_bad_kept, is_bad_proto, is_bad_result, is_far, is_foreign, is_no_argument, is_other, is_stack, is_unknown_proto, meets_result, meets_stack, of_no_argument, of_other, proto_args, proto_faults, proto_form, proto_made, proto_of, proto_rest, storage_of}
 use Rattle.pcodetext.specs.Tables.{proto_name}
 use Rattle.pcodetext.specs.Written.{range_or_none, ranges_of, ranges_until}
@@ -102,7 +102,8 @@ argument_by spaces stack named.Unknown offset size bad other known far = absurd 
 
 -- ---- ranges that share no byte
 
-module _ (spaces : List Space) (are : AreSpaces spaces) (w : Written) (kind : is_of_kind Register spaces w.space ≡ true) where
+module _ (spaces : List Space) (are : AreSpaces spaces) (w : Written)
+    (kind : is_of_kind Register spaces w.space ≡ true) where
   apart_from_stack : (stack : Option Varnode) → meets_stack stack w ≡ false → IfSome stack (ShareNothing (varnode w))
   apart_from_stack None h = tt
   apart_from_stack (Some v) h =
@@ -115,7 +116,8 @@ module _ (spaces : List Space) (are : AreSpaces spaces) (w : Written) (kind : is
   apart_from_result None is h = tt
   apart_from_result (Some g) is h =
       subst (λ (o : ℕ). meets o w.size (varnode g).offset g.size ≡ false) (sym (register_offset spaces are w kind))
-      (subst (λ (o : ℕ). meets w.offset w.size o g.size ≡ false) (sym (register_offset spaces are g (not-false _ is))) h)
+      (subst (λ (o : ℕ). meets w.offset w.size o g.size ≡ false)
+      (sym (register_offset spaces are g (not-false _ is))) h)
 
 module _ (s : PartialListing) (are : AreSpaces s.spaces) where
   argument_is : (w : Written)
@@ -211,7 +213,7 @@ module _ (s : PartialListing) (are : AreSpaces s.spaces) where
     kept_apart [] bad other known = tt
     kept_apart (w ∷ ws) bad other known =
         let meeting : (meets_stack s.stack w || meets_result gives w) ≡ false =
-          right_false _ _ (left_false _ _ bad) in
+        right_false _ _ (left_false _ _ bad) in
         let kind = register_kind s.spaces w.space (left_false _ _ other) (left_false _ _ known) in (
           (
             apart_from_stack s.spaces are w kind s.stack (left_false _ _ meeting),
@@ -249,14 +251,16 @@ module _ (s : PartialListing) (are : AreSpaces s.spaces) where
         let registers = result_in_registers l.gives other known in
         record {
           args =
-            let bad_args = right_false _ _ (left_false _ _ bad) in
-            let other_args = left_false _ _ (left_false _ _ foreign) in
-            arguments_are l.args bad_args other_args (left_false _ _ (left_false _ _ unknown)) far;
-          args_few = subst (λ (n : ℕ). n ≤ 16) (sym (length-map l.args storage_of)) (ltb-false _ _ (left_false _ _ counts));
+              let bad_args = right_false _ _ (left_false _ _ bad) in
+              let other_args = left_false _ _ (left_false _ _ foreign) in
+              arguments_are l.args bad_args other_args (left_false _ _ (left_false _ _ unknown)) far;
+          args_few =
+              subst (λ (n : ℕ). n ≤ 16) (sym (length-map l.args storage_of)) (ltb-false _ _ (left_false _ _ counts));
           gives = result_is l.gives bad_result other known;
           pop = ltb-false _ _ pop;
           keep = kept_are l.gives registers l.keep bad_kept (right_false _ _ foreign) (right_false _ _ unknown);
-          keep_few = subst (λ (n : ℕ). n ≤ 64) (sym (length-map l.keep varnode)) (ltb-false _ _ (right_false _ _ counts));
+          keep_few =
+              subst (λ (n : ℕ). n ≤ 64) (sym (length-map l.keep varnode)) (ltb-false _ _ (right_false _ _ counts));
           result_apart = result_apart l.gives bad_result other known;
           kept_apart = kept_apart l.gives registers l.keep bad_kept (right_false _ _ foreign) (right_false _ _ unknown);
         }

@@ -61,7 +61,9 @@ pub register_offset : (spaces : List Space)
     → (varnode w).offset ≡ w.offset
 register_offset spaces h w kind = by_space w.space kind
   where
-    by_space : (space : Named) → is_of_kind Register spaces space ≡ true → reduced (number space) w.offset w.size ≡ w.offset
+    by_space : (space : Named)
+        → is_of_kind Register spaces space ≡ true
+        → reduced (number space) w.offset w.size ≡ w.offset
     by_space (named.Space n) k =
         ap (λ (t : Bool). if t then w.offset % 256 ^ w.size else w.offset) (not_first spaces n h k)
     by_space named.Stack k = absurd (never (sym k))

@@ -18,9 +18,9 @@ use Rattle.pcode_model.specs.Ranges.{is_kind}
 use Rattle.pcode_model.specs.Spaces.{kind_in, number_of, same_kind}
 use Rattle.pcode_model.specs.WellFormed.{AreSpaces, HasKnownOps, HaveWords, IsDeclared, IsNamedSpace, IsStackPointer, how_many}
 use Rattle.pcodetext.specs.declared.partial_listing.PartialListing.{PartialListing}
-use Rattle.pcodetext.specs.declared.lines.Form.TheVariants as form
+use Rattle.pcodetext.specs.declared.line_kinds.Form.TheVariants as form
 use Rattle.pcodetext.specs.declared.space_line.SpaceLine.{SpaceLine}
-use Rattle.pcodetext.specs.Lines.{is_two}
+use Rattle.pcodetext.specs.LineKinds.{is_two}
 use Rattle.pcodetext.specs.SpaceLine.{after_space, is_outside, kind_of, order_of, space_faults, space_form, space_made, space_of, word_by}
 use Rattle.pcodetext.specs.Tables.{space_name}
 use Rattle.pcodetext.proofs.Distinct.{distinct_snoc, other_text, others}
@@ -148,7 +148,9 @@ module _ (spaces : List Space) (l : SpaceLine) where
   is_bad_word one = not one && (not (same_kind Ram l.kind) || how_many Ram spaces == 0)
 
   -- only a later ram space has words of several bytes
-  word_is_one : is_bad_word (l.word == 1) ≡ false → (same_kind Ram l.kind ≡ false) ⊎ (how_many Ram spaces ≡ 0) → l.word ≡ 1
+  word_is_one : is_bad_word (l.word == 1) ≡ false
+      → (same_kind Ram l.kind ≡ false) ⊎ (how_many Ram spaces ≡ 0)
+      → l.word ≡ 1
   word_is_one h later = by_word (l.word == 1) refl h later
     where
       none : how_many Ram spaces ≡ 0 → (how_many Ram spaces == 0) ≡ true
@@ -205,8 +207,8 @@ module _ (spaces : List Space) (l : SpaceLine) where
     few = let one = length_snoc spaces (space_of l) in omega (arith, one, few);
     distinct = distinct_snoc space_name spaces (space_of l) f.distinct other;
     no_stack =
-      let none = other_text l.name (codes "stack") stack in
-      all_snoc (λ s. s.name ≡ codes "stack" → ⊥) spaces (space_of l) f.no_stack none;
+        let none = other_text l.name (codes "stack") stack in
+        all_snoc (λ s. s.name ≡ codes "stack" → ⊥) spaces (space_of l) f.no_stack none;
     one = λ e. all_snoc (λ s. s.word ≡ 1) spaces (space_of l) (f.one e) (first e);
   }
 
@@ -232,8 +234,8 @@ space_keeps s l f is h =
     record {
       version = f.version;
       spaces =
-        let stack = left_false _ _ p.1.0 in
-        keep_space s.spaces l two f.spaces is.0 is.1.0 is.1.1 stack other few p.1.1.1.0 p.1.1.1.1.0;
+          let stack = left_false _ _ p.1.0 in
+          keep_space s.spaces l two f.spaces is.0 is.1.0 is.1.1 stack other few p.1.1.1.0 p.1.1.1.1.0;
       stack = if_none (IsStackPointer spaces) s.stack (right_false _ _ (left_false _ _ p.0));
       protos = no_protos spaces s.stack s.protos none;
       functions = no_functions two spaces (length s.protos) s.func s.callees no_func e.callees;

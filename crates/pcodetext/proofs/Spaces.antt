@@ -25,7 +25,8 @@ some_spaces (s ∷ declared) h = omega arith
 
 pub complete_is : (spaces : List Space) → is_complete spaces ≡ true → IsComplete spaces
 complete_is spaces h =
-    split (how_many Register spaces == 1) (how_many Unique spaces == 1) (nat_le 1 (how_many Ram spaces)) refl refl refl h
+    split (how_many Register spaces == 1) (how_many Unique spaces == 1) (nat_le 1 (how_many Ram spaces)) refl refl
+    refl h
   where
     le_true : (m n : ℕ) → nat_le m n ≡ true → m ≤ n
     le_true m n e = grind (arith, nat_tests)

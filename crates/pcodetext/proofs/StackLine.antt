@@ -9,7 +9,7 @@ use Rattle.pcode_model.specs.declared.listing.SpaceKind.TheVariants.{Register}
 use Rattle.pcode_model.specs.Spaces.{address_bytes}
 use Rattle.pcode_model.specs.WellFormed.{IsStackPointer}
 use Rattle.pcodetext.specs.declared.partial_listing.PartialListing.{PartialListing}
-use Rattle.pcodetext.specs.declared.lines.Form.TheVariants as form
+use Rattle.pcodetext.specs.declared.line_kinds.Form.TheVariants as form
 use Rattle.pcodetext.specs.declared.written.Written.{Written}
 use Rattle.pcodetext.specs.Checks.{is_of_kind, leaves_space}
 use Rattle.pcodetext.specs.Convert.{varnode}

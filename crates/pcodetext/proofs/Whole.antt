@@ -19,15 +19,13 @@ use Rattle.pcodetext.specs.declared.partial_listing.PartialListing.{PartialListi
 use Rattle.pcodetext.specs.declared.fault.TextFault.{TextFault}
 use Rattle.pcodetext.specs.declared.fault.TextFault.TheVariants.{Syntax}
 use Rattle.pcodetext.specs.declared.fault.Why.{Why}
-use Rattle.pcodetext.specs.declared.lines.Form.{Form}
-use Rattle.pcodetext.specs.Lines.{faults}
-use Rattle.pcodetext.specs.Lines.{form_of, is_two}
+use Rattle.pcodetext.specs.declared.line_kinds.Form.{Form}
+use Rattle.pcodetext.specs.LineKinds.{after, faults, form_of, is_two}
 use Rattle.pcodetext.specs.Tables.{function_address, function_name}
-use Rattle.pcodetext.specs.Lines.{after}
 use Rattle.pcodetext.specs.Meaning.{fault_at, finished, is_skipped, listing_of, reading, start, step, step_by, stepped, whole}
 use Rattle.pcodetext.proofs.Formed.{IsFormed, has_protos, no_fixed, no_functions, no_protos}
 use Rattle.pcodetext.proofs.Instructions.{few_ops}
-use Rattle.pcodetext.proofs.Lines.{form_is, keeps}
+use Rattle.pcodetext.proofs.LineKinds.{form_is, keeps}
 use Rattle.pcodetext.proofs.Passing.{never}
 use Rattle.pcodetext.proofs.Spaces.{keep_constant}
 
@@ -70,7 +68,9 @@ start_formed = record {
 some_of : {A : Type 0} (P : A → Type 0) (o : Option A) (a : A) → o ≡ Some a → IfSome o P → P a
 some_of P o a e h = subst (λ (x : Option _). IfSome x P) e h
 
-some_code : (done : List Instruction) (last : Option Instruction) → is_some last ≡ true → 0 < length (done ++ option_to_list last)
+some_code : (done : List Instruction) (last : Option Instruction)
+    → is_some last ≡ true
+    → 0 < length (done ++ option_to_list last)
 some_code [] None e = absurd (never (sym e))
 some_code [] (Some i) e = omega arith
 some_code (d ∷ done) last e = omega arith
@@ -120,8 +120,12 @@ module _
           spaces = f.spaces.distinct;
           no_stack = f.spaces.no_stack;
           protos = f.protos.distinct;
-          functions = subst (λ (o : Option Function). AreDistinct function_name (option_to_list o ++ s.callees)) g f.functions.names;
-          addresses = subst (λ (o : Option Function). AreDistinct function_address (option_to_list o ++ s.callees)) g f.functions.addresses;
+          functions =
+              subst (λ (o : Option Function). AreDistinct function_name (option_to_list o ++ s.callees)) g
+              f.functions.names;
+          addresses =
+              subst (λ (o : Option Function). AreDistinct function_address (option_to_list o ++ s.callees)) g
+              f.functions.addresses;
         };
         limited = record {
           spaces = f.spaces.few;

@@ -8,8 +8,8 @@ use Rattle.pcodetext.specs.Checks.{of_some}
 use Rattle.pcodetext.specs.declared.at_line.AtLine.{AtLine}
 use Rattle.pcodetext.specs.declared.fault.Why.TheVariants as why
 use Rattle.pcodetext.specs.declared.fault.Why.{Why}
-use Rattle.pcodetext.specs.declared.lines.Form.TheVariants as form
-use Rattle.pcodetext.specs.declared.lines.Form.{Form}
+use Rattle.pcodetext.specs.declared.line_kinds.Form.TheVariants as form
+use Rattle.pcodetext.specs.declared.line_kinds.Form.{Form}
 use Rattle.pcodetext.specs.declared.partial_listing.PartialListing.{PartialListing}
 
 -- ---- `at HEX LENGTH`
@@ -36,4 +36,8 @@ at_faults s l = (is_none s.func || s.ended, why.Order)
 -- ---- what it says
 
 abbrev pub after_at : PartialListing → AtLine → PartialListing
-after_at s l = record s { done = s.done ++ option_to_list s.last; last = Some (record { address = l.address; length = l.length; ops = [] }) }
+after_at s l =
+    record s {
+      done = s.done ++ option_to_list s.last;
+      last = Some (record { address = l.address; length = l.length; ops = [] });
+    }

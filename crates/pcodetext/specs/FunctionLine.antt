@@ -16,8 +16,8 @@ use Rattle.pcodetext.specs.Written.{place_of}
 use Rattle.pcodetext.specs.declared.fault.Why.TheVariants as why
 use Rattle.pcodetext.specs.declared.fault.Why.{Why}
 use Rattle.pcodetext.specs.declared.function_line.FunctionLine.{FunctionLine}
-use Rattle.pcodetext.specs.declared.lines.Form.TheVariants as form
-use Rattle.pcodetext.specs.declared.lines.Form.{Form}
+use Rattle.pcodetext.specs.declared.line_kinds.Form.TheVariants as form
+use Rattle.pcodetext.specs.declared.line_kinds.Form.{Form}
 use Rattle.pcodetext.specs.declared.partial_listing.PartialListing.{PartialListing}
 use Rattle.pcodetext.specs.declared.written.Named.TheVariants as named
 use Rattle.pcodetext.specs.declared.written.Named.{Named}
@@ -26,7 +26,15 @@ use Rattle.pcodetext.specs.declared.written.Named.{Named}
 
 abbrev pub function_made : List Proto → Line → Line → Option (Named × ℕ) → Option Bool → Option FunctionLine
 function_made protos name proto (Some place) (Some returns) = if is_name name && is_name proto
-    then Some (record { name = name; space = place.0; address = place.1; proto = place_in proto (map proto_name protos); returns = returns }) else None
+    then Some
+    (record {
+      name = name;
+      space = place.0;
+      address = place.1;
+      proto = place_in proto (map proto_name protos);
+      returns = returns;
+    })
+    else None
 function_made protos name proto _ _ = None
 
 abbrev pub func_made : Option FunctionLine → Form
@@ -34,7 +42,8 @@ func_made None = form.Nothing
 func_made (Some line) = form.Func line
 
 abbrev pub func_form : List Space → List Proto → List Line → Form
-func_form spaces protos (name ∷ place ∷ proto ∷ []) = func_made (function_made protos name proto (place_of spaces place) (Some true))
+func_form spaces protos (name ∷ place ∷ proto ∷ []) =
+    func_made (function_made protos name proto (place_of spaces place) (Some true))
 func_form spaces protos _ = form.Nothing
 
 abbrev pub returns_by : Bool → List Line → Option Bool
@@ -47,7 +56,8 @@ callee_made None = form.Nothing
 callee_made (Some line) = form.Callee line
 
 abbrev pub callee_form : Bool → List Space → List Proto → List Line → Form
-callee_form two spaces protos (name ∷ place ∷ proto ∷ parts) = callee_made (function_made protos name proto (place_of spaces place) (returns_by two parts))
+callee_form two spaces protos (name ∷ place ∷ proto ∷ parts) =
+    callee_made (function_made protos name proto (place_of spaces place) (returns_by two parts))
 callee_form two spaces protos _ = form.Nothing
 
 -- ---- their faults

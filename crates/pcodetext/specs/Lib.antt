@@ -11,6 +11,6 @@ pub mod BytesLine
 pub mod AtLine
 pub mod OpLine
 pub mod EndLine
-pub mod Lines
+pub mod LineKinds
 pub mod Meaning
 pub mod Reader

@@ -10,19 +10,32 @@ use Rattle.line_reader.specs.Reading.{Step, concluded, progress}
 use Rattle.pcode_model.specs.WellFormed.{constant_space}
 use Rattle.pcode_model.specs.declared.listing.Function.{Function}
 use Rattle.pcode_model.specs.declared.listing.Listing.{Listing}
-use Rattle.pcodetext.specs.Lines.{after, faults, form_of}
+use Rattle.pcodetext.specs.LineKinds.{after, faults, form_of}
 use Rattle.pcodetext.specs.declared.fault.TextFault.TheVariants as text_fault
 use Rattle.pcodetext.specs.declared.fault.TextFault.{TextFault}
 use Rattle.pcodetext.specs.declared.fault.Why.TheVariants as why
 use Rattle.pcodetext.specs.declared.fault.Why.{Why}
-use Rattle.pcodetext.specs.declared.lines.Form.{Form}
+use Rattle.pcodetext.specs.declared.line_kinds.Form.{Form}
 use Rattle.pcodetext.specs.declared.partial_listing.PartialListing.{PartialListing}
 
 -- ---- a line more
 
 -- before the first line
 abbrev pub start : PartialListing
-start = record { version = None; spaces = constant_space ∷ []; stack = None; protos = []; func = None; callees = []; fixed = []; done = []; last = None; ops = 0; ended = false }
+start =
+    record {
+      version = None;
+      spaces = constant_space ∷ [];
+      stack = None;
+      protos = [];
+      func = None;
+      callees = [];
+      fixed = [];
+      done = [];
+      last = None;
+      ops = 0;
+      ended = false;
+    }
 
 -- an empty line, and one that begins with `#`, which is 35
 abbrev pub is_skipped : Line → Bool
@@ -51,7 +64,17 @@ fault_at n why.Duplicate = text_fault.Duplicate n
 fault_at n why.Range = text_fault.Range n
 
 abbrev pub listing_of : PartialListing → ℕ → Function → Listing
-listing_of s version func = record { version = version; spaces = s.spaces; stack = s.stack; protos = s.protos; func = func; callees = s.callees; fixed = s.fixed; code = s.done ++ option_to_list s.last }
+listing_of s version func =
+    record {
+      version = version;
+      spaces = s.spaces;
+      stack = s.stack;
+      protos = s.protos;
+      func = func;
+      callees = s.callees;
+      fixed = s.fixed;
+      code = s.done ++ option_to_list s.last;
+    }
 
 -- where a text has its `end`, it has a version and a function
 abbrev pub whole : PartialListing → ℕ → Option ℕ → Option Function → Read Listing TextFault

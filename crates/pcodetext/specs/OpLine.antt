@@ -14,8 +14,8 @@ use Rattle.pcodetext.specs.Convert.{varnode}
 use Rattle.pcodetext.specs.Written.{range_of, ranges_of}
 use Rattle.pcodetext.specs.declared.fault.Why.TheVariants as why
 use Rattle.pcodetext.specs.declared.fault.Why.{Why}
-use Rattle.pcodetext.specs.declared.lines.Form.TheVariants as form
-use Rattle.pcodetext.specs.declared.lines.Form.{Form}
+use Rattle.pcodetext.specs.declared.line_kinds.Form.TheVariants as form
+use Rattle.pcodetext.specs.declared.line_kinds.Form.{Form}
 use Rattle.pcodetext.specs.declared.op_line.OpLine.{OpLine}
 use Rattle.pcodetext.specs.declared.partial_listing.PartialListing.{PartialListing}
 use Rattle.pcodetext.specs.declared.written.Written.{Written}
@@ -24,7 +24,8 @@ use Rattle.pcodetext.specs.declared.written.Written.{Written}
 
 abbrev pub op_made : Option Written → Line → Option (List Written) → Form
 op_made out code None = form.Nothing
-op_made out code (Some inputs) = if is_name code then form.Op (record { out = out; code = opcode_of code; inputs = inputs }) else form.Nothing
+op_made out code (Some inputs) =
+    if is_name code then form.Op (record { out = out; code = opcode_of code; inputs = inputs }) else form.Nothing
 
 abbrev pub op_assigned : List Space → Option Written → List Line → Form
 op_assigned spaces (Some out) (code ∷ parts) = op_made (Some out) code (ranges_of spaces parts)
@@ -33,7 +34,8 @@ op_assigned spaces None parts = form.Nothing
 
 abbrev pub op_by : List Space → Line → List Line → Form
 op_by spaces first [] = op_made None first (ranges_of spaces [])
-op_by spaces first (second ∷ parts) = if bytes_eq second (codes "=") then op_assigned spaces (range_of spaces first) parts
+op_by spaces first (second ∷ parts) =
+    if bytes_eq second (codes "=") then op_assigned spaces (range_of spaces first) parts
     else op_made None first (ranges_of spaces (second ∷ parts))
 
 -- the first of the two spaces is before these parts, and the second after an empty one
@@ -54,7 +56,9 @@ op_faults s l = (is_none s.last || s.ended, why.Order)
 abbrev pub with_op : OpLine → Option Opcode → Option Instruction → Option Instruction
 with_op l None last = last
 with_op l (Some code) None = None
-with_op l (Some code) (Some i) = Some (record i { ops = i.ops ++ record { code = code; out = option_map varnode l.out; inputs = map varnode l.inputs } ∷ [] })
+with_op l (Some code) (Some i) =
+    Some (record i
+    { ops = i.ops ++ record { code = code; out = option_map varnode l.out; inputs = map varnode l.inputs } ∷ [] })
 
 abbrev pub after_op : PartialListing → OpLine → PartialListing
 after_op s l = record s { last = with_op l l.code s.last; ops = s.ops + 1 }

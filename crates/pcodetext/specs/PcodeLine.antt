@@ -5,8 +5,8 @@ use Rattle.listing_lines.specs.Text.{Line}
 use Rattle.listing_lines.specs.Tokens.{decimal_of}
 use Rattle.pcodetext.specs.declared.fault.Why.TheVariants as why
 use Rattle.pcodetext.specs.declared.fault.Why.{Why}
-use Rattle.pcodetext.specs.declared.lines.Form.TheVariants as form
-use Rattle.pcodetext.specs.declared.lines.Form.{Form}
+use Rattle.pcodetext.specs.declared.line_kinds.Form.TheVariants as form
+use Rattle.pcodetext.specs.declared.line_kinds.Form.{Form}
 use Rattle.pcodetext.specs.declared.partial_listing.PartialListing.{PartialListing}
 
 -- ---- `pcode N`
@@ -23,7 +23,8 @@ pcode_form _ = form.Nothing
 
 -- `pcode N` is the first line
 abbrev pub pcode_faults : PartialListing → ℕ → List (Bool × Why)
-pcode_faults s version = (is_none s.version && not (version == 1 || version == 2), why.Version) ∷ (is_some s.version, why.Order) ∷ []
+pcode_faults s version =
+    (is_none s.version && not (version == 1 || version == 2), why.Version) ∷ (is_some s.version, why.Order) ∷ []
 
 -- ---- what it says
 

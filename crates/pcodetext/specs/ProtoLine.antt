@@ -18,8 +18,8 @@ use Rattle.pcodetext.specs.Tables.{place_in, proto_name}
 use Rattle.pcodetext.specs.Written.{range_or_none, ranges_of, ranges_until}
 use Rattle.pcodetext.specs.declared.fault.Why.TheVariants as why
 use Rattle.pcodetext.specs.declared.fault.Why.{Why}
-use Rattle.pcodetext.specs.declared.lines.Form.TheVariants as form
-use Rattle.pcodetext.specs.declared.lines.Form.{Form}
+use Rattle.pcodetext.specs.declared.line_kinds.Form.TheVariants as form
+use Rattle.pcodetext.specs.declared.line_kinds.Form.{Form}
 use Rattle.pcodetext.specs.declared.partial_listing.PartialListing.{PartialListing}
 use Rattle.pcodetext.specs.declared.proto_line.ProtoLine.{ProtoLine}
 use Rattle.pcodetext.specs.declared.written.Named.TheVariants as named
@@ -29,12 +29,15 @@ use Rattle.pcodetext.specs.declared.written.Written.{Written}
 -- ---- `proto NAME args STORE* result VN|none pop HEX keep VN*`
 
 abbrev pub proto_made : Line → List Written → Option (Option Written) → Option ℕ → Option (List Written) → Form
-proto_made name args (Some gives) (Some pop) (Some keep) = form.Proto (record { name = name; args = args; gives = gives; pop = pop; keep = keep })
+proto_made name args (Some gives) (Some pop) (Some keep) =
+    form.Proto (record { name = name; args = args; gives = gives; pop = pop; keep = keep })
 proto_made name args _ _ _ = form.Nothing
 
 abbrev pub proto_rest : List Space → Line → List Written → List Line → Form
-proto_rest spaces name args (gives ∷ pop ∷ amount ∷ keep ∷ parts) = if bytes_eq pop (codes "pop") && bytes_eq keep (codes "keep")
-    then proto_made name args (range_or_none spaces gives) (hexadecimal_of amount) (ranges_of spaces parts) else form.Nothing
+proto_rest spaces name args (gives ∷ pop ∷ amount ∷ keep ∷ parts) =
+    if bytes_eq pop (codes "pop") && bytes_eq keep (codes "keep")
+    then proto_made name args (range_or_none spaces gives) (hexadecimal_of amount) (ranges_of spaces parts) else
+    form.Nothing
 proto_rest spaces name args _ = form.Nothing
 
 abbrev pub proto_args : List Space → Line → Option (List Written × List Line) → Form
@@ -102,7 +105,8 @@ is_bad_kept s gives w = (is_empty w || leaves_space s.spaces w) || (meets_stack 
 -- ---- its faults
 
 abbrev pub is_foreign : List Space → ProtoLine → Bool
-is_foreign spaces l = (list_any (of_other spaces) l.args || of_some (of_other spaces) l.gives) || list_any (of_other spaces) l.keep
+is_foreign spaces l =
+    (list_any (of_other spaces) l.args || of_some (of_other spaces) l.gives) || list_any (of_other spaces) l.keep
 
 abbrev pub is_unknown_proto : ProtoLine → Bool
 is_unknown_proto l = (list_any of_no_argument l.args || of_some of_unknown l.gives) || list_any of_unknown l.keep
@@ -132,7 +136,14 @@ abbrev pub storage_of : Written → Storage
 storage_of w = stored w w.space
 
 abbrev pub proto_of : ProtoLine → Proto
-proto_of l = record { name = l.name; args = map storage_of l.args; gives = option_map varnode l.gives; pop = l.pop; keep = map varnode l.keep }
+proto_of l =
+    record {
+      name = l.name;
+      args = map storage_of l.args;
+      gives = option_map varnode l.gives;
+      pop = l.pop;
+      keep = map varnode l.keep;
+    }
 
 abbrev pub after_proto : PartialListing → ProtoLine → PartialListing
 after_proto s l = record s { protos = s.protos ++ proto_of l ∷ [] }

@@ -12,8 +12,8 @@ use Rattle.pcode_model.specs.declared.listing.SpaceKind.{SpaceKind}
 use Rattle.pcodetext.specs.Tables.{place_in, space_name}
 use Rattle.pcodetext.specs.declared.fault.Why.TheVariants as why
 use Rattle.pcodetext.specs.declared.fault.Why.{Why}
-use Rattle.pcodetext.specs.declared.lines.Form.TheVariants as form
-use Rattle.pcodetext.specs.declared.lines.Form.{Form}
+use Rattle.pcodetext.specs.declared.line_kinds.Form.TheVariants as form
+use Rattle.pcodetext.specs.declared.line_kinds.Form.{Form}
 use Rattle.pcodetext.specs.declared.partial_listing.PartialListing.{PartialListing}
 use Rattle.pcodetext.specs.declared.space_line.SpaceLine.{SpaceLine}
 
@@ -24,7 +24,8 @@ kind_of word = if bytes_eq word (codes "ram") then Some Ram else (if bytes_eq wo
     else (if bytes_eq word (codes "unique") then Some Unique else None))
 
 abbrev pub order_of : Line → Option Bool
-order_of word = if bytes_eq word (codes "le") then Some false else (if bytes_eq word (codes "be") then Some true else None)
+order_of word =
+    if bytes_eq word (codes "le") then Some false else (if bytes_eq word (codes "be") then Some true else None)
 
 abbrev pub word_by : Bool → List Line → Option ℕ
 word_by two [] = if two then None else Some 1
@@ -37,7 +38,8 @@ space_made name (Some kind) (Some size) (Some big) (Some word) = if is_name name
 space_made name _ _ _ _ = form.Nothing
 
 abbrev pub space_form : Bool → List Line → Form
-space_form two (name ∷ kind ∷ size ∷ order ∷ parts) = space_made name (kind_of kind) (decimal_of size) (order_of order) (word_by two parts)
+space_form two (name ∷ kind ∷ size ∷ order ∷ parts) =
+    space_made name (kind_of kind) (decimal_of size) (order_of order) (word_by two parts)
 space_form two _ = form.Nothing
 
 -- ---- its faults

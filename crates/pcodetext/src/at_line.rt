@@ -8,7 +8,7 @@ ghost use Rattle.pcodetext.specs.Checks.{of_some};
 ghost use Rattle.pcodetext.specs.Meaning.{step_by};
 
 use crate::fault::{LineFault, Why};
-use crate::lines::Form;
+use crate::line_kinds::Form;
 use crate::partial_listing::PartialListing;
 use listing_lines::{decimal, hexadecimal, next_part};
 use pcode_model::Instruction;

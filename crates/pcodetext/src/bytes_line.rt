@@ -8,7 +8,7 @@ ghost use Rattle.pcodetext.specs.Meaning.{step_by};
 
 use crate::fault::{LineFault, Why};
 use crate::fixed::FixedTable;
-use crate::lines::Form;
+use crate::line_kinds::Form;
 use crate::partial_listing::PartialListing;
 use crate::tables::SpaceTable;
 use crate::written::{Named, place};

@@ -9,7 +9,7 @@ ghost use Rattle.pcodetext.specs.Meaning.{step_by};
 ghost use Rattle.pcodetext.specs.Written.{place_of};
 
 use crate::fault::{LineFault, Why};
-use crate::lines::Form;
+use crate::line_kinds::Form;
 use crate::partial_listing::PartialListing;
 use crate::tables::{ProtoTable, SpaceTable};
 use crate::written::{Named, place};

@@ -13,7 +13,7 @@ ghost use Rattle.pcodetext.specs.Written.{ranges_of};
 use crate::checks::{any_unknown, is_unknown};
 use crate::convert::optional;
 use crate::fault::{LineFault, Why};
-use crate::lines::Form;
+use crate::line_kinds::Form;
 use crate::partial_listing::PartialListing;
 use crate::tables::SpaceTable;
 use crate::written::{Written, range, ranges};

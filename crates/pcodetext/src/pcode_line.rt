@@ -7,7 +7,7 @@ ghost use Rattle.pcodetext.specs.Meaning.{step_by};
 ghost use Rattle.pcodetext.specs.PcodeLine.{pcode_form};
 
 use crate::fault::{LineFault, Why};
-use crate::lines::Form;
+use crate::line_kinds::Form;
 use crate::partial_listing::PartialListing;
 use listing_lines::{decimal, next_part};
 

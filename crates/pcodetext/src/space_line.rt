@@ -7,7 +7,7 @@ ghost use Rattle.pcodetext.specs.Meaning.{step_by};
 ghost use Rattle.pcodetext.specs.SpaceLine.{is_outside, kind_of, order_of, space_form, space_made, word_by};
 
 use crate::fault::{LineFault, Why};
-use crate::lines::Form;
+use crate::line_kinds::Form;
 use crate::partial_listing::PartialListing;
 use listing_lines::{decimal, is_name, next_part};
 use pcode_model::{Name, Space, SpaceKind};

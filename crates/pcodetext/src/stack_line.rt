@@ -9,7 +9,7 @@ ghost use Rattle.pcodetext.specs.StackLine.{stack_form};
 
 use crate::checks::is_complete;
 use crate::fault::{LineFault, Why};
-use crate::lines::Form;
+use crate::line_kinds::Form;
 use crate::partial_listing::PartialListing;
 use crate::tables::SpaceTable;
 use crate::written::{Written, range};

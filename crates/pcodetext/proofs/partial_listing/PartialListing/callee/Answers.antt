@@ -11,12 +11,17 @@ use Rattle.pcodetext.proofs.partial_listing.PartialListing.callee.Goals as goal
 
 pub push-requires-clause-other_name : goal.push-requires-clause-other_name
 push-requires-clause-other_name c =
-    let free : list_any (is_taken_by c.args.self.now.spaces c.args.line) c.args.self.now.callees ≡ false = right_false _ _ (sym c.is_taken.ensures ∙ c.if-is_taken.false) in
-    ap (λ (f : Function). list_any (has_name f.name) c.args.self.now.callees) c.function.ensures ∙ free_name c.args.self.now.spaces c.args.line c.args.self.now.callees free
+    let free : list_any (is_taken_by c.args.self.now.spaces c.args.line) c.args.self.now.callees ≡ false =
+    right_false _ _ (sym c.is_taken.ensures ∙ c.if-is_taken.false) in
+    ap (λ (f : Function). list_any (has_name f.name) c.args.self.now.callees) c.function.ensures
+    ∙ free_name c.args.self.now.spaces c.args.line c.args.self.now.callees free
 
 pub push-requires-clause-other_address : goal.push-requires-clause-other_address
 push-requires-clause-other_address c =
-    let free : list_any (is_taken_by c.args.self.now.spaces c.args.line) c.args.self.now.callees ≡ false = right_false _ _ (sym c.is_taken.ensures ∙ c.if-is_taken.false) in
-    let first : is_first_ram c.args.self.now.spaces c.args.line.space ≡ true = not-false _ (left_false _ (leaves_known c.args.self.now.spaces c.args.line.space c.args.line.address 1) (sym c.is_misplaced.ensures ∙ c.if-is_misplaced.false)) in
+    let free : list_any (is_taken_by c.args.self.now.spaces c.args.line) c.args.self.now.callees ≡ false =
+    right_false _ _ (sym c.is_taken.ensures ∙ c.if-is_taken.false) in
+    let first : is_first_ram c.args.self.now.spaces c.args.line.space ≡ true =
+    not-false _ (left_false _ (leaves_known c.args.self.now.spaces c.args.line.space c.args.line.address 1)
+    (sym c.is_misplaced.ensures ∙ c.if-is_misplaced.false)) in
     ap (λ (f : Function). list_any (has_address f.address) c.args.self.now.callees) c.function.ensures
     ∙ free_address c.args.self.now.spaces c.args.line c.args.self.now.callees free first

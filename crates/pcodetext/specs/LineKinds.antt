@@ -1,5 +1,5 @@
--- Every kind of line: a line by its form, the faults of each after lines that have said so, and what one without a fault says.
--- Which name stands for which space and prototype is known from the lines before.
+-- Every kind of line: a line by its form, the faults of each after lines that have said so, and what one without a fault
+-- says. Which name stands for which space and prototype is known from the lines before.
 use Rattle.std.specs.Prelude.{Bool, List, None, Option, Some, [], codes, false, if◌then◌else◌, length, true, ℕ, ◌==◌, ◌∷◌}
 use Rattle.std.specs.Str.{bytes_eq}
 use Rattle.listing_lines.specs.Text.{Line, parts_of}
@@ -14,8 +14,8 @@ use Rattle.pcodetext.specs.SpaceLine.{after_space, space_faults, space_form}
 use Rattle.pcodetext.specs.StackLine.{after_stack, stack_faults, stack_form}
 use Rattle.pcodetext.specs.declared.fault.Why.TheVariants as why
 use Rattle.pcodetext.specs.declared.fault.Why.{Why}
-use Rattle.pcodetext.specs.declared.lines.Form.TheVariants as form
-use Rattle.pcodetext.specs.declared.lines.Form.{Form}
+use Rattle.pcodetext.specs.declared.line_kinds.Form.TheVariants as form
+use Rattle.pcodetext.specs.declared.line_kinds.Form.{Form}
 use Rattle.pcodetext.specs.declared.partial_listing.PartialListing.{PartialListing}
 
 -- the forms are those of version 1 where no version is known yet

@@ -3,7 +3,7 @@
 ghost use Rattle.std.specs.Prelude.{◌≡◌, IfOk};
 ghost use Rattle.line_reader.specs.Answer.{Does};
 ghost use Rattle.listing_lines.specs.Text.{left};
-ghost use Rattle.pcodetext.specs.Lines.{form_of, head_form, is_two};
+ghost use Rattle.pcodetext.specs.LineKinds.{form_of, head_form, is_two};
 ghost use Rattle.pcodetext.specs.Meaning.{is_skipped, step};
 
 use crate::at_line::{AtLine, at_form};
