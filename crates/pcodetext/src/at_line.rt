@@ -70,14 +70,13 @@ impl PartialListing {
         if line.length == 0 {
             return Err(LineFault::Fault(Why::Range));
         }
-        let ops = Items::new(alloc);
         if let Some(last) = self.last.take() {
             self.done.push(last)?;
         }
         self.last = Some(Instruction {
             address: line.address,
             length: line.length,
-            ops,
+            ops: Items::new(alloc),
         });
         Ok(())
     }

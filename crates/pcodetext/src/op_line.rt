@@ -112,37 +112,36 @@ fn inputs(alloc: Global, ranges: &[Written]) -> Result<Inputs, AllocError>
 }
 
 impl PartialListing {
-    /// A line of an op.
+    /// A line of an op. It is taken apart last, so that what ends early has one value to drop.
     pub fn op(&mut self, alloc: Global, line: OpLine) -> Result<(), LineFault>
         ensures { Does (step_by self.old (Form.Op line)) self.new result }
     {
-        let OpLine {
-            out,
-            code,
-            inputs: ranges,
-        } = line;
         if self.last.is_none() || self.ended {
             return Err(LineFault::Fault(Why::Order));
         }
-        let Some(code) = code else {
-            return Err(LineFault::Fault(Why::Unknown));
-        };
-        if is_unknown(out) || any_unknown(ranges.as_slice()) {
+        if line.code.is_none() || is_unknown(line.out) || any_unknown(line.inputs.as_slice()) {
             return Err(LineFault::Fault(Why::Unknown));
         }
         if self.ops >= 16384 {
             return Err(LineFault::Fault(Why::Range));
         }
-        if is_empty(out) || any_empty(ranges.as_slice()) {
+        if is_empty(line.out) || any_empty(line.inputs.as_slice()) {
             return Err(LineFault::Fault(Why::Range));
         }
-        let inputs = inputs(alloc, ranges.as_slice())?;
+        let inputs = inputs(alloc, line.inputs.as_slice())?;
+        let OpLine {
+            out,
+            code,
+            inputs: _,
+        } = line;
         if let Some(last) = &mut self.last {
-            last.ops.push(Op {
-                code,
-                out: optional(out),
-                inputs,
-            })?;
+            if let Some(code) = code {
+                last.ops.push(Op {
+                    code,
+                    out: optional(out),
+                    inputs,
+                })?;
+            }
         }
         self.ops += 1;
         Ok(())
