@@ -1,5 +1,5 @@
 -- The line that begins an instruction: what its form has, and that it keeps to the rules.
-use Rattle.std.proofs.Common.{◌≡◌, ◌∙◌, ◌+◌, ℕ, true, false, List, [], ◌∷◌, ◌++◌, refl, arith}
+use Rattle.std.proofs.Common.{◌≡◌, ◌∙◌, ◌+◌, ℕ, false, List, [], ◌∷◌, ◌++◌, refl, arith}
 use Rattle.std.specs.Prelude.{Option, Some, None}
 use Rattle.std.specs.Option.{is_none, option_to_list}
 use Rattle.line_reader.proofs.Faults.{AllFalse, all_false}

@@ -1,21 +1,12 @@
 -- Every kind of line: what the form of a line has, and that a line without a fault keeps to the rules.
-use Rattle.std.proofs.Common.{◌≡◌, ℕ, List, [], ◌∷◌, length}
+use Rattle.std.proofs.Common.{ℕ, List, [], ◌∷◌, length}
 use Rattle.std.specs.Prelude.{◌==◌, codes, if◌then◌else◌}
 use Rattle.std.specs.Str.{bytes_eq}
 use Rattle.listing_lines.specs.Text.{Line, parts_of}
 use Rattle.pcodetext.specs.declared.partial_listing.PartialListing.{PartialListing}
 use Rattle.pcodetext.specs.declared.line_kinds.Form.{Form}
 use Rattle.pcodetext.specs.declared.line_kinds.Form.TheVariants as form
-use Rattle.pcodetext.specs.AtLine.{at_form}
-use Rattle.pcodetext.specs.BytesLine.{bytes_form}
-use Rattle.pcodetext.specs.EndLine.{end_form}
-use Rattle.pcodetext.specs.FunctionLine.{callee_form, func_form}
 use Rattle.pcodetext.specs.LineKinds.{form_by, form_of, head_form, is_two}
-use Rattle.pcodetext.specs.OpLine.{op_form}
-use Rattle.pcodetext.specs.PcodeLine.{pcode_form}
-use Rattle.pcodetext.specs.ProtoLine.{proto_form}
-use Rattle.pcodetext.specs.SpaceLine.{space_form}
-use Rattle.pcodetext.specs.StackLine.{stack_form}
 use Rattle.pcodetext.proofs.FormIs.{IsForm, either, known_of}
 use Rattle.pcodetext.proofs.Formed.{Keeps}
 use Rattle.pcodetext.proofs.AtLine.{at_form_is, at_keeps}
