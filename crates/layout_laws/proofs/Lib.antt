@@ -1,4 +1,5 @@
 pub mod Pieces
+pub mod Switches
 pub mod Positions
 pub mod Follows
 pub mod Ends
