@@ -1,14 +1,21 @@
 -- Worked runs, by computation.
-use Rattle.std.proofs.Common.{◌≡◌, ◌∷◌, [], Some, None, refl}
+use Rattle.std.proofs.Common.{◌≡◌, ◌∙◌, ◌&&◌, ℕ, Bool, true, false, List, ◌∷◌, [], Option, Some, None, IsTrue, ap, refl, subst, sym}
+use Rattle.std.specs.Prelude.{codes}
 use Rattle.bits_core.specs.Value.{limit, half, neg, add, sub, div, left, sright, ne}
 use Rattle.cmeaning.specs.declared.tree.ArithmeticOp.TheVariants.{Add, Sub}
 use Rattle.cmeaning.specs.declared.tree.ShiftOp.TheVariants.{Shl, Sar}
 use Rattle.cmeaning.specs.declared.tree.CompareOp.TheVariants.{Ne}
 use Rattle.cmeaning.specs.declared.tree.StatementDivision.TheVariants.{Div}
 use Rattle.cmeaning.specs.declared.tree.Expr.TheVariants as E
+use Rattle.cmeaning.specs.declared.tree.Stmt.{Stmt, fold-roll-Stmt}
+use Rattle.cmeaning.specs.declared.tree.Stmt.TheOpen.{Stmt-F}
 use Rattle.cmeaning.specs.declared.tree.Stmt.TheVariants as S
+use Rattle.cmeaning.specs.declared.tree.Expr.{Expr}
+use Rattle.pcode_model.specs.declared.listing.Listing.{Listing}
+use Rattle.cmeaning.specs.Do.{widths_in}
+use Rattle.cmeaning.specs.Fits.{arm_step, body_fits, fits_step, names_ram, stmt_fits}
 use Rattle.cmeaning.specs.Flat.{Do, Test, Jump, Choose, Give, flat_of}
-use Rattle.cmeaning.specs.Examples.{zero, one, hundred, bits, place, param, local}
+use Rattle.cmeaning.specs.Examples.{zero, one, hundred, bits, place, param, local, register_place}
 use Rattle.cmeaning.specs.Worked as worked
 use Rattle.cmeaning.proofs.Value.{value_of_const, value_of_var, value_of_arithmetic, value_of_shift, value_of_compare, width_of_const, width_of_var, width_of_arithmetic, width_of_shift, width_of_compare}
 use Rattle.cmeaning.proofs.Do.{do_assign, do_load, do_store, do_call, do_extra, do_divide}
@@ -202,3 +209,39 @@ wraps = record {
 
 pub goes_on_at_zero : worked.GoesOnAtZero
 goes_on_at_zero = refl
+
+flat_reads_register : flat_of worked.reads_register_c
+    ≡ Do (S.Load 0 (Some (codes "register")) register_place) ∷ Give (Some (E.Arithmetic Add param one)) ∷ []
+unfolding flat_of
+flat_reads_register = simp pieces
+
+-- a load of a named space fits where it is a ram space other than the first
+load_fits : (l : Listing) (ws : ℕ → ℕ) (v : ℕ) (space : Option (List ℕ)) (address : Expr)
+    → stmt_fits l ws (S.Load v space address) ≡ names_ram l space
+unfolding stmt_fits
+load_fits l ws v space address =
+    ap (stmt_fits l ws) (sym (S.rolls-Load v space address))
+    ∙ fold-roll-Stmt Bool Bool (fits_step l ws) arm_step (Stmt-F.Load v space address)
+
+return_fits : (l : Listing) (ws : ℕ → ℕ) (e : Option Expr) → stmt_fits l ws (S.Return e) ≡ true
+unfolding stmt_fits
+return_fits l ws e =
+    ap (stmt_fits l ws) (sym (S.rolls-Return e)) ∙ fold-roll-Stmt Bool Bool (fits_step l ws) arm_step (Stmt-F.Return e)
+
+pub register_as_memory : worked.RegisterAsMemory
+unfolding add limit
+register_as_memory = record {
+  c = simp (flat_reads_register, steps);
+  misfits = λ fits. refused fits.body;
+  fits = record { params = refl; body = subst (λ b. IsTrue (b && true)) (sym adds_fits) refl };
+}
+  where
+    adds_fits : stmt_fits worked.adds (widths_in worked.adds_c) (S.Return (Some (E.Arithmetic Add param one))) ≡ true
+    adds_fits = return_fits worked.adds (widths_in worked.adds_c) (Some (E.Arithmetic Add param one))
+
+    refused : IsTrue (body_fits worked.adds (widths_in worked.reads_register_c) worked.reads_register_c.body) → ⊥
+    refused h =
+        let no_load : false ≡ true = subst (λ b. IsTrue (b
+        && (stmt_fits worked.adds (widths_in worked.reads_register_c) (S.Return (Some (E.Arithmetic Add param one))) && true)))
+        (load_fits worked.adds (widths_in worked.reads_register_c) 0 (Some (codes "register")) register_place) h in
+        cc

@@ -29,8 +29,14 @@ use Rattle.cmeaning.specs.declared.tree.CFunction.{CFunction}
 -- ---- listings: space 1 is ram with offsets of 8 bytes, space 2 the registers and space 3 the unique space, with offsets
 -- of 4 bytes; all of them have the little end first
 
+abbrev pub name_by : SpaceKind → List ℕ
+name_by Constant = codes "const"
+name_by Ram = codes "ram"
+name_by Register = codes "register"
+name_by Unique = codes "unique"
+
 abbrev pub space : SpaceKind → ℕ → Space
-space kind size = record { name = []; kind = kind; size = size; big = false; word = 1 }
+space kind size = record { name = name_by kind; kind = kind; size = size; big = false; word = 1 }
 
 abbrev pub varnode : ℕ → ℕ → ℕ → Varnode
 varnode space offset size = record { space = space; offset = offset; size = size }
@@ -124,6 +130,10 @@ pub place_fits : 64 < limit 4
 unfolding limit
 place_fits = lit< tt
 
+pub register_fits : 0x38 < limit 4
+unfolding limit
+register_fits = lit< tt
+
 abbrev pub zero : Expr
 zero = E.Const (word 0 zero_fits)
 
@@ -139,6 +149,10 @@ bits = E.Const (word 32 bits_fit)
 -- an address
 abbrev pub place : Expr
 place = E.Const (word 64 place_fits)
+
+-- the offset of the argument's register
+abbrev pub register_place : Expr
+register_place = E.Const (word 0x38 register_fits)
 
 -- variable 0 is the parameter in the argument's register, and variable 1 a local
 abbrev pub param : Expr

@@ -1,5 +1,5 @@
 -- Worked runs: what small listings and C functions show after so many steps.
-use Rattle.std.specs.Prelude.{◌≡◌, ℕ, ◌==◌, ◌-◌, ◌^◌, if◌then◌else◌, true, false, [], ◌∷◌, Some, None}
+use Rattle.std.specs.Prelude.{◌≡◌, ℕ, ◌==◌, ◌-◌, ◌^◌, if◌then◌else◌, true, false, [], ◌∷◌, codes, Some, None}
 use Rattle.machine.specs.Trace.{Call, Store, Returned, DivZero, ReadOnlyWrite, NoAnswer, NoReturn, Outside, BadTarget, Undefined}
 use Rattle.bits_core.specs.declared.ops.Unary.TheVariants as U
 use Rattle.bits_core.specs.declared.ops.Binary.TheVariants as B
@@ -17,9 +17,10 @@ use Rattle.cmeaning.specs.declared.tree.StatementDivision.TheVariants.{Div}
 use Rattle.cmeaning.specs.declared.tree.Expr.TheVariants as E
 use Rattle.cmeaning.specs.declared.tree.Stmt.TheVariants as S
 use Rattle.cmeaning.specs.declared.tree.CFunction.{CFunction}
+use Rattle.cmeaning.specs.Fits.{Fits}
 use Rattle.cmeaning.specs.Flat.{Do, Test, Jump, Choose, Give, flat_of}
 use Rattle.cmeaning.specs.Step.{seen_c}
-use Rattle.cmeaning.specs.Examples.{varnode, argument, result, constant, sets, does, returns, instruction, function, listing, runs, entry, ended, gave, zero, one, hundred, bits, place, param, local, callee, c_function}
+use Rattle.cmeaning.specs.Examples.{four, register_place, varnode, argument, result, constant, sets, does, returns, instruction, function, listing, runs, entry, ended, gave, zero, one, hundred, bits, place, param, local, callee, c_function}
 
 -- ---- one addition: the argument and 1
 
@@ -266,3 +267,23 @@ abbrev pub GoesOnAtZero : Type 0
 GoesOnAtZero = seen_p ends no_frame
     (record { bytes = λ s o. if s == 2 then (if o == 0x3a then 8 else 0) else 0; hidden = λ o. None; answers = [] }) 3
     ≡ ended (Store 1 (2 ^ 64 - 2) (0 ∷ 0 ∷ 8 ∷ 0 ∷ []) ∷ []) (Returned (Some 8))
+
+-- ---- a register that is read as memory
+
+-- No parameter: u32 f(void) { l0 = MEM4(register, 0x38); return l0 + 1; }
+abbrev pub reads_register_c : CFunction
+reads_register_c = record {
+  callees = [];
+  name = codes "f";
+  gives = Some four;
+  params = [];
+  locals = record { width = four; signed = false } ∷ [];
+  body = S.Load 0 (Some (codes "register")) register_place ∷ S.Return (Some (E.Arithmetic Add param one)) ∷ [];
+}
+
+-- It shows the sum of the argument and 1 as the listing does, without a parameter, but it doesn't fit the listing: what
+-- fits names ram spaces alone. The function that takes the argument fits.
+pub record RegisterAsMemory : Type 0 where
+  pub c : seen_c adds reads_register_c (entry 5 []) 2 ≡ gave 6
+  pub misfits : Fits adds reads_register_c → ⊥
+  pub fits : Fits adds adds_c

@@ -2,7 +2,7 @@
 
 ghost use Rattle.cmeaning.specs.Worked.{OneAddition, DivisionByZero, UndefinedRuns, Calls, NeverReturns};
 ghost use Rattle.cmeaning.specs.Worked.{ReadOnlyStore, LeftByCall, RunsTwice, FlatCode, RelativeBranch, ShiftByWidth};
-ghost use Rattle.cmeaning.specs.Worked.{Wraps, GoesOnAtZero};
+ghost use Rattle.cmeaning.specs.Worked.{Wraps, GoesOnAtZero, RegisterAsMemory};
 
 /// The sum of an argument and 1.
 pub fn one_addition()
@@ -67,4 +67,9 @@ pub fn wraps()
 /// An access past the end of a space.
 pub fn goes_on_at_zero()
     ensures { GoesOnAtZero }
+{}
+
+/// A register that is read as memory, so that no parameter is needed: the same is shown, but the function doesn't fit.
+pub fn register_as_memory()
+    ensures { RegisterAsMemory }
 {}

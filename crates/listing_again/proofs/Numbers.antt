@@ -184,9 +184,6 @@ decimal_token n small = digits_token _ (wider _ (decimal_is_IsNumeral n (omega a
 
 -- ---- bytes
 
-abbrev pub AreBytes : List ℕ → Type 0
-AreBytes bytes = AllByRecursion (λ b. b < 256) bytes
-
 glyph_value : (d : ℕ) → d < 16 → digit_value (digit_glyph false d) ≡ d
 glyph_value d small =
     let numeral = digits_is_IsNumeral 16 false (omega arith) (omega arith) d (omega arith) in
@@ -210,54 +207,6 @@ pairs_back (b ∷ bytes) h =
 pub bytes_back : (bytes : List ℕ) → 0 < length bytes → AreBytes bytes → bytes_of (pairs bytes) ≡ Some bytes
 bytes_back [] some h = absurd (omega arith)
 bytes_back (b ∷ bytes) some h = pairs_back (b ∷ bytes) h
-
-digit_small : (b : ℕ) → is_digit b 16 ≡ true → digit_value b < 16
-digit_small b h = ltb-true _ _ h
-
-pairs_small : (part : Line) → IfSome (pairs_of part) AreBytes
-pairs_small [] = tt
-pairs_small (a ∷ []) = tt
-pairs_small (a ∷ b ∷ part) = by_digits (is_digit a 16) (is_digit b 16) refl refl (pairs_of part) (pairs_small part)
-  where
-    by_more : digit_value a * 16 + digit_value b < 256
-        → (more : Option (List ℕ))
-        → IfSome more AreBytes
-        → IfSome (option_map (λ (bytes : List ℕ). (digit_value a * 16 + digit_value b) ∷ bytes) more) AreBytes
-    by_more small None h = tt
-    by_more small (Some bytes) h = (small, h)
-
-    by_digits : (t u : Bool) → is_digit a 16 ≡ t → is_digit b 16 ≡ u → (more : Option (List ℕ)) → IfSome more AreBytes
-        → IfSome
-        (if t && u then option_map (λ (bytes : List ℕ). (digit_value a * 16 + digit_value b) ∷ bytes) more else None)
-        AreBytes
-    by_digits true true p q more h = by_more (omega (arith, digit_small a p, digit_small b q)) more h
-    by_digits true false p q more h = tt
-    by_digits false u p q more h = tt
-
-pub bytes_small : (part : Line) → IfSome (bytes_of part) (λ bytes. (0 < length bytes) × AreBytes bytes)
-bytes_small [] = tt
-bytes_small (a ∷ []) = tt
-bytes_small (a ∷ b ∷ part) =
-    both (pairs_of (a ∷ b ∷ part)) (pairs_small (a ∷ b ∷ part)) (some (is_digit a 16 && is_digit b 16))
-  where
-    grown : (more : Option (List ℕ))
-        → IfSome (option_map (λ (bytes : List ℕ). (digit_value a * 16 + digit_value b) ∷ bytes) more) (λ bytes. 0 < length bytes)
-    grown None = tt
-    grown (Some bytes) = omega arith
-
-    some : (t : Bool)
-        → IfSome
-        (if t then option_map (λ (bytes : List ℕ). (digit_value a * 16 + digit_value b) ∷ bytes) (pairs_of part)
-        else None) (λ bytes. 0 < length bytes)
-    some true = grown (pairs_of part)
-    some false = tt
-
-    both : (o : Option (List ℕ))
-        → IfSome o AreBytes
-        → IfSome o (λ bytes. 0 < length bytes)
-        → IfSome o (λ bytes. (0 < length bytes) × AreBytes bytes)
-    both None h g = tt
-    both (Some bytes) h g = (g, h)
 
 glyph_part : (d : ℕ) → d < 16 → 32 < digit_glyph false d
 glyph_part d small = (digit_token _ (omega (arith, glyph_value d small))).0

@@ -28,7 +28,8 @@ use Rattle.operations.specs.Words.{word_of}
 use Rattle.operations.proofs.Exact.{opcode_is}
 use Rattle.pcodetext.specs.Tables.{place_in, proto_name}
 use Rattle.pcodetext.specs.Written.{before, place_of, range_of, range_or_none, ranges_of, ranges_until, with_first}
-use Rattle.listing_again.proofs.Numbers.{AreBytes, bytes_small, decimal_small, hexadecimal_small, right_true}
+use Rattle.listing_lines.proofs.Bytes.{AreBytes, bytes_small}
+use Rattle.listing_again.proofs.Numbers.{decimal_small, hexadecimal_small, right_true}
 use Rattle.listing_again.proofs.Ranges.{IsCalled, IsRange, IsSpelled, called, place_is, range_is}
 use Rattle.pcodetext.proofs.FormIs.{kind_is, left_true}
 

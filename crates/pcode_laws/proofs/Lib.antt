@@ -1,4 +1,6 @@
+pub mod AsBytes
 pub mod Ends
 pub mod Grows
+pub mod Puts
 pub mod Rules
 pub mod Sizes

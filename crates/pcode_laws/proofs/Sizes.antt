@@ -20,7 +20,8 @@ unary_is U.CountLeadingZeros v w h = tt
 unary_is U.BoolNegate v w h = (eqb-true v 1 (and_parts _ _ h).0, eqb-true w 1 (and_parts _ _ h).1)
 
 pub same_three : (n u v w : ℕ) → (u == n && (v == n && w == n)) ≡ true → (u ≡ n) × ((v ≡ n) × (w ≡ n))
-same_three n u v w h = let p = and_parts _ _ h in let q = and_parts _ _ p.1 in (eqb-true u n p.0, (eqb-true v n q.0, eqb-true w n q.1))
+same_three n u v w h =
+    let p = and_parts _ _ h in let q = and_parts _ _ p.1 in (eqb-true u n p.0, (eqb-true v n q.0, eqb-true w n q.1))
 
 pub two_of : (u v w : ℕ) → (u == w && (v == w && w == w)) ≡ true → (u ≡ w) × (v ≡ w)
 two_of u v w h = let p = same_three w u v w h in (p.0, p.1.0)

@@ -111,6 +111,7 @@ pub record IsFixed (spaces : List Space) (f : Fixed) : Type 0 where
   pub kind : is_kind Ram spaces f.space ≡ true
   pub some : 0 < length f.bytes
   pub few : length f.bytes ≤ 4096
+  pub bytes : AllByRecursion (λ b. b < 256) f.bytes
   pub inside : leaves spaces f.space f.offset (length f.bytes) ≡ false
 
 -- of read-only bytes in one space, each end before those that follow begin

@@ -8,6 +8,7 @@ use Rattle.std.specs.Option.{option_map}
 use Rattle.std.proofs.lemmas.List.{length-map}
 use Rattle.std.specs.Str.{bytes_eq}
 use Rattle.listing_lines.specs.Text.{Line, parts_of}
+use Rattle.listing_lines.proofs.Bytes.{AreBytes, bytes_small}
 use Rattle.listing_lines.specs.Tokens.{bytes_of, decimal_of, hexadecimal_of, is_name, pairs_of}
 use Rattle.pcode_model.specs.declared.listing.Proto.{Proto}
 use Rattle.pcode_model.specs.declared.listing.Space.{Space}
@@ -66,7 +67,7 @@ IsForm n (form.Pcode version) = Unit {0}
 IsForm n (form.Space l) = (same_kind Constant l.kind ≡ false) × ((is_name l.name ≡ true) × IsOneBefore n.two 1 l.word)
 IsForm n (form.Stack w) = Unit {0}
 IsForm n (form.Proto l) = is_name l.name ≡ true
-IsForm n (form.Bytes l) = 0 < length l.bytes
+IsForm n (form.Bytes l) = (0 < length l.bytes) × AreBytes l.bytes
 IsForm n (form.At l) = Unit {0}
 IsForm n (form.Op l) = IfSome l.out (IsWritten n.spaces) × AllByRecursion (IsWritten n.spaces) l.inputs
 IsForm n form.End = Unit {0}
@@ -270,18 +271,9 @@ proto_is n spaces [] = tt
 proto_is n spaces (a ∷ []) = tt
 proto_is n spaces (a ∷ b ∷ parts) = when n (is_name a && bytes_eq b (codes "args")) _ (λ e. proto_args_is n spaces a (ranges_until (codes "result") spaces parts) (left_true _ _ e))
 
--- pairs write one byte at least
-bytes_some : (digits : Line) → IfSome (bytes_of digits) (λ bytes. 0 < length bytes)
-bytes_some [] = tt
-bytes_some (a ∷ []) = tt
-bytes_some (a ∷ b ∷ more) = by_digits (is_digit a 16 && is_digit b 16) (digit_value a * 16 + digit_value b) (pairs_of more)
-  where
-    by_digits : (t : Bool) (first : ℕ) (rest : Option (List ℕ)) → IfSome (if t then option_map (λ bytes. first ∷ bytes) rest else None) (λ bytes. 0 < length bytes)
-    by_digits true first None = tt
-    by_digits true first (Some bytes) = omega arith
-    by_digits false first rest = tt
-
-bytes_made_is : (n : Known) (place : Option (Named × ℕ)) (bytes : Option (List ℕ)) → IfSome bytes (λ bs. 0 < length bs) → IsForm n (bytes_made place bytes)
+bytes_made_is : (n : Known) (place : Option (Named × ℕ)) (bytes : Option (List ℕ))
+    → IfSome bytes (λ bs. (0 < length bs) × AreBytes bs)
+    → IsForm n (bytes_made place bytes)
 bytes_made_is n None bytes h = tt
 bytes_made_is n (Some p) None h = tt
 bytes_made_is n (Some p) (Some b) h = h
@@ -289,7 +281,7 @@ bytes_made_is n (Some p) (Some b) h = h
 bytes_is : (n : Known) (spaces : List Space) (parts : List Line) → IsForm n (bytes_form spaces parts)
 bytes_is n spaces [] = tt
 bytes_is n spaces (a ∷ []) = tt
-bytes_is n spaces (a ∷ b ∷ []) = bytes_made_is n (place_of spaces a) (bytes_of b) (bytes_some b)
+bytes_is n spaces (a ∷ b ∷ []) = bytes_made_is n (place_of spaces a) (bytes_of b) (bytes_small b)
 bytes_is n spaces (a ∷ b ∷ c ∷ parts) = tt
 
 at_made_is : (n : Known) (address size : Option ℕ) → IsForm n (at_made address size)

@@ -4,6 +4,7 @@ use Rattle.std.specs.Prelude.{◌==◌, ◌&&◌, nat_le, nat_lt}
 use Rattle.std.specs.List.{AllByRecursion}
 use Rattle.std.proofs.lemmas.Bool.Decides.{nat_tests}
 use Rattle.std.proofs.lemmas.Bool.{ltb-false}
+use Rattle.listing_lines.proofs.Bytes.{AreBytes}
 use Rattle.pcode_model.specs.declared.listing.Fixed.{Fixed}
 use Rattle.pcode_model.specs.declared.listing.Space.{Space}
 use Rattle.pcode_model.specs.declared.listing.SpaceKind.TheVariants.{Ram}
@@ -26,11 +27,16 @@ pub record KeepFixed (spaces : List Space) (fixed : List Fixed) : Type 0 where
 abbrev pub fixed_of : BytesLine → Fixed
 fixed_of l = record { space = number l.space; offset = l.offset; bytes = l.bytes }
 
-fixed_by : (spaces : List Space) (space : Named) (offset : ℕ) (bytes : List ℕ) → 0 < length bytes → nat_lt 4096 (length bytes) ≡ false → is_of_kind Ram spaces space ≡ true
-    → leaves_known spaces space offset (length bytes) ≡ false → IsFixed spaces (record { space = number space; offset = offset; bytes = bytes })
-fixed_by spaces (named.Space n) offset bytes some few kind inside = record { kind = kind; some = some; few = ltb-false _ _ few; inside = inside }
-fixed_by spaces named.Stack offset bytes some few kind inside = absurd (never (sym kind))
-fixed_by spaces named.Unknown offset bytes some few kind inside = absurd (never (sym kind))
+fixed_by : (spaces : List Space) (space : Named) (offset : ℕ) (bytes : List ℕ)
+    → (0 < length bytes) × AreBytes bytes
+    → nat_lt 4096 (length bytes) ≡ false
+    → is_of_kind Ram spaces space ≡ true
+    → leaves_known spaces space offset (length bytes) ≡ false
+    → IsFixed spaces (record { space = number space; offset = offset; bytes = bytes })
+fixed_by spaces (named.Space n) offset bytes is few kind inside =
+    record { kind = kind; some = is.0; few = ltb-false _ _ few; bytes = is.1; inside = inside }
+fixed_by spaces named.Stack offset bytes is few kind inside = absurd (never (sym kind))
+fixed_by spaces named.Unknown offset bytes is few kind inside = absurd (never (sym kind))
 
 apart : (o size x more : ℕ) → nat_le o x ≡ false → meets o size x more ≡ false → x + more ≤ o
 apart o size x more late double = grind (arith, nat_tests)
@@ -61,11 +67,11 @@ rise_more fixed named.Stack offset bytes h late double spaces kind = absurd (nev
 rise_more fixed named.Unknown offset bytes h late double spaces kind = absurd (never (sym kind))
 
 -- some bytes more
-pub keep_fixed : (spaces : List Space) (fixed : List Fixed) (l : BytesLine) → KeepFixed spaces fixed → 0 < length l.bytes
+pub keep_fixed : (spaces : List Space) (fixed : List Fixed) (l : BytesLine) → KeepFixed spaces fixed → (0 < length l.bytes) × AreBytes l.bytes
     → is_late fixed l.space l.offset ≡ false → is_double fixed l.space l.offset (length l.bytes) ≡ false → nat_lt 4096 (length l.bytes) ≡ false
     → is_of_kind Ram spaces l.space ≡ true → leaves_known spaces l.space l.offset (length l.bytes) ≡ false → KeepFixed spaces (fixed ++ fixed_of l ∷ [])
-keep_fixed spaces fixed l f some late double few kind inside = record {
-  formed = all_snoc (IsFixed spaces) fixed (fixed_of l) f.formed (fixed_by spaces l.space l.offset l.bytes some few kind inside);
+keep_fixed spaces fixed l f is late double few kind inside = record {
+  formed = all_snoc (IsFixed spaces) fixed (fixed_of l) f.formed (fixed_by spaces l.space l.offset l.bytes is few kind inside);
   rising = rise_more fixed l.space l.offset l.bytes f.rising late double spaces kind;
 }
 

@@ -8,6 +8,8 @@ use Rattle.pcode_model.specs.declared.listing.Listing.{Listing}
 use Rattle.pcode_model.specs.Frame.{frame_of, no_variables}
 use Rattle.pcode_model.specs.Memory.{whole}
 use Rattle.pcode_model.specs.Spaces.{is_some}
+use Rattle.pcode_model.specs.WellFormed.{IsWellFormed}
+use Rattle.pcode_model.proofs.ReadOnly.{fixed_small}
 use Rattle.pcode_model.specs.Step.{first_whole, layout, machine, seen_p, start}
 use Rattle.pcode_laws.proofs.Grows.{pcode_grows}
 use Rattle.cmeaning.specs.declared.tree.CFunction.{CFunction}
@@ -22,7 +24,7 @@ use Rattle.comparison.specs.Says.{Says, within}
 use Rattle.comparison.specs.declared.fronts.Comparison.{Comparison}
 use Rattle.comparison.specs.declared.fronts.Comparison.TheVariants.{Apart}
 use Rattle.comparison.proofs.Never.{never_apart}
-use Rattle.side_by_side.specs.Judged.{HasBytes, IsShown, both_text, shown_c, shown_p}
+use Rattle.side_by_side.specs.Judged.{IsShown, both_text, shown_c, shown_p}
 use Rattle.side_by_side.proofs.Entries.{is_entry}
 use Rattle.side_by_side.proofs.Inside.{never_outside}
 
@@ -36,23 +38,25 @@ module _ (l : Listing) (f : CFunction) (e : Entry) (n : ℕ) where
   grows_c = seen_grows (c_machine l f) (c_grows l f) (start_c l f (entry_of l e))
 
   -- Where the function agrees with the listing, both runs of an entry that lies in it are never apart.
-  not_apart : LiesIn l e
+  not_apart : IsWellFormed l
+      → LiesIn l e
       → (comparison : Comparison)
       → Says (within (shown_p l e n)) (within (shown_c l f e n)) comparison
-      → HasBytes l → AgreesWith l (frame_of l no_variables) f → comparison ≡ Apart → ⊥
-  not_apart lies comparison says bytes agrees is =
+      → AgreesWith l (frame_of l no_variables) f → comparison ≡ Apart → ⊥
+  not_apart formed lies comparison says agrees is =
       never_apart (is_some f.gives) (shown_p l e) (shown_c l f e) grows_p grows_c (never_outside l f (entry_of l e))
-      (agrees (entry_of l e) (is_entry l (λ s o b fixed. bytes s o b fixed) e lies)) n
+      (agrees (entry_of l e) (is_entry l (λ s o b fixed. fixed_small l formed s o b fixed) e lies)) n
       (subst (λ (x : Comparison). Says (within (shown_p l e n)) (within (shown_c l f e n)) x) is says)
 
   -- What is told of the traces of both machines.
-  pub shown_is : LiesIn l e
+  pub shown_is : IsWellFormed l
+      → LiesIn l e
       → (frame : Frame) (p c : Trace) (comparison : Comparison) (text : List ℕ)
       → frame ≡ no_variables
       → trace_of p ≡ seen_p l (frame_of l frame) (entry_of l e) n → trace_of c ≡ seen_c l f (entry_of l e) n
       → Says (within (trace_of p)) (within (trace_of c)) comparison
       → text ≡ both_text l (trace_of p) (trace_of c) comparison → IsShown l f e n text
-  shown_is lies frame p c comparison text empty ran went says is =
+  shown_is formed lies frame p c comparison text empty ran went says is =
       let run : trace_of p ≡ shown_p l e n = ran ∙ ap (λ (g : Frame). seen_p l (frame_of l g) (entry_of l e) n) empty in
       let left : Says (within (shown_p l e n)) (within (trace_of c)) comparison =
       subst (λ (t : T.Trace). Says (within t) (within (trace_of c)) comparison) run says in
@@ -61,6 +65,6 @@ module _ (l : Listing) (f : CFunction) (e : Entry) (n : ℕ) where
       record {
         comparison = comparison;
         says = both;
-        never_apart = not_apart lies comparison both;
+        never_apart = not_apart formed lies comparison both;
         is = is ∙ ap₂ (λ (s t : T.Trace). both_text l s t comparison) run went;
       }

@@ -3,7 +3,6 @@ use Rattle.std.specs.Prelude.{◌≡◌, ◌<◌, ℕ, List, ◌++◌, codes, So
 use Rattle.machine.specs.Trace.{Trace}
 use Rattle.pcode_model.specs.declared.listing.Listing.{Listing}
 use Rattle.pcode_model.specs.Frame.{frame_of, no_variables}
-use Rattle.pcode_model.specs.Spaces.{fixed_byte}
 use Rattle.pcode_model.specs.Step.{seen_p}
 use Rattle.cmeaning.specs.declared.tree.CFunction.{CFunction}
 use Rattle.cmeaning.specs.Agree.{AgreesWith}
@@ -85,16 +84,12 @@ shown_p l e n = seen_p l (frame_of l no_variables) (entry_of l e) n
 abbrev pub shown_c : Listing → CFunction → Entry → ℕ → Trace
 shown_c l f e n = seen_c l f (entry_of l e) n
 
--- each read-only byte is a byte
-abbrev pub HasBytes : Listing → Type 0
-HasBytes l = (space offset byte : ℕ) → fixed_byte l space offset ≡ Some byte → byte < 256
-
 -- The text of what both machines have shown after so many steps. Where the function agrees with the listing they are
 -- never told to be apart.
 pub record IsShown (l : Listing) (f : CFunction) (e : Entry) (n : ℕ) (text : List ℕ) : Type 0 where
   pub comparison : Comparison
   pub says : Says (within (shown_p l e n)) (within (shown_c l f e n)) comparison
-  pub never_apart : HasBytes l → AgreesWith l (frame_of l no_variables) f → comparison ≡ Apart → ⊥
+  pub never_apart : AgreesWith l (frame_of l no_variables) f → comparison ≡ Apart → ⊥
   pub is : text ≡ both_text l (shown_p l e n) (shown_c l f e n) comparison
 
 abbrev pub IsTold : Listing → CFunction → Entry → ℕ → Answer → Type 0

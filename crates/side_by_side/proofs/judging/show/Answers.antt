@@ -17,7 +17,7 @@ run_c-requires-clause-few c = let few = c.requires.formed.limited.spaces in omeg
 pub returns : goal.returns
 returns c =
     let l = c.args.parsed.now.listing in
-    shown_is l c.args.parsed.now.function c.args.parsed.now.entry c.args.steps c.requires.lies c.empty-frame.result
+    shown_is l c.args.parsed.now.function c.args.parsed.now.entry c.args.steps c.requires.formed c.requires.lies c.empty-frame.result
     c.in_ok-p.p c.in_ok-c.c c.compare-comparison.result _
     c.empty-frame.ensures c.in_ok-p.ensures c.in_ok-c.ensures c.compare-comparison.ensures
     (c.in_ok-put_both.ensures ∙ ap (λ (xs : List ℕ). xs
