@@ -23,7 +23,7 @@ fn turned(alloc: Global, blocks: Blocks) -> Result<Vec<Block>, Memory>
 }
 
 /// The body of a C function that the code stands for, by the code's own numbers. `Memory` where memory runs out.
-pub fn laid_body(alloc: Global, code: Code) -> Result<Body, Memory>
+pub(crate) fn laid_body(alloc: Global, code: Code) -> Result<Body, Memory>
     requires { length code.blocks < 2 ^ 32 - 1 }
     ensures { IfOk result (λ b. b ≡ body_of code) }
 {

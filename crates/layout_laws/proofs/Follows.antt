@@ -26,7 +26,7 @@ use Rattle.blockcode.specs.Run.{CodeState, widths, call_returns, enters, code_st
 use Rattle.blockcode.specs.CanLay.{AreSimple, CanLeave, has_switch}
 use Rattle.blockcode.specs.Laid.{goto, exit_lines, laid_from}
 use Rattle.blockcode.proofs.Straight.{dropped, get_of_drop, rest_of_drop, step_in}
-use Rattle.layout_laws.specs.Run.{flat_machine}
+use Rattle.naming.specs.Run.{flat_machine}
 use Rattle.layout_laws.proofs.Pieces.{steps_of}
 use Rattle.layout_laws.proofs.Positions.{label_steps}
 

@@ -16,7 +16,7 @@ use Rattle.blockcode.specs.Run.{widths, first_local, start_code, seen_code, code
 use Rattle.blockcode.specs.Laid.{jump_names, blocks_name, laid_body}
 use Rattle.blockcode.specs.CanLay.{CanLay, has_switch}
 use Rattle.blockcode.proofs.Grows.{code_grows}
-use Rattle.layout_laws.specs.Run.{body_machine, flat_machine}
+use Rattle.naming.specs.Run.{body_machine, flat_machine}
 use Rattle.layout_laws.proofs.Follows.{Related, body_run, arrives}
 use Rattle.layout_laws.proofs.Ends.{simulates, two_way_later}
 use Rattle.layout_laws.proofs.Laid.{jump_leads, jump_named, lines, lines_given, true_or}
