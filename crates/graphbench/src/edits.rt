@@ -73,3 +73,49 @@ pub fn of_graph(alloc: Global, count: u32) -> Result<u64, Memory> {
     }
     Ok(3 * u64::from(count))
 }
+
+/// How many inputs the MULTIEQUAL has.
+const INPUTS: u32 = 2_000;
+
+fn multi_of(graph: &mut OpGraph, block: BlockId, constant: OpId) -> Result<OpId, Memory> {
+    if !graph.contains_block(block) {
+        return Ok(constant);
+    }
+    let multi = graph.add_multi(block, 0, WIDTH)?;
+    for _ in 0..INPUTS {
+        if graph.contains_op(multi) && graph.contains_value(value(constant)) {
+            graph.push_input(multi, value(constant))?;
+        }
+    }
+    Ok(multi)
+}
+
+/// How many inputs of the op read the constant.
+fn readers(graph: &OpGraph, op: OpId, constant: OpId) -> u64 {
+    let mut count = 0_u64;
+    if graph.contains_op(op) {
+        for v in graph.inputs(op) {
+            if v.0 == constant.0 {
+                count = count.saturating_add(1);
+            }
+        }
+    }
+    count
+}
+
+/// Makes a MULTIEQUAL of many inputs and reads them all so many times. Answers how many inputs were read.
+pub fn of_multi(alloc: Global, count: u32) -> Result<u64, Memory> {
+    let mut graph = OpGraph::new(alloc);
+    let block = graph.add_block()?;
+    let constant = if graph.contains_block(block) {
+        graph.add_op(block, Code::Const(1), &[], Some(WIDTH))?
+    } else {
+        return Ok(0);
+    };
+    let multi = multi_of(&mut graph, block, constant)?;
+    let mut read = 0_u64;
+    for _ in 0..count {
+        read = read.saturating_add(readers(&graph, multi, constant));
+    }
+    Ok(read)
+}

@@ -1,5 +1,6 @@
 //! A benchmark of the operation graph against a plain array of ops with indices: `graphbench graph N`
 //! and `graphbench array N` each add N ops, retarget each of them and remove each. Compare their times.
+//! `graphbench multi N` reads a MULTIEQUAL of 2,000 inputs N times.
 #![tactic(auto)]
 
 mod array;
@@ -9,11 +10,12 @@ use std::env;
 use std::io::ErrorKind;
 use std::process::ExitCode;
 
-/// Which of the two is timed.
+/// Which of them is timed.
 #[derive(Clone, Copy)]
 enum Which {
     Graph,
     Array,
+    Multi,
 }
 
 /// The two words of the command line.
@@ -39,6 +41,7 @@ fn words_of(rt: &HostRuntime) -> Result<Words, u8> {
     let which = match which.as_str() {
         "graph" => Which::Graph,
         "array" => Which::Array,
+        "multi" => Which::Multi,
         _ => return Err(BAD_WORDS),
     };
     match count.as_str().parse::<u32>() {
@@ -52,12 +55,13 @@ fn main(rt: HostRuntime) -> ExitCode {
         Ok(words) => words,
         Err(status) => return ExitCode::from(status),
     };
-    let edits = match words.which {
+    let done = match words.which {
         Which::Graph => edits::of_graph(rt.alloc(), words.count),
         Which::Array => array::of_array(rt.alloc(), words.count),
+        Which::Multi => edits::of_multi(rt.alloc(), words.count),
     };
-    match edits {
-        Ok(count) if println!(rt; "{count} edits").is_ok() => ExitCode::from(0),
+    match done {
+        Ok(count) if println!(rt; "{count} done").is_ok() => ExitCode::from(0),
         _ => ExitCode::from(NO_MEMORY),
     }
 }

@@ -1,5 +1,5 @@
 -- Numbers that are listed once each, and what is found by them.
-use Rattle.std.proofs.Common.{◌≡◌, ℕ, zero, suc, ◌+◌, ◌-◌, ◌<◌, ◌≤◌, Bool, true, false, cond, List, [], ◌∷◌, ◌++◌, length, refl, sym, ap, ap₂, ◌∙◌, subst, Option, Some, None, arith}
+use Rattle.std.proofs.Common.{◌≡◌, ℕ, zero, suc, ◌+◌, ◌<◌, ◌≤◌, Bool, true, false, cond, List, [], ◌∷◌, ◌++◌, length, refl, sym, ap, ap₂, ◌∙◌, subst, Option, Some, arith}
 use Rattle.std.specs.Prelude.{◌==◌, slice_get}
 use Rattle.std.proofs.lemmas.Bool.{eqb-true}
 use Rattle.std.proofs.lemmas.Bool.Decides.{nat_tests}
@@ -102,6 +102,9 @@ many_past x xs a (suc k) past =
     let before : a + k ≤ x = omega (arith, past) in
     ap₂ (λ (b : Bool) (m : ℕ). cond (or b (is_listed (a + k) xs)) 1 0 + m) other (many_past x xs a k before)
 
+more : (c m n : ℕ) → m ≡ suc n → c + m ≡ suc (c + n)
+more c m n is = omega (arith, is)
+
 many_in : (x : ℕ) (xs : List ℕ) (a k : ℕ)
     → is_listed x xs ≡ false
     → a ≤ x
@@ -125,10 +128,7 @@ many_in x xs a (suc k) new from to =
         sum ∙ ap (λ b. suc (cond b 1 0 + many xs a k)) (sym not_yet)
     by_test false same next =
         let low : x < a + k = grind (arith, nat_tests, same, to) in
-        let rest = next low in
-        let c = cond (is_listed (a + k) xs) 1 0 in
-        let sum : c + suc (many xs a k) ≡ suc (c + many xs a k) = omega arith in
-        ap (λ m. c + m) rest ∙ sum
+        more (cond (is_listed (a + k) xs) 1 0) (many (x ∷ xs) a k) (many xs a k) (next low)
 
 abbrev pub IsWithin : ℕ → ℕ → ℕ → Type 0
 IsWithin a k x = (a ≤ x) × (x < a + k)

@@ -1,6 +1,6 @@
 -- The function that is made of a body below a head that has all that the body mentions: its numbers are those of a valid
 -- function, and it keeps what is mentioned.
-use Rattle.std.proofs.Common.{◌≡◌, ℕ, zero, suc, ◌+◌, ◌-◌, ◌^◌, ◌<◌, ◌≤◌, Bool, true, false, cond, List, [], ◌∷◌, length, map, refl, sym, ap, ap₂, ◌∙◌, subst, Option, Some, None, arith}
+use Rattle.std.proofs.Common.{◌≡◌, ℕ, zero, suc, ◌+◌, ◌-◌, ◌^◌, ◌<◌, ◌≤◌, Bool, true, false, cond, List, [], ◌∷◌, length, map, refl, sym, ap, ◌∙◌, Option, Some, None, arith}
 use Rattle.std.specs.Prelude.{◌==◌, nat_lt, slice_get}
 use Rattle.std.proofs.lemmas.Bool.{ltb-true}
 use Rattle.std.proofs.lemmas.Bool.Decides.{nat_tests}
@@ -19,7 +19,7 @@ use Rattle.naming.specs.declared.head.Head.{Head}
 use Rattle.naming.specs.declared.order.Order.{Order}
 use Rattle.naming.specs.Listed.{is_listed, place_in}
 use Rattle.naming.specs.First.{none_noted, order_of, variable_number, names_of, next_of}
-use Rattle.naming.specs.Named.{local_of, declared_all, named_function}
+use Rattle.naming.specs.Named.{local_of, named_function}
 use Rattle.naming.specs.Renamed.{Names, mention_by}
 use Rattle.naming.specs.Run.{widths_of, returns_of}
 use Rattle.naming_laws.specs.Kept.{Kept, KeepsOne}
@@ -28,7 +28,7 @@ use Rattle.naming_laws.specs.Rules.{Obeys, ObeysOne}
 use Rattle.naming_laws.proofs.Places.{place_within}
 use Rattle.naming_laws.proofs.Numbers.{AreDeclared, numbered_first}
 use Rattle.naming_laws.proofs.Mentions.{in_body_by}
-use Rattle.naming_laws.proofs.Found.{All, all_map, of_listed, are_few, IsFound, IsWithin, found_long, found_at}
+use Rattle.naming_laws.proofs.Found.{All, all_map, are_few, IsFound, IsWithin, found_long, found_at}
 use Rattle.naming_laws.proofs.Callees.{addresses, addresses_are, declared_again}
 use Rattle.naming_laws.proofs.Orders.{IsSound, sound, IsIn, AllIn, mentioned_in}
 

@@ -99,11 +99,17 @@ abbrev pub AllIn : Order → List Mention → Type 0
 AllIn o [] = Unit {0}
 AllIn o (x ∷ xs) = IsIn o x × AllIn o xs
 
-in_later : (f o : Order) (x : Mention) → IsLater f (noted o x) → IsIn f x
-in_later f o (Variable v) later above =
+in_variable : (f o : Order) (v : ℕ)
+    → IsLater f (noted o (Variable v))
+    → nat_lt v f.params ≡ false
+    → is_listed v f.variables ≡ true
+in_variable f o v later above =
     let other : nat_lt v o.params ≡ false = ap (nat_lt v) (sym later.params) ∙ above in
     in_one o.variables f.variables v
     (subst (λ (b : Bool). GoesOn (cond b o.variables (with_one o.variables v)) f.variables) other later.variables)
+
+in_later : (f o : Order) (x : Mention) → IsLater f (noted o x) → IsIn f x
+in_later f o (Variable v) later = in_variable f o v later
 in_later f o (Callee a) later = in_one o.callees f.callees a later.callees
 in_later f o (LabelLine n) later = in_one o.labels f.labels n later.labels
 

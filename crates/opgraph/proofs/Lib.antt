@@ -10,3 +10,4 @@ pub mod Empty
 pub mod Sames
 pub mod Runs
 pub mod LowSlots
+pub mod Counts

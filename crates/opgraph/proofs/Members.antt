@@ -3,7 +3,8 @@ use Rattle.std.proofs.Common.{◌≡◌, ℕ, ◌↔◌, Option, Some, None, IsS
 use Rattle.bits_core.specs.declared.word.Width.{Width}
 use Rattle.opgraph.specs.declared.code.Body.{Body}
 use Rattle.node_lists.specs.Families.{Family, key_at}
-use Rattle.opgraph.specs.Graph.{OpRow, IsOp, has_width}
+use Rattle.node_lists.specs.Chains.{IsIn}
+use Rattle.opgraph.specs.Graph.{OpRow, Graph, op_at, block_at, in_block, IsWhole, IsOp, has_width}
 use Rattle.opgraph.specs.Parts.{graph_of, Good}
 use Rattle.heap_nodes.proofs.Places.{some_of}
 use Rattle.opgraph.proofs.Tables.{op_at_is, value_of}
@@ -34,3 +35,15 @@ width_there (Some r) w h e = (subst IsSome e, subst IsSome (sym e))
 pub has_op : (r : Option OpRow) → has_width r → IsSome r
 has_op None h = absurd h
 has_op (Some r) h = refl
+
+-- what is in a block is an op
+pub op_in_block : (g : Graph)
+    → IsWhole g
+    → (b x : ℕ)
+    → IsIn x (block_at g b)
+    → IsOp g x
+op_in_block g w b x m = by_row (op_at g x) ((w.ops b x).0 m)
+  where
+    by_row : (r : Option OpRow) → in_block b r → IsSome r
+    by_row None h = absurd h
+    by_row (Some r) h = refl

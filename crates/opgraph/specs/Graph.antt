@@ -1,7 +1,8 @@
 -- What a contract sees of a graph of operations. This project's own.
-use Rattle.std.specs.Prelude.{◌≡◌, ℕ, ◌<◌, ◌==◌, if◌then◌else◌, List, [], ◌∷◌, ◌⊎◌, ◌↔◌, length, map, Option, Some, None, IsSome, slice_get}
+use Rattle.std.specs.Prelude.{◌≡◌, ℕ, ◌+◌, ◌<◌, ◌^◌, ◌==◌, if◌then◌else◌, List, [], ◌∷◌, ◌⊎◌, ◌↔◌, length, map, Option, Some, None, IsSome, slice_get}
 use Rattle.bits_core.specs.declared.word.Width.{Width}
 use Rattle.opgraph.specs.declared.code.Code.{Code}
+use Rattle.opgraph.specs.declared.ids.OpId.{OpId}
 use Rattle.opgraph.specs.declared.ids.Slot.{Slot}
 use Rattle.opgraph.specs.declared.ids.ValueId.{ValueId}
 use Rattle.node_lists.specs.Chains.{IsIn, Apart, removed, put_at}
@@ -71,6 +72,15 @@ AreValues g (v ∷ vs) = IsValue g v × AreValues g vs
 abbrev pub numbers : List ValueId → List ℕ
 numbers = map (λ (v : ValueId). v.0)
 
+-- the values of these numbers
+abbrev pub value_ids : List ℕ → List ValueId
+value_ids = map (λ (v : ℕ). record { 0 = v })
+
+-- the number of an op
+abbrev pub op_number : Option OpId → Option ℕ
+op_number None = None
+op_number (Some op) = Some op.0
+
 -- a slot reads the value
 abbrev pub Reads : Graph → Slot → ℕ → Type 0
 Reads g t v = slice_get (inputs_in (op_at g t.op.0)) t.slot ≡ Some v
@@ -99,6 +109,17 @@ pub record IsWhole (g : Graph) : Type 0 where
   pub ops : (b : ℕ) (x : ℕ) → IsIn x (block_at g b) ↔ in_block b (op_at g x)
   pub ops_once : (b : ℕ) → Apart (block_at g b)
   pub values : (t : Slot) (v : ℕ) → Reads g t v → IsValue g v
+
+-- how many numbers there are in all the lists
+abbrev pub total : List (List ℕ) → ℕ
+total [] = 0
+total (xs ∷ xss) = length xs + total xss
+
+-- the greatest numbers: of blocks, of ops with the spare ones, and of inputs with the spare slots
+pub record IsCounted (g : Graph) : Type 0 where
+  pub blocks : length g.blocks < 2 ^ 32
+  pub ops : total g.blocks + g.spare_ops < 2 ^ 32
+  pub slots : total (map inputs_in g.ops) + g.spare_slots < 2 ^ 32
 
 -- all is the same but maybe the spares
 pub record Same (old new : Graph) : Type 0 where

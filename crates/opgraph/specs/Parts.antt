@@ -4,6 +4,7 @@ use Rattle.std.specs.Prelude.{◌≡◌, ℕ, zero, suc, ◌<◌, ◌≤◌, if�
 use Rattle.opgraph.specs.declared.code.Body.{Body}
 use Rattle.opgraph.specs.declared.ids.Slot.{Slot}
 use Rattle.opgraph.specs.declared.ids.OpId.{OpId}
+use Rattle.opgraph.specs.declared.ids.ValueId.{ValueId}
 use Rattle.node_lists.specs.Families.{Family, list_at, key_at, IsFull}
 use Rattle.node_lists.specs.Chains.{same_key}
 use Rattle.opgraph.specs.Graph.{OpRow, Graph}
@@ -33,6 +34,10 @@ row_of o i u x = row_slot (key_at o x) (slice_get o.held x) (inputs_of i u x)
 -- the op and the place of a slot
 abbrev pub slot_of : Family ℕ → ℕ → Slot
 slot_of i s = record { op = record { 0 = or_zero (key_at i s) }; slot = or_zero (slice_get i.held s) }
+
+-- the value that a slot reads
+abbrev pub value_read : Family (Unit {0}) → ℕ → ValueId
+value_read u s = record { 0 = or_zero (key_at u s) }
 
 -- the slots that read a value
 abbrev pub uses_of : Family ℕ → Family (Unit {0}) → ℕ → List Slot

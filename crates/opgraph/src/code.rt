@@ -3,7 +3,7 @@ use bits_core::Width;
 use pcode_model::ParamStorage;
 
 /// What an op does.
-#[derive(Clone, Copy)]
+#[derive(Clone, Copy, Debug, PartialEq, Eq)]
 pub enum Code {
     /// A constant.
     Const(u128),

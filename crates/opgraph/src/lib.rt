@@ -29,4 +29,4 @@ pub mod walks;
 pub use code::{Body, Code};
 pub use graph::OpGraph;
 pub use ids::{BlockId, OpId, Slot, ValueId};
-pub use walks::{BlockOps, Uses};
+pub use walks::{BlockOps, OpInputs, Uses};

@@ -1,6 +1,7 @@
 //! What the graph says.
-ghost use Rattle.std.specs.Prelude.{◌≡◌, ◌<◌, ◌↔◌, length, Some, IsTrue, IsSome, IfSome, slice_get};
-ghost use Rattle.opgraph.specs.Graph.{OpRow, op_at, IsOp, IsBlock, IsValue, inputs_in, IsWhole};
+ghost use Rattle.std.specs.Prelude.{◌≡◌, ◌<◌, ◌↔◌, length, None, Some, IsTrue, IsSome, IfSome, slice_get};
+ghost use Rattle.node_lists.specs.Chains.{last_or};
+ghost use Rattle.opgraph.specs.Graph.{OpRow, op_at, block_at, op_number, IsOp, IsBlock, IsValue, inputs_in, IsWhole, IsCounted};
 
 use crate::code::Code;
 use crate::graph::OpGraph;
@@ -13,6 +14,15 @@ impl OpGraph {
         ensures { IsWhole self.now }
     {
         let _ = &self.ops;
+    }
+
+    /// There are at most 2^32 - 1 blocks, as many ops with the spare ones, and as many inputs with the spare slots.
+    pub fn counted(&self)
+        ensures { IsCounted self.now }
+    {
+        let _ops = self.ops.size();
+        let _blocks = self.ops.lists();
+        let _slots = self.inputs.size();
     }
 
     /// Whether the op is in the graph.
@@ -42,6 +52,19 @@ impl OpGraph {
         ensures { IsTrue result ↔ IsBlock self.now b.0 }
     {
         b.0 < self.ops.lists()
+    }
+
+    /// The last op of a block.
+    pub fn last_op(&self, b: BlockId) -> Option<OpId>
+        requires { IsBlock self.now b.0 }
+        ensures last { op_number result ≡ last_or None (block_at self.now b.0) }
+        ensures known { IfSome result (λ op. IsOp self.now op.0) }
+    {
+        self.known();
+        match self.ops.last(Some(b.0)) {
+            None => None,
+            Some(op) => Some(OpId(op)),
+        }
     }
 
     /// The op whose value it is.

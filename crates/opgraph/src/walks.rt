@@ -1,7 +1,7 @@
-//! The ops of a block, and the uses of a value, one by one.
+//! The ops of a block, the inputs of an op, and the uses of a value, one by one.
 ghost use Rattle.std.specs.Prelude.{◌≡◌, ℕ, length, drop, slice_get};
 ghost use Rattle.std.specs.Iterator.{at_most};
-ghost use Rattle.opgraph.specs.Graph.{block_at, uses_at, IsBlock, IsValue, IsWhole};
+ghost use Rattle.opgraph.specs.Graph.{block_at, uses_at, op_at, inputs_in, value_ids, IsBlock, IsOp, IsValue, IsWhole};
 ghost use Rattle.opgraph.specs.Parts.{op_ids};
 
 use crate::code::Body;
@@ -37,6 +37,40 @@ impl<'a> Iterator for BlockOps<'a> {
         match self.walk.next() {
             None => None,
             Some(op) => Some(OpId(op)),
+        }
+    }
+}
+
+/// The values that the inputs of an op read, in order.
+#[derive(Drop)]
+pub struct OpInputs<'a> {
+    walk: Walk<'a, u32>,
+    uses: &'a Lists<()>,
+}
+
+impl<'a> Model for OpInputs<'a> {
+    ghost use Rattle.std.specs.Prelude.{List, length, map};
+    ghost use Rattle.opgraph.specs.Parts.{value_read, AreLow};
+    ghost use Rattle.opgraph.specs.declared.ids.ValueId.{ValueId};
+
+    ghost Value = { List ValueId };
+
+    ghost view = { λ i. map (value_read i.uses.now) i.walk };
+
+    ghost invariant = { λ i. AreLow i.walk (length i.uses.now.held) };
+}
+
+impl<'a> Iterator for OpInputs<'a> {
+    type Item = ValueId;
+
+    ghost next_gives = { λ s r t. (r ≡ slice_get s 0) × (t ≡ drop 1 s) };
+
+    ghost remaining = { λ s. at_most (length s) };
+
+    fn next(&mut self) -> Option<ValueId> {
+        match self.walk.next() {
+            None => None,
+            Some(slot) => Some(ValueId(self.uses.list(slot).unwrap_or(0))),
         }
     }
 }
@@ -88,6 +122,19 @@ impl OpGraph {
         self.known();
         BlockOps {
             walk: self.ops.walk(Some(b.0)),
+        }
+    }
+
+    /// The values that the inputs of an op read, in order.
+    pub fn inputs(&self, op: OpId) -> OpInputs<'_>
+        requires { IsOp self.now op.0 }
+        ensures items { result ≡ value_ids (inputs_in (op_at self.now op.0)) }
+        ensures whole { IsWhole self.now }
+    {
+        self.known();
+        OpInputs {
+            walk: self.inputs.walk(Some(op.0)),
+            uses: &self.uses,
         }
     }
 

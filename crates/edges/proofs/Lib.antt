@@ -1,0 +1,12 @@
+pub mod Codes
+pub mod Grows
+pub mod Follow
+pub mod Steps
+pub mod Strict
+pub mod Returns
+pub mod Dead
+pub mod Copies
+pub mod Leave
+pub mod Merge
+pub mod Small
+pub mod Swap

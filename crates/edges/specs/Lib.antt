@@ -1,0 +1,9 @@
+pub mod Exits
+pub mod Run
+pub mod Live
+pub mod Follow
+pub mod Dead
+pub mod Leave
+pub mod Merge
+pub mod Small
+pub mod Laws

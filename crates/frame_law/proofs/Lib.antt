@@ -1,0 +1,4 @@
+pub mod Keeps
+pub mod Memories
+pub mod States
+pub mod Worked

@@ -1,0 +1,12 @@
+pub mod Arithmetic
+pub mod Booleans
+pub mod Comparisons
+pub mod Folds
+pub mod Has
+pub mod Nodes
+pub mod Parts
+pub mod Shapes
+pub mod Shifts
+pub mod Sound
+pub mod Total
+pub mod Words

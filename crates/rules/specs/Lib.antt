@@ -1,0 +1,11 @@
+pub mod Arithmetic
+pub mod Booleans
+pub mod Comparisons
+pub mod Folds
+pub mod Keeps
+pub mod Letters
+pub mod Parts
+pub mod Readings
+pub mod Shifts
+pub mod Size
+pub mod Table

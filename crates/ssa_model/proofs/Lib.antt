@@ -1,0 +1,5 @@
+pub mod Renaming
+pub mod Rows
+pub mod Lists
+pub mod Places
+pub mod Forms

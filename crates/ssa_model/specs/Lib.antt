@@ -1,0 +1,9 @@
+pub mod Roles
+pub mod Outline
+pub mod Paths
+pub mod Formed
+pub mod Lines
+pub mod Text
+pub mod Examples
+pub mod Worked
+pub mod Edits

@@ -1,0 +1,5 @@
+use Rattle.words.proofs.Rows as rows
+use Rattle.words.proofs.worked.words_refused.Goals as goal
+
+pub returns : goal.returns
+returns c = rows.refused
