@@ -18,14 +18,14 @@ use Rattle.layout_laws.proofs.Follows.{Lines, StandsFrom, Leads, JumpLeads, Arms
 
 -- ---- blocks that a goto names
 
-or_true : (a b : Bool) → b ≡ true → or a b ≡ true
+pub or_true : (a b : Bool) → b ≡ true → or a b ≡ true
 or_true true b e = refl
 or_true false b e = e
 
 pub true_or : (a b : Bool) → a ≡ true → or a b ≡ true
 true_or a b e = ap (λ x. or x b) e
 
-same_number : (n : ℕ) → (n == n) ≡ true
+pub same_number : (n : ℕ) → (n == n) ≡ true
 same_number n = grind (arith, nat_tests)
 
 pub jump_named : (next to : ℕ) → to ≢ next → jump_names next to to ≡ true
@@ -48,7 +48,7 @@ exit_named (y ∷ blocks) n (suc c) x b m e f h =
     or_true (exit_names (suc n) y.exit b) (blocks_name (suc n) blocks b)
     (exit_named blocks (suc n) c x b m e (omega (arith, f)) h)
 
-block_names : (k : Code) (n : ℕ) (x : Block) (b : ℕ)
+pub block_names : (k : Code) (n : ℕ) (x : Block) (b : ℕ)
     → slice_get k.blocks n ≡ Some x
     → exit_names (suc n) x.exit b ≡ true
     → is_named k b ≡ true
@@ -57,7 +57,7 @@ block_names k n x b e h = or_true (jump_names 0 k.entry b) (blocks_name 0 k.bloc
 
 -- ---- what is said of each block
 
-below_at : (m : ℕ) (blocks : List Block) (n : ℕ) (x : Block)
+pub below_at : (m : ℕ) (blocks : List Block) (n : ℕ) (x : Block)
     → ExitsBelow m blocks
     → slice_get blocks n ≡ Some x
     → ExitBelow m x.exit

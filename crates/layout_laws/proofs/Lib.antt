@@ -4,4 +4,7 @@ pub mod Positions
 pub mod Follows
 pub mod Ends
 pub mod Laid
+pub mod Declared
 pub mod Keeps
+pub mod Covered
+pub mod Obeys
