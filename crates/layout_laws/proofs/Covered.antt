@@ -59,17 +59,17 @@ in_jump next to = by (to == next) where
 -- ---- known by the head
 
 module _ (h : Head) where
-  knows_append : (xs ys : List Mention) → Knows h xs → Knows h ys → Knows h (xs ++ ys)
+  pub knows_append : (xs ys : List Mention) → Knows h xs → Knows h ys → Knows h (xs ++ ys)
   knows_append [] ys k l = l
   knows_append (x ∷ xs) ys k l = (k.0, knows_append xs ys k.1 l)
 
-  knows_in : (xs ys : List Stmt) → Knows h (in_body xs) → Knows h (in_body ys) → Knows h (in_body (xs ++ ys))
+  pub knows_in : (xs ys : List Stmt) → Knows h (in_body xs) → Knows h (in_body ys) → Knows h (in_body (xs ++ ys))
   knows_in xs ys k l = subst (Knows h) (sym (in_append xs ys)) (knows_append (in_body xs) (in_body ys) k l)
 
   knows_none : (xs : List Mention) → xs ≡ [] → Knows h xs
   knows_none xs none = subst (Knows h) (sym none) tt
 
-  knows_one : (s : Stmt) (xs : List Mention) → in_stmt s ≡ xs → Knows h xs → Knows h (in_body (s ∷ []))
+  pub knows_one : (s : Stmt) (xs : List Mention) → in_stmt s ≡ xs → Knows h xs → Knows h (in_body (s ∷ []))
   knows_one s xs is k = knows_append (in_stmt s) [] (subst (Knows h) (sym is) k) tt
 
   knows_exit : (next : ℕ) (e : Exit) → ExitSuits h e → Knows h (in_body (exit_lines next e))

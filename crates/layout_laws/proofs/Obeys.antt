@@ -77,7 +77,7 @@ module _ (h : Head) (leads : ℕ → Bool) where
   abbrev Obey : List Stmt → Type 0
   Obey ss = (after : Bool) → all_hold after (rules ss) false 256 ≡ true
 
-  rule_is : (s : Stmt) (y : Stmt-F Stmt Branch)
+  pub rule_is : (s : Stmt) (y : Stmt-F Stmt Branch)
       → roll-Stmt y ≡ s
       → own_rule h leads s ≡ own_step h leads (map-Stmt Stmt Branch Rule Cased (own_rule h leads) (own_cased h leads) y)
   rule_is s y is = ap (own_rule h leads) (sym is) ∙ own_roll h leads y
@@ -93,13 +93,13 @@ module _ (h : Head) (leads : ℕ → Bool) where
       ap (λ b. b && all_hold (own_rule h leads x).calls (rules (xs ++ ys)) false 256) parts.0
       ∙ holds_append xs ys (own_rule h leads x).calls parts.1 p
 
-  obey_append : (xs ys : List Stmt) → Obey xs → Obey ys → Obey (xs ++ ys)
+  pub obey_append : (xs ys : List Stmt) → Obey xs → Obey ys → Obey (xs ++ ys)
   obey_append xs ys o p after = holds_append xs ys after (o after) p
 
-  obey_none : Obey []
+  pub obey_none : Obey []
   obey_none after = refl
 
-  obey_one : (s : Stmt) → ((after : Bool) → (own_rule h leads s).holds after false 255 ≡ true) → Obey (s ∷ [])
+  pub obey_one : (s : Stmt) → ((after : Bool) → (own_rule h leads s).holds after false 255 ≡ true) → Obey (s ∷ [])
   obey_one s o after = ap (λ b. b && true) (o after)
 
   goto_holds : (n : ℕ) (after in_loop : Bool) (room : ℕ)

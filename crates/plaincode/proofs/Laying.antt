@@ -14,6 +14,7 @@ use Rattle.pcode_model.specs.declared.atoms.Atom.{Atom}
 use Rattle.pcode_model.specs.declared.flow.Exit as flow_exit
 use Rattle.pcode_model.specs.declared.flow.Exit.TheVariants as F
 use Rattle.pcode_model.specs.declared.flow.Block as flow_block
+use Rattle.pcode_model.specs.Spaces.{or}
 use Rattle.pcode_model.specs.Places.{Standing, Nothing, Passes, Does, standing}
 use Rattle.pcode_model.specs.Step.{first_place}
 use Rattle.pcode_model.specs.Flow.{IsIn, IsFlow, turn_of, turn_in, next_in, IsStart, JumpsTo, TestsTo, LeavesBy, RunsBlock, AllRun, starts_of, places_of, first_in, Entry}
@@ -26,8 +27,8 @@ use Rattle.blockcode.specs.declared.code.Exit.{Exit}
 use Rattle.blockcode.specs.declared.code.Exit.TheVariants as X
 use Rattle.blockcode.specs.declared.code.Block.{Block}
 use Rattle.blockcode.specs.Numbers.{ExitBelow, ExitsBelow}
-use Rattle.blockcode.specs.CanLay.{AllSimple, AreSimple, CanLay, CanLeave, IsSimple}
-use Rattle.plaincode.specs.Lowered.{ranges_of, variable_for, variable_of, assigns, op_statements, statements_in, statements, body_of, exit_by, exit_of, block_of, same_place, place_number, lowered}
+use Rattle.blockcode.specs.CanLay.{AllSimple, AreSimple, CanLay, CanLeave, IsSimple, any_switch, has_switch, is_switch}
+use Rattle.plaincode.specs.Lowered.{ranges_of, variable_for, variable_of, assigns, op_statements, statements_in, statements, body_of, condition_in, exit_by, exit_of, block_of, same_place, place_number, lowered}
 use Rattle.plaincode.specs.Form.{IsPlainOp, IsPlain, IsPlainForm}
 use Rattle.plaincode.proofs.Members.{behind}
 use Rattle.plaincode.proofs.Follows.{in_block}
@@ -246,3 +247,32 @@ can_lay returns l t blocks atoms form =
       simple = blocks_simple l ranges returns blocks;
       leaves = λ n x e. (fits n x e).0 x.body;
     }
+
+-- ---- no switch yet
+
+module _ (l : Listing) (ranges : List Varnode) where
+  no_switch_by : (here : Standing) (e : flow_exit.Exit) → is_switch (exit_by l ranges here e) ≡ false
+  no_switch_by here F.Return = refl
+  no_switch_by here (F.Jump n) = refl
+  no_switch_by here (F.Test m n) = by (condition_in l ranges here) (m == n) where
+    by : (c : Expr) (same : Bool) → is_switch (cond same (X.Jump m) (X.Test c m n)) ≡ false
+    by c true = refl
+    by c false = refl
+  no_switch_by here (F.Switch t ns) = refl
+  no_switch_by here F.Stop = refl
+
+  no_switch_of : (ps : List Place) (e : flow_exit.Exit) → is_switch (exit_of l ranges ps e) ≡ false
+  no_switch_of [] e = refl
+  no_switch_of (p ∷ []) e = no_switch_by (standing l p) e
+  no_switch_of (p ∷ q ∷ ps) e = no_switch_of (q ∷ ps) e
+
+  none_switches : (blocks : List flow_block.Block) → any_switch (map (block_of l ranges) blocks) ≡ false
+  none_switches [] = refl
+  none_switches (b ∷ blocks) =
+      ap (λ t. or t (any_switch (map (block_of l ranges) blocks))) (no_switch_of b.places b.exit)
+      ∙ none_switches blocks
+
+-- The code has no switch.
+pub no_switch : (l : Listing) (blocks : List flow_block.Block) (atoms : List Atom)
+    → has_switch (lowered l blocks atoms) ≡ false
+no_switch l blocks atoms = none_switches l (ranges_of l atoms) blocks
