@@ -72,16 +72,16 @@ module _ (l : Listing) (ws : ℕ → ℕ) where
     by true = refl
     by false = goto_fits to
 
+  arm_fits_is : (a : Branch) → arm_fits l ws a ≡ body_fits l ws a.body
+  unfolding stmt_fits arm_fits
+  arm_fits_is a = fold_out-Arm Bool Bool (fits_step l ws) arm_step a
+
   branches_fit : (arms : List Arm) (ts : List ℕ) → all_true (map (arm_fits l ws) (map (branch_to arms) ts)) ≡ true
   branches_fit arms [] = refl
   branches_fit arms (t ∷ ts) =
       ap (λ b. b && all_true (map (arm_fits l ws) (map (branch_to arms) ts)))
       (arm_fits_is (branch_to arms t) ∙ goto_fits t)
       ∙ branches_fit arms ts
-    where
-      arm_fits_is : (a : Branch) → arm_fits l ws a ≡ body_fits l ws a.body
-      unfolding stmt_fits arm_fits
-      arm_fits_is a = fold_out-Arm Bool Bool (fits_step l ws) arm_step a
 
   if_fits : (c : Expr) (body : List Stmt) → Fit body → Fit (S.If c body ∷ [])
   if_fits c body h = one_fits (S.If c body) (fits_layer (S.If c body) (Stmt-F.If c body) (S.rolls-If c body) ∙ h)
