@@ -1,12 +1,12 @@
-//! The labels of blocks.
+//! The blocks that gotos name.
 
 ghost use Rattle.std.specs.Prelude.{◌≡◌, ℕ, ◌+◌, ◌-◌, ◌^◌, ◌<◌, ◌==◌, false, length, IfOk};
 ghost use Rattle.std.specs.List.{slice_index_or};
 ghost use Rattle.pcode_model.specs.Spaces.{or as either};
-ghost use Rattle.blockcode.specs.Laid.{exit_names, jump_names, is_named, flags_from, labels_of};
+ghost use Rattle.blockcode.specs.Laid.{arms_name, exit_names, jump_names, is_named};
 
 use bits_core::Memory;
-use blockcode::{Code, Exit};
+use blockcode::{Arm, Code, Exit};
 use std::alloc::Global;
 
 fn mark(named: &mut Vec<bool>, block: u32)
@@ -28,6 +28,15 @@ fn mark_jump(named: &mut Vec<bool>, next: u32, to: u32)
     }
 }
 
+fn mark_arms(named: &mut Vec<bool>, arms: &[Arm])
+    ensures length { length named.new.items ≡ length named.old.items }
+    ensures flags { (b : ℕ) → b < length named.new.items → slice_index_or named.new.items b false ≡ either (arms_name arms.now b) (slice_index_or named.old.items b false) }
+{
+    for arm in arms {
+        mark(named, arm.to);
+    }
+}
+
 fn mark_exit(named: &mut Vec<bool>, next: u32, exit: &Exit)
     ensures length { length named.new.items ≡ length named.old.items }
     ensures flags { (b : ℕ) → b < length named.new.items → slice_index_or named.new.items b false ≡ either (exit_names next exit.now b) (slice_index_or named.old.items b false) }
@@ -38,14 +47,15 @@ fn mark_exit(named: &mut Vec<bool>, next: u32, exit: &Exit)
             mark(named, *taken);
             mark_jump(named, next, *other);
         }
+        Exit::Switch { arms, .. } => mark_arms(named, arms.as_slice()),
         _ => {}
     }
 }
 
 /// Whether a goto names each block, by the blocks' numbers.
-fn named(alloc: Global, code: &Code) -> Result<Vec<bool>, Memory>
+pub(crate) fn named(alloc: Global, code: &Code) -> Result<Vec<bool>, Memory>
     requires { length code.now.blocks < 2 ^ 32 - 1 }
-    ensures flags { IfOk result (λ v. v.items ≡ flags_from (is_named code.now) 0 code.now.blocks) }
+    ensures flags { IfOk result (λ v. (b : ℕ) → b < length code.now.blocks → slice_index_or v.items b false ≡ is_named code.now b) }
     ensures length { IfOk result (λ v. length v.items ≡ length code.now.blocks) }
 {
     let blocks = code.blocks.as_slice();
@@ -55,23 +65,4 @@ fn named(alloc: Global, code: &Code) -> Result<Vec<bool>, Memory>
         mark_exit(&mut named, n as u32 + 1, &block.exit);
     }
     Ok(named)
-}
-
-/// The label of each block, where a goto names the block.
-pub(crate) fn labels(alloc: Global, code: &Code) -> Result<Vec<Option<u32>>, Memory>
-    requires { length code.now.blocks < 2 ^ 32 - 1 }
-    ensures { IfOk result (λ v. v.items ≡ labels_of code.now) }
-{
-    let named = named(alloc, code)?;
-    let mut labels = vec![in alloc]?;
-    let mut next: u32 = 1;
-    for flag in &named {
-        if *flag {
-            labels.push(Some(next))?;
-            next += 1;
-        } else {
-            labels.push(None)?;
-        }
-    }
-    Ok(labels)
 }

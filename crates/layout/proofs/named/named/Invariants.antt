@@ -2,7 +2,7 @@ use Rattle.std.proofs.Common.{◌≡◌, ℕ, ◌<◌, false, length, drop}
 use Rattle.std.specs.List.{slice_index_or}
 use Rattle.pcode_model.specs.Spaces.{or}
 use Rattle.blockcode.specs.Laid.{blocks_name, is_named}
-use Rattle.layout.proofs.labels.named.Given as goal
+use Rattle.layout.proofs.named.named.Given as goal
 
 abbrev pub invariant-loop-n : goal.invariant-loop-n
 invariant-loop-n l = record {

@@ -5,8 +5,8 @@ use Rattle.std.specs.Prelude.{slice_get}
 use Rattle.std.specs.List.{slice_index_or}
 use Rattle.blockcode.specs.declared.code.Block.{Block}
 use Rattle.blockcode.specs.Laid.{is_named}
-use Rattle.layout.proofs.Flags.{mark_next, mark_last, flags_are}
-use Rattle.layout.proofs.labels.named.Goals as goal
+use Rattle.layout.proofs.Flags.{mark_next, mark_last}
+use Rattle.layout.proofs.named.named.Goals as goal
 
 pub loop-n-preserved : goal.loop-n-preserved
 loop-n-preserved c =
@@ -33,7 +33,5 @@ returns-clause-flags c =
     let blocks = c.args.code.now.blocks in
     let none : drop c.loop-n.n blocks ≡ [] =
     drop_all c.loop-n.n blocks (omega (arith, ap length c.as_slice-blocks.ensures)) in
-    flags_are (is_named c.args.code.now) blocks c.loop-n.named.items 0 c.loop-n.invariant.long
-    (λ b below. let e : 0 + b ≡ b = omega arith in
-    mark_last (slice_index_or c.loop-n.named.items b false) blocks c.loop-n.n b (is_named c.args.code.now b) none
-    (c.loop-n.invariant.flags b below) ∙ sym (ap (is_named c.args.code.now) e))
+    λ b below. mark_last (slice_index_or c.loop-n.named.items b false) blocks c.loop-n.n b (is_named c.args.code.now b)
+    none (c.loop-n.invariant.flags b below)

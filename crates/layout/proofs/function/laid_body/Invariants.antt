@@ -1,10 +1,10 @@
 use Rattle.std.proofs.Common.{◌≡◌, ◌+◌, ◌++◌, length, reverse}
-use Rattle.blockcode.specs.Laid.{laid_from, laid_body}
-use Rattle.layout.proofs.function.body.Given as goal
+use Rattle.blockcode.specs.Laid.{is_named, laid_from, laid_body}
+use Rattle.layout.proofs.function.laid_body.Given as goal
 
 abbrev pub invariant-loop-block : goal.invariant-loop-block
 invariant-loop-block l = record {
-  laid : l.body ++ laid_from l.labels.items l.number (reverse l.blocks.items) ≡ laid_body l.fn.code;
+  laid : l.body ++ laid_from (is_named l.fn.code) l.number (reverse l.blocks.items) ≡ laid_body l.fn.code;
   count : l.number + length l.blocks.items ≡ length l.fn.code.blocks;
 }
 
