@@ -121,10 +121,10 @@ module _ (h : Head) where
       (sym (listed_more known n m)
       ∙ sym (ap (λ b. is_listed m (cond b known (known ++ n ∷ []))) (is_new n known under))
       ∙ is) where
-    by : (b : Bool) → is_listed m known ≡ b → (c : Bool) → (n == m) ≡ c → or b c ≡ true → m < suc n
-    by true e c f g = omega (arith, under m e)
-    by false e true f g = let same : n ≡ m = grind (arith, nat_tests, f) in omega (arith, same)
-    by false e false f g = absurd (cc)
+        by : (b : Bool) → is_listed m known ≡ b → (c : Bool) → (n == m) ≡ c → or b c ≡ true → m < suc n
+        by true e c f g = omega (arith, under m e)
+        by false e true f g = let same : n ≡ m = grind (arith, nat_tests, f) in omega (arith, same)
+        by false e false f g = absurd (cc)
 
   module _ (named : ℕ → Bool) where
     regroup : (a b c : List Stmt) → a ++ (b ++ c) ≡ (a ++ b) ++ c

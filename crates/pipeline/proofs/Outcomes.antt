@@ -1,5 +1,6 @@
 -- What an input comes to, and the table of a call.
-use Rattle.std.proofs.Common.{◌≡◌, ℕ, List, Option, Some, None, Result, Err, subst, sym}
+use Rattle.std.proofs.Common.{◌≡◌, ℕ, List, Option, Some, None, Result, Ok, Err, subst, sym}
+use Rattle.std.specs.Prelude.{IfOk, OnOk}
 use Rattle.outside.specs.declared.reading.ReadEnd.{ReadEnd}
 use Rattle.outside.specs.declared.reading.ReadEnd.TheVariants.{Memory}
 use Rattle.pcode_model.specs.Limits.{max_input}
@@ -85,6 +86,16 @@ refused_so form bytes (R.Atoms fault) (answer.Shown text) cause is = absurd is
 refused_so form bytes (R.Atoms fault) answer.BadArguments cause is = absurd is
 refused_so form bytes (R.Atoms fault) answer.ReadFault cause is = absurd is
 refused_so form bytes (R.Atoms fault) answer.TooLong cause is = absurd is
+
+-- ---- what is shown
+
+-- what holds of a text that came
+pub both_so : {T E : Type 0} (r : Result T E) (P : Type 0) (Q : T → Type 0)
+    → OnOk r P
+    → IfOk r Q
+    → IfOk r (λ text. P × Q text)
+both_so (Ok text) P Q p q = (p, q)
+both_so (Err e) P Q p q = tt
 
 -- ---- the table
 

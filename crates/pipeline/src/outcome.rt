@@ -1,18 +1,19 @@
 // What a call comes to.
-ghost use Rattle.std.specs.Prelude.{◌≡◌, ◌≤◌, false, IfErr, IfOk, length, map, string_bytes, Some};
+ghost use Rattle.std.specs.Prelude.{◌≡◌, ◌≤◌, true, false, is_some, IfErr, IfOk, length, map, string_bytes, Some};
 ghost use Rattle.pcode_model.specs.Limits.{max_input};
 ghost use Rattle.statuses.specs.Answer.{answer_of};
 ghost use Rattle.listing_again.specs.Again.{IsCanonicalOf};
 ghost use Rattle.pipeline.specs.declared.request.Form.TheVariants as form;
 ghost use Rattle.pipeline.specs.Cause.{Because, CauseAt, IsConverted, IsRefusal, ShowsAt};
 ghost use Rattle.pipeline.specs.Request.{asked_by, reads_input, reads_shelf, wanted_of};
-ghost use Rattle.pipeline.specs.Table.{Came, sources};
+ghost use Rattle.pipeline.specs.Table.{Came, FileCame, sources};
+ghost use Rattle.words.specs.Request.{text_in};
 
 use crate::message::refusal_line;
 use crate::passes::decompile;
 use crate::request::{Form, Wanted, wanted};
 use listing_again::canonical_text;
-use outside::{ReadEnd, Shelf, Source, Words, read_all};
+use outside::{Bytes, ReadEnd, Shelf, Source, Words, read_all};
 use pcode_model::{MAX_INPUT, Text};
 use refusals::Refusal;
 use statuses::{Outcome, read_file};
@@ -51,15 +52,31 @@ fn read<S: Source, H: Shelf>(
     ensures input_later { (S.told input.old).faults ≤ (S.told input.new).faults }
     ensures shelf_later { (H.told shelf.old).faults ≤ (H.told shelf.new).faults }
 {
-    let came = match wanted.file {
-        None => read_all(alloc, input, MAX_INPUT as u32),
-        Some(name) => read_file(alloc, shelf, name, MAX_INPUT as u32),
-    };
-    match came {
+    match fetch(alloc, wanted.file, input, shelf) {
         Ok(bytes) => converted(alloc, wanted.form, bytes.as_slice()),
         Err(ReadEnd::Fault) => Outcome::ReadFault,
         Err(ReadEnd::TooLong) => Outcome::TooLong,
         Err(ReadEnd::Memory) => Outcome::Memory,
+    }
+}
+
+// The bytes of the file, or of the input where there is none.
+fn fetch<S: Source, H: Shelf>(
+    alloc: Global,
+    file: Option<&str>,
+    input: &mut S,
+    shelf: &mut H,
+) -> Result<Bytes, ReadEnd>
+    ensures came { FileCame (text_in file.entry) (sources (S.told input.old) (H.told shelf.old)) (sources (S.told input.new) (H.told shelf.new)) result }
+    ensures short { IfOk result (λ bytes. length bytes ≤ max_input) }
+    ensures input_stays { is_some file.entry ≡ true → input.new ≡ input.old }
+    ensures shelf_stays { is_some file.entry ≡ false → shelf.new ≡ shelf.old }
+    ensures input_later { (S.told input.old).faults ≤ (S.told input.new).faults }
+    ensures shelf_later { (H.told shelf.old).faults ≤ (H.told shelf.new).faults }
+{
+    match file {
+        None => read_all(alloc, input, MAX_INPUT as u32),
+        Some(name) => read_file(alloc, shelf, name, MAX_INPUT as u32),
     }
 }
 

@@ -222,9 +222,10 @@ module _
         let fits = operand_fits l ranges head set c h.1 in
         let P : Expr → Type 0 = λ x. (is_condition (shape_of (widths_of head) x) ≡ true)
         × Knows head (in_expr x) in
-        test_suits here starts _ _ e (subst P (sym is)
-        (leaf_condition (shape_of (widths_of head) (operand l ranges c)) fits.shape fits.is fits.depth,
-        knows_below head _ fits.mentions))
+        test_suits here starts _ _ e (subst P (sym is) (
+          leaf_condition (shape_of (widths_of head) (operand l ranges c)) fits.shape fits.is fits.depth,
+          knows_below head _ fits.mentions,
+        ))
         by
     op_suits t starts p here O.Return None (to ∷ []) e is h by = return_suits here h.1 e by
     op_suits t starts p here code out vs e is h by = absurd h

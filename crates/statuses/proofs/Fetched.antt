@@ -24,8 +24,7 @@ module _ (limit : ℕ) (files : Folder) (name : List ℕ) (old new : Told) (told
       → Fetched limit name old new (Ok bytes)
       → (in_folder limit files name ≡ Ok bytes) × (new.faults ≡ old.faults)
   fetched_bytes bytes (inl (mid, (selected, gave))) =
-      let file = named mid.left selected.chosen in
-      (
+      let file = named mid.left selected.chosen in (
         ap (file_whole limit) file.1 ∙ sym (all_whole limit mid new file.0 file.2 bytes gave),
         gave.3 ∙ selected.kept,
       )
