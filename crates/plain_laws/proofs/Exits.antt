@@ -1,5 +1,5 @@
 -- What stands for the last op of a block goes where the op goes.
-use Rattle.std.proofs.Common.{◌≡◌, ℕ, zero, suc, ◌+◌, ◌≤◌, Bool, true, false, List, [], ◌∷◌, ◌++◌, length, Option, Some, None, refl, sym, ap, ◌∙◌, subst, append-nil, arith}
+use Rattle.std.proofs.Common.{◌≡◌, ℕ, zero, suc, ◌≤◌, Bool, true, false, List, [], ◌∷◌, ◌++◌, length, Option, Some, None, refl, sym, ap, ◌∙◌, subst, append-nil, arith}
 use Rattle.std.specs.Prelude.{Ok, slice_get, ◌==◌, cond, if◌then◌else◌}
 use Rattle.std.proofs.lemmas.Bool.Decides.{nat_tests}
 use Rattle.machine.specs.Trace.{End, Returned}
@@ -32,16 +32,16 @@ use Rattle.blockcode.specs.declared.code.Exit.TheVariants as X
 use Rattle.blockcode.specs.Run.{CodeState, at, enters, enters_by, returns_with, leave}
 use Rattle.blockcode.proofs.Straight.{run_all}
 use Rattle.op_code.specs.Made.{read_one}
-use Rattle.op_code.specs.Form.{IsLocalBy, IsNarrow, IsOperand, IsPlainOp, IsResult}
+use Rattle.op_code.specs.Form.{IsLocalBy, IsOperand, IsPlainOp, IsResult}
 use Rattle.op_code.proofs.Access.{read_is}
-use Rattle.op_code.proofs.Operands.{ReadsBy, reads_by, variable_has}
+use Rattle.op_code.proofs.Operands.{reads_by, variable_has}
 use Rattle.op_code.proofs.Ops.{op_meets}
 use Rattle.op_code.proofs.Sees.{AreWide, Meets, Sees, Setting}
 use Rattle.op_code.proofs.Steps.{op_of}
 use Rattle.plain_laws.specs.Blocks.{directly, made_in, result, result_in, tests, way_out}
 use Rattle.plain_laws.specs.Form.{IsPlain, IsUnframed}
 
--- Both have left the block: they go together, and the code stands at the beginning of the block that begins at the place.
+-- Both have left the block: they go together, and the code stands where the block begins that begins at the place.
 pub record Left {M : Type 0} (l : Listing) (ranges : List Varnode) (look : M → Bytes) (starts : List Place)
     (s : State M) (u : CodeState) : Type 0 where
   pub sees : Sees l ranges look s u.local
@@ -186,9 +186,10 @@ module _
     -- an operand that is read has a word
     word_read : (k : SpaceKind) (v : Varnode) (s : State M) → (a : ℕ) × (read_varnode m l k v s ≡ Ok a)
     word_read Constant v s = (v.offset, refl)
-    word_read Ram v s =
-        (word_in_bytes l v.space v.offset v.size (look s.world.memory),
-        read_is m l look is v.space v.offset v.size s.world.memory)
+    word_read Ram v s = (
+      word_in_bytes l v.space v.offset v.size (look s.world.memory),
+      read_is m l look is v.space v.offset v.size s.world.memory,
+    )
     word_read Register v s = (local_word l v s.local, refl)
     word_read Unique v s = (local_word l v s.local, refl)
 

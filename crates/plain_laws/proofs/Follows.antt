@@ -22,7 +22,6 @@ use Rattle.pcode_laws.proofs.Grows.{pcode_grows}
 use Rattle.cmeaning.specs.Do.{Local}
 use Rattle.blockcode.specs.declared.code.Block.{Block}
 use Rattle.blockcode.specs.declared.code.Code.{Code}
-use Rattle.blockcode.specs.declared.code.Variable.{Variable}
 use Rattle.blockcode.specs.Run.{CodeState, widths, leave, code_step, code_machine}
 use Rattle.blockcode.proofs.Grows.{code_grows}
 use Rattle.blockcode.proofs.Straight.{step_in, still, Stands, arrives, returns_in}
@@ -172,7 +171,8 @@ module _
         let made = made_at l ranges ws blocks given.first u.block b.block b.get given.wide in
         let c : Block = (block_made l ranges made.next b.block).block in
         let got : slice_get k.blocks u.block ≡ Some c = ap (λ bs. slice_get bs u.block) given.blocks_are ∙ made.get in
-        let P : List Place → Type 0 = λ ps. AreWide ws made.next (places_made l ranges made.next ps b.block.exit).locals in
+        let P : List Place → Type 0 =
+        λ ps. AreWide ws made.next (places_made l ranges made.next ps b.block.exit).locals in
         record {
           block = c;
           others = b.others;
@@ -318,7 +318,8 @@ module _
     by_places n next s u b [] exit go sees free wide runs plain here exit_is rank =
         let body = (places_made l ranges next (s.at ∷ []) exit).block.body in
         let P : List _ → Type 0 = λ xs. Stands k b xs u in
-        last_goes n next s u b exit go sees free wide runs (plain s.at (inl refl)) (subst P (sym (append-nil body)) here)
+        last_goes n next s u b exit go sees free wide runs (plain s.at (inl refl))
+        (subst P (sym (append-nil body)) here)
         exit_is
     by_places n next s u b (q ∷ others) exit go sees free wide runs plain here exit_is rank =
         next_goes n next s u b q others exit go sees free wide runs plain here exit_is rank
@@ -340,7 +341,7 @@ module _
       goes = λ n s u rel. goes_by n s u s.world.over refl rel;
     }
 
-    -- The two runs show the same from where they see the same and the code stands at the beginning of the place's block.
+    -- The two runs show the same from where they see the same and the code stands where the place's block begins.
     pub follows : (s : State M) (u : CodeState)
         → Left l ranges look (starts_of blocks) s u
         → TwoWay (seen (machine m l f) s) (seen (code_machine l k) u)

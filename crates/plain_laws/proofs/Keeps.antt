@@ -1,14 +1,12 @@
 -- The code of the plain lowering shows what the listing shows.
-use Rattle.std.proofs.Common.{◌≡◌, ℕ, zero, suc, ◌<◌, ◌≤◌, Bool, true, false, List, [], ◌∷◌, ◌++◌, length, drop, map, Some, refl, sym, ap, ◌∙◌, subst, arith, ⊎_elim}
-use Rattle.std.specs.Prelude.{slice_get, ◌==◌, cond}
+use Rattle.std.proofs.Common.{◌≡◌, ℕ, zero, suc, ◌<◌, ◌≤◌, List, [], ◌∷◌, ◌++◌, length, drop, map, Some, refl, sym, ap, ◌∙◌, subst, arith}
+use Rattle.std.specs.Prelude.{slice_get}
 use Rattle.std.specs.Option.{option_map}
 use Rattle.std.proofs.Math.Seq.{drop-append_seam}
 use Rattle.std.proofs.lemmas.Option.{slice_get-map}
-use Rattle.std.proofs.lemmas.Bool.Decides.{nat_tests}
 use Rattle.machine.specs.TwoWay.{TwoWay}
 use Rattle.machine.specs.Machine.{seen}
 use Rattle.pcode_model.specs.declared.listing.Varnode.{Varnode}
-use Rattle.pcode_model.specs.declared.listing.Place.{Place}
 use Rattle.pcode_model.specs.declared.listing.Listing.{Listing}
 use Rattle.pcode_model.specs.declared.storage.ParamStorage.{ParamStorage}
 use Rattle.pcode_model.specs.declared.storage.ParamStorage.TheVariants as P
@@ -17,8 +15,8 @@ use Rattle.pcode_model.specs.declared.atoms.Atom.{Atom}
 use Rattle.pcode_model.specs.declared.flow.Block as flow_block
 use Rattle.pcode_model.specs.Memory.{Acts, Frame, Bytes}
 use Rattle.pcode_model.specs.World.{Entry, IsEntry, first_world}
-use Rattle.pcode_model.specs.Step.{first_place, local_word, machine, start}
-use Rattle.pcode_model.specs.Flow.{IsFlow, IsIn, starts_of}
+use Rattle.pcode_model.specs.Step.{local_word, machine, start}
+use Rattle.pcode_model.specs.Flow.{starts_of}
 use Rattle.pcode_laws.specs.AsBytes.{AsBytes}
 use Rattle.range_words.specs.Ranges.{AreBytes, Holds}
 use Rattle.cmeaning.specs.Step.{word_at}
@@ -28,7 +26,7 @@ use Rattle.blockcode.proofs.Straight.{get_of_drop, rest_of_drop}
 use Rattle.op_values.proofs.Means.{nearest_is}
 use Rattle.op_code.specs.Form.{IsNarrow}
 use Rattle.op_code.proofs.Sees.{AreWide}
-use Rattle.plain_laws.specs.Blocks.{blocks_made, lowered, place_number, range_at, range_of, ranges_of, same_place, variable_for}
+use Rattle.plain_laws.specs.Blocks.{blocks_made, lowered, range_at, range_of, ranges_of, variable_for}
 use Rattle.plain_laws.specs.Form.{AreNarrow, IsLocalStorage, IsLowerable, IsUnframed}
 use Rattle.plain_laws.proofs.Entering.{entry_found}
 use Rattle.plain_laws.proofs.Exits.{Left}
