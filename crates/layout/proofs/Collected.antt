@@ -11,7 +11,6 @@ use Rattle.pcode_model.specs.Spaces.{or}
 use Rattle.cmeaning.specs.Places.{place}
 use Rattle.cmeaning.specs.Valid.{is_in}
 use Rattle.cmeaning.proofs.Places.{put, some_first}
-use Rattle.cmeaning.specs.declared.tree.Arm.{Arm as Branch}
 use Rattle.blockcode.specs.declared.code.Arm.{Arm}
 use Rattle.blockcode.specs.Laid.{values_to, without, targets, branch_to, branches}
 use Rattle.layout.specs.declared.branches.Led.{Led}
@@ -137,9 +136,9 @@ without_same x t ts same = by (is_in t ts) where
 without_other : (x t : ℕ) (ts : List ℕ) → (t == x) ≡ false → without x (with_last ts t) ≡ with_last (without x ts) t
 without_other x t ts ne =
     by (is_in t ts) ∙ ap (λ b. cond b (without x ts) (without x ts ++ t ∷ [])) (sym (in_without x t ts ne)) where
-  by : (b : Bool) → without x (cond b ts (ts ++ t ∷ [])) ≡ cond b (without x ts) (without x ts ++ t ∷ [])
-  by true = refl
-  by false = without_append x ts (t ∷ []) ∙ ap (λ b. without x ts ++ cond b [] (t ∷ [])) ne
+      by : (b : Bool) → without x (cond b ts (ts ++ t ∷ [])) ≡ cond b (without x ts) (without x ts ++ t ∷ [])
+      by true = refl
+      by false = without_append x ts (t ∷ []) ∙ ap (λ b. without x ts ++ cond b [] (t ∷ [])) ne
 
 last_behind : (x t : ℕ) (ts : List ℕ) → (t == x) ≡ false → with_last (x ∷ ts) t ≡ x ∷ with_last ts t
 last_behind x t ts ne = ap (λ b. cond (or b (is_in t ts)) (x ∷ ts) (x ∷ (ts ++ t ∷ []))) ne ∙ by (is_in t ts) where
@@ -151,15 +150,15 @@ targets_more : (xs : List Arm) (a : Arm) → targets (xs ++ a ∷ []) ≡ with_l
 targets_more [] a = refl
 targets_more (x ∷ xs) a =
     ap (λ ts. x.to ∷ without x.to ts) (targets_more xs a) ∙ by (a.to == x.to) refl where
-  by : (b : Bool) → (a.to == x.to) ≡ b
-      → x.to ∷ without x.to (with_last (targets xs) a.to) ≡ with_last (x.to ∷ without x.to (targets xs)) a.to
-  by true e =
-      ap (λ ts. x.to ∷ ts) (without_same x.to a.to (targets xs) e)
-      ∙ sym (ap (λ b. cond (or b (is_in a.to (without x.to (targets xs)))) (x.to ∷ without x.to (targets xs))
-      (x.to ∷ (without x.to (targets xs) ++ a.to ∷ []))) e)
-  by false e =
-      ap (λ ts. x.to ∷ ts) (without_other x.to a.to (targets xs) e)
-      ∙ sym (last_behind x.to a.to (without x.to (targets xs)) e)
+      by : (b : Bool) → (a.to == x.to) ≡ b
+          → x.to ∷ without x.to (with_last (targets xs) a.to) ≡ with_last (x.to ∷ without x.to (targets xs)) a.to
+      by true e =
+          ap (λ ts. x.to ∷ ts) (without_same x.to a.to (targets xs) e)
+          ∙ sym (ap (λ b. cond (or b (is_in a.to (without x.to (targets xs)))) (x.to ∷ without x.to (targets xs))
+          (x.to ∷ (without x.to (targets xs) ++ a.to ∷ []))) e)
+      by false e =
+          ap (λ ts. x.to ∷ ts) (without_other x.to a.to (targets xs) e)
+          ∙ sym (last_behind x.to a.to (without x.to (targets xs)) e)
 
 values_more : (t : ℕ) (xs : List Arm) (a : Arm)
     → values_to t (xs ++ a ∷ []) ≡ cond (a.to == t) (values_to t xs ++ a.value ∷ []) (values_to t xs)
@@ -189,11 +188,11 @@ still_out : (x y : ℕ) (ts : List ℕ) → is_in y ts ≡ false → is_in y (wi
 still_out x y [] h = refl
 still_out x y (z ∷ ts) h = let parts = neither (y == z) (is_in y ts) h in
     by (z == x) parts.0 (still_out x y ts parts.1) where
-  by : (b : Bool) → (y == z) ≡ false
-      → is_in y (without x ts) ≡ false
-      → is_in y (cond b (without x ts) (z ∷ without x ts)) ≡ false
-  by true ne next = next
-  by false ne next = ap (λ b. or b (is_in y (without x ts))) ne ∙ next
+      by : (b : Bool) → (y == z) ≡ false
+          → is_in y (without x ts) ≡ false
+          → is_in y (cond b (without x ts) (z ∷ without x ts)) ≡ false
+      by true ne next = next
+      by false ne next = ap (λ b. or b (is_in y (without x ts))) ne ∙ next
 
 out : (x : ℕ) (ts : List ℕ) → is_in x (without x ts) ≡ false
 out x [] = refl

@@ -1,6 +1,6 @@
 -- The lines of a laid body obey their rules, and the function that is made of it is a valid tree.
-use Rattle.std.proofs.Common.{◌≡◌, ◌≢◌, ℕ, suc, ◌+◌, ◌<◌, ◌≤◌, ◌^◌, ◌-◌, ◌&&◌, Bool, true, false, List, [], ◌∷◌, ◌++◌, length, map, Option, Some, refl, sym, ap, ap₂, ◌∙◌, subst, arith}
-use Rattle.std.specs.Prelude.{IsTrue, ◌==◌, cond, nat_lt, slice_get}
+use Rattle.std.proofs.Common.{◌≡◌, ◌≢◌, ℕ, suc, ◌+◌, ◌<◌, ◌≤◌, ◌^◌, ◌&&◌, Bool, true, false, List, [], ◌∷◌, ◌++◌, length, map, Some, refl, sym, ap, ◌∙◌, arith}
+use Rattle.std.specs.Prelude.{IsTrue, ◌==◌, cond, slice_get}
 use Rattle.std.proofs.lemmas.Bool.{and_parts}
 use Rattle.std.proofs.lemmas.Bool.Decides.{nat_tests}
 use Rattle.pcode_model.specs.Spaces.{or}
@@ -11,7 +11,7 @@ use Rattle.cmeaning.specs.declared.tree.Stmt.TheOpen.{Stmt-F}
 use Rattle.cmeaning.specs.declared.tree.Stmt.TheVariants as S
 use Rattle.cmeaning.specs.Mentions.{in_body}
 use Rattle.cmeaning.specs.Shape.{shape_of, is_condition}
-use Rattle.cmeaning.specs.Valid.{Rule, Cased, all_cases, all_hold, are_callees, are_cases_of, are_params, arms_hold, has_case, is_in, is_name, is_returned, IsValid}
+use Rattle.cmeaning.specs.Valid.{Rule, Cased, all_cases, all_hold, are_callees, are_cases_of, are_params, arms_hold, has_case, is_in, is_name, IsValid}
 use Rattle.naming.specs.declared.head.Head.{Head}
 use Rattle.naming.specs.Named.{named_function}
 use Rattle.naming.specs.Run.{widths_of}
@@ -26,7 +26,7 @@ use Rattle.blockcode.specs.declared.code.Block.{Block}
 use Rattle.blockcode.specs.declared.code.Code.{Code}
 use Rattle.blockcode.specs.Laid.{arms_name, blocks_name, branch_to, branches, exit_lines, exit_names, goto, is_named, jump_names, label_line, laid_body, laid_from, targets, values_to, without}
 use Rattle.blockcode.specs.Numbers.{AreNumbered, ArmsBelow, ExitBelow}
-use Rattle.layout_laws.specs.Suits.{AllSuit, BodySuits, ExitSuits, led_values}
+use Rattle.layout_laws.specs.Suits.{AllSuit, ExitSuits, led_values}
 use Rattle.layout_laws.proofs.Covered.{laid_covered, named_has_line}
 use Rattle.layout_laws.proofs.Laid.{below_at, block_names, jump_named, or_true, same_number, true_or}
 

@@ -1,5 +1,5 @@
 -- What is asked of a code below a head, so that the C function that is made of both is a valid tree. This project's own.
-use Rattle.std.specs.Prelude.{◌≡◌, ℕ, Bool, true, false, List, [], ◌∷◌, ◌++◌, map, slice_get, Option, Some, None}
+use Rattle.std.specs.Prelude.{◌≡◌, ℕ, Bool, true, false, List, [], ◌∷◌, ◌++◌, map, Some, None}
 use Rattle.cmeaning.specs.declared.tree.Local.{Local}
 use Rattle.cmeaning.specs.declared.tree.Param.{Param}
 use Rattle.cmeaning.specs.declared.tree.Stmt.{Stmt}
