@@ -8,3 +8,4 @@ pub mod Declared
 pub mod Keeps
 pub mod Covered
 pub mod Obeys
+mod Worked
