@@ -47,7 +47,8 @@ abbrev pub late_lines : List Line
     → Bool
     → List Line
 late_lines front spaces protos func callees fixed code over =
-    ((((front ++ map (proto_line spaces) protos) ++ func_lines spaces protos func) ++ map (function_line (codes "callee") spaces protos) callees)
+    ((((front ++ map (proto_line spaces) protos) ++ func_lines spaces protos func)
+    ++ map (function_line (codes "callee") spaces protos) callees)
     ++ map (bytes_line spaces) fixed)
     ++ (code_lines spaces code ++ end_lines over)
 
@@ -105,7 +106,8 @@ pub up_to_bytes :
     (fixed : List Fixed) (code : List Instruction) (over : Bool)
     → code ≡ [] → over ≡ false
     → late_lines front spaces protos func callees fixed code over
-    ≡ (((front ++ map (proto_line spaces) protos) ++ func_lines spaces protos func) ++ map (function_line (codes "callee") spaces protos) callees)
+    ≡ (((front ++ map (proto_line spaces) protos) ++ func_lines spaces protos func)
+    ++ map (function_line (codes "callee") spaces protos) callees)
     ++ map (bytes_line spaces) fixed
 up_to_bytes front spaces protos func callees fixed code over o e =
     nil_end _ (code_lines spaces code ++ end_lines over)
@@ -188,7 +190,8 @@ op_more spaces (d ∷ done) i op =
     ∙ ap (λ (r : List Line). at_line d ∷ r)
     (sym (append_assoc (map (op_line spaces) d.ops) (code_lines spaces (done ++ i ∷ [])) _))
 
-pub op_grows : (front : List Line) (spaces : List Space) (done : List Instruction) (i : Instruction) (op : Op) (over : Bool)
+pub op_grows : (front : List Line) (spaces : List Space) (done : List Instruction) (i : Instruction) (op : Op)
+    (over : Bool)
     → over ≡ false
     → front ++ (code_lines spaces (done ++ record i { ops = i.ops ++ op ∷ [] } ∷ []) ++ end_lines over)
     ≡ (front ++ (code_lines spaces (done ++ i ∷ []) ++ end_lines over)) ++ op_line spaces op ∷ []

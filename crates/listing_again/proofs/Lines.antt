@@ -15,22 +15,27 @@ use Rattle.pcode_model.specs.declared.listing.SpaceKind.TheVariants.{Constant, R
 use Rattle.pcode_model.specs.Spaces.{number_of, same_kind}
 use Rattle.pcode_model.specs.WellFormed.{AreSpaces}
 use Rattle.pcodetext.specs.declared.partial_listing.PartialListing.{PartialListing}
-use Rattle.pcodetext.specs.declared.form.AtLine.{AtLine}
-use Rattle.pcodetext.specs.declared.form.BytesLine.{BytesLine}
-use Rattle.pcodetext.specs.declared.form.Form.{Form}
-use Rattle.pcodetext.specs.declared.form.Form.TheVariants as form
-use Rattle.pcodetext.specs.declared.form.FunctionLine.{FunctionLine}
-use Rattle.pcodetext.specs.declared.form.Named.{Named}
-use Rattle.pcodetext.specs.declared.form.Named.TheVariants as named
-use Rattle.pcodetext.specs.declared.form.SpaceLine.{SpaceLine}
-use Rattle.pcodetext.specs.declared.form.Written.{Written}
-use Rattle.pcodetext.specs.Faults.{is_first_ram, is_misplaced, is_of_kind}
-use Rattle.pcodetext.specs.Forms.{at_made, bytes_made, callee_made, form_by, form_of, func_made, function_made, is_two, kind_of, order_of, pcode_made, returns_by, space_made, stack_made, word_by}
-use Rattle.pcodetext.specs.Meaning.{function_of, number, proto_number, varnode}
+use Rattle.pcodetext.specs.declared.at_line.AtLine.{AtLine}
+use Rattle.pcodetext.specs.declared.bytes_line.BytesLine.{BytesLine}
+use Rattle.pcodetext.specs.declared.line_kinds.Form.{Form}
+use Rattle.pcodetext.specs.declared.line_kinds.Form.TheVariants as form
+use Rattle.pcodetext.specs.declared.function_line.FunctionLine.{FunctionLine}
+use Rattle.pcodetext.specs.declared.written.Named.{Named}
+use Rattle.pcodetext.specs.declared.written.Named.TheVariants as named
+use Rattle.pcodetext.specs.declared.space_line.SpaceLine.{SpaceLine}
+use Rattle.pcodetext.specs.declared.written.Written.{Written}
+use Rattle.pcodetext.specs.Checks.{is_of_kind}
+use Rattle.pcodetext.specs.FunctionLine.{callee_made, func_made, function_made, function_of, is_first_ram, is_misplaced, proto_number, returns_by}
+use Rattle.pcodetext.specs.AtLine.{at_made}
+use Rattle.pcodetext.specs.BytesLine.{bytes_made}
+use Rattle.pcodetext.specs.LineKinds.{form_by, form_of, is_two}
+use Rattle.pcodetext.specs.PcodeLine.{pcode_made}
+use Rattle.pcodetext.specs.SpaceLine.{kind_of, order_of, space_made, space_of, word_by}
+use Rattle.pcodetext.specs.StackLine.{stack_made}
+use Rattle.pcodetext.specs.Convert.{number, varnode}
 use Rattle.pcodetext.specs.Tables.{place_in, proto_name}
 use Rattle.pcodetext.specs.Written.{named_by, place_of}
 use Rattle.pcodetext.proofs.Passing.{left_false, never}
-use Rattle.pcodetext.proofs.Spaces.{space_of}
 use Rattle.listing_again.proofs.Cuts.{IsLine, IsPart, all_append, parts_are, spaced_append, spaced_is_line, token_is_part}
 use Rattle.listing_again.proofs.Numbers.{bytes_back, decimal_back, decimal_token, hexadecimal_back, hexadecimal_token, pairs_part}
 use Rattle.listing_again.proofs.Ranges.{IsCalled, IsRange, IsSpelled, name_token, place_back, place_part_is, register_back}
@@ -197,7 +202,8 @@ record IsFunctionBack (spaces : List Space) (protos : List Proto) (l : FunctionL
       (place_of spaces (place_part (name_of spaces (number_of Ram spaces)) l.address)) returns
       ≡ Some l
 
-function_by : (spaces : List Space) (protos : List Proto) (name : Line) (space : Named) (address : ℕ) (proto : Option ℕ) (returns : Bool)
+function_by : (spaces : List Space) (protos : List Proto) (name : Line) (space : Named) (address : ℕ)
+    (proto : Option ℕ) (returns : Bool)
     → is_name name ≡ true
     → IsSpelled spaces space
     → address < 16 ^ 16
@@ -209,8 +215,10 @@ function_by spaces protos name named.Unknown address proto returns n s far c fir
 function_by spaces protos name (named.Space k) address None returns n s far c first known = absurd (never known)
 function_by spaces protos name (named.Space k) address (Some p) returns n s far c first known =
     let same : number_of Ram spaces ≡ k = eqb-true _ _ first in
-    let is : is_name (name_of spaces (number_of Ram spaces)) ≡ true = ap (λ (m : ℕ). is_name (name_of spaces m)) same ∙ s.0 in
-    let stands : named_by spaces (name_of spaces (number_of Ram spaces)) ≡ named.Space k = ap (λ (m : ℕ). named_by spaces (name_of spaces m)) same ∙ s.1 in
+    let is : is_name (name_of spaces (number_of Ram spaces)) ≡ true =
+    ap (λ (m : ℕ). is_name (name_of spaces m)) same ∙ s.0 in
+    let stands : named_by spaces (name_of spaces (number_of Ram spaces)) ≡ named.Space k =
+    ap (λ (m : ℕ). named_by spaces (name_of spaces m)) same ∙ s.1 in
     let called : Line = printed.proto_name (slice_get protos p) in
     record {
       parts = (
@@ -279,7 +287,9 @@ pub func_again : (s : PartialListing) (l : FunctionLine)
 func_again s l h returns placed known =
     let back = function_back s.spaces s.protos l h placed known in
     let parts : List Line = function_parts s.spaces s.protos l.name l.address (proto_number l.proto) in
-    let line = function_line_is (codes "func") s.spaces s.protos l ∙ ap (λ (r : Bool). codes "func" ++ spaced (parts ++ returns_parts r)) returns in
+    let line =
+    function_line_is (codes "func") s.spaces s.protos l
+    ∙ ap (λ (r : Bool). codes "func" ++ spaced (parts ++ returns_parts r)) returns in
     made_of s _ (codes "func") parts _ line (search rules) back.parts
     (ap func_made (back.read (Some true) (ap Some (sym returns))))
 

@@ -15,7 +15,7 @@ use Rattle.listing_lines.specs.Text.{Line}
 use Rattle.listing_lines.specs.Tokens.{bytes_of, decimal_of, has_leading_zero, hexadecimal_of, number_of, pairs_of}
 use Rattle.listing_print.specs.Printed.{hexadecimal, pairs}
 use Rattle.listing_again.proofs.Cuts.{IsPart, IsToken}
-use Rattle.pcodetext.proofs.FormIs.{left_true}
+use Rattle.pcodetext.proofs.Passing.{left_true}
 
 -- ---- digits
 
@@ -73,7 +73,9 @@ number_is : (radix most : ℕ) (ds : Line)
     → AllDigits radix ds
     → number_of radix most ds ≡ Some (digits_value radix ds)
 number_is radix most ds some few all =
-    let test = and_from _ _ (within 1 (length ds) some) (and_from _ _ (within (length ds) most few) (all_digits radix ds all)) in
+    let test =
+    and_from _ _ (within 1 (length ds) some)
+    (and_from _ _ (within (length ds) most few) (all_digits radix ds all)) in
     ap (λ (t : Bool). if t then Some (digits_value radix ds) else None) test
 
 number_small : (radix most : ℕ) (ds : Line) → 1 ≤ radix → IfSome (number_of radix most ds) (λ n. n < radix ^ most)
@@ -84,9 +86,11 @@ number_small radix most ds one = by_test _ refl
         → IfSome (if t then Some (digits_value radix ds) else None) (λ n. n < radix ^ most)
     by_test false e = tt
     by_test true e =
-        let rest : (nat_le (length ds) most && list_all (λ b. is_digit b radix) ds) ≡ true = right_true (nat_le 1 (length ds)) (nat_le (length ds) most && list_all (λ b. is_digit b radix) ds) e in
+        let rest : (nat_le (length ds) most && list_all (λ b. is_digit b radix) ds) ≡ true =
+        right_true (nat_le 1 (length ds)) (nat_le (length ds) most && list_all (λ b. is_digit b radix) ds) e in
         let few : length ds ≤ most = is_within _ _ (left_true _ _ rest) in
-        let all : AllDigits radix ds = digits_all radix ds (right_true (nat_le (length ds) most) (list_all (λ b. is_digit b radix) ds) rest) in
+        let all : AllDigits radix ds =
+        digits_all radix ds (right_true (nat_le (length ds) most) (list_all (λ b. is_digit b radix) ds) rest) in
         let lower : digits_value radix ds < radix ^ length ds = digits_value-lt radix ds all in
         let power : radix ^ length ds ≤ radix ^ most = pow-le-pow_right one few in
         omega (arith, lower, power)
@@ -187,7 +191,8 @@ decimal_token n small = digits_token _ (wider _ (decimal_is_IsNumeral n (omega a
 glyph_value : (d : ℕ) → d < 16 → digit_value (digit_glyph false d) ≡ d
 glyph_value d small =
     let numeral = digits_is_IsNumeral 16 false (omega arith) (omega arith) d (omega arith) in
-    let value : digits_value 16 (digit_glyph false d ∷ []) ≡ d = ap (digits_value 16) (sym (hex_one_digit false d small)) ∙ numeral.1 in
+    let value : digits_value 16 (digit_glyph false d ∷ []) ≡ d =
+    ap (digits_value 16) (sym (hex_one_digit false d small)) ∙ numeral.1 in
     omega (arith, value)
 
 glyph_digit : (d : ℕ) → d < 16 → is_digit (digit_glyph false d) 16 ≡ true
@@ -199,7 +204,8 @@ pairs_back (b ∷ bytes) h =
     let high : b / 16 < 16 = omega (arith, h.0) in
     let low : b % 16 < 16 = omega arith in
     let test = and_from _ _ (glyph_digit (b / 16) high) (glyph_digit (b % 16) low) in
-    let byte : digit_value (digit_glyph false (b / 16)) * 16 + digit_value (digit_glyph false (b % 16)) ≡ b = omega (arith, glyph_value (b / 16) high, glyph_value (b % 16) low) in
+    let byte : digit_value (digit_glyph false (b / 16)) * 16 + digit_value (digit_glyph false (b % 16)) ≡ b =
+    omega (arith, glyph_value (b / 16) high, glyph_value (b % 16) low) in
     let value : ℕ = digit_value (digit_glyph false (b / 16)) * 16 + digit_value (digit_glyph false (b % 16)) in
     ap (λ (t : Bool). if t then option_map (λ (more : List ℕ). value ∷ more) (pairs_of (pairs bytes)) else None) test
     ∙ ap (option_map (λ (more : List ℕ). value ∷ more)) (pairs_back bytes h.1) ∙ ap (λ (v : ℕ). Some (v ∷ bytes)) byte

@@ -12,29 +12,32 @@ use Rattle.pcode_model.specs.declared.listing.Space.{Space}
 use Rattle.pcode_model.specs.declared.listing.Varnode.{Varnode}
 use Rattle.pcode_model.specs.declared.opcode.Opcode.{Opcode}
 use Rattle.pcodetext.specs.declared.partial_listing.PartialListing.{PartialListing}
-use Rattle.pcodetext.specs.declared.form.AtLine.{AtLine}
-use Rattle.pcodetext.specs.declared.form.BytesLine.{BytesLine}
-use Rattle.pcodetext.specs.declared.form.Form.{Form}
-use Rattle.pcodetext.specs.declared.form.Form.TheVariants as form
-use Rattle.pcodetext.specs.declared.form.FunctionLine.{FunctionLine}
-use Rattle.pcodetext.specs.declared.form.OpLine.{OpLine}
-use Rattle.pcodetext.specs.declared.form.ProtoLine.{ProtoLine}
-use Rattle.pcodetext.specs.declared.form.SpaceLine.{SpaceLine}
-use Rattle.pcodetext.specs.declared.form.Written.{Written}
+use Rattle.pcodetext.specs.declared.at_line.AtLine.{AtLine}
+use Rattle.pcodetext.specs.declared.bytes_line.BytesLine.{BytesLine}
+use Rattle.pcodetext.specs.declared.line_kinds.Form.{Form}
+use Rattle.pcodetext.specs.declared.line_kinds.Form.TheVariants as form
+use Rattle.pcodetext.specs.declared.function_line.FunctionLine.{FunctionLine}
+use Rattle.pcodetext.specs.declared.op_line.OpLine.{OpLine}
+use Rattle.pcodetext.specs.declared.proto_line.ProtoLine.{ProtoLine}
+use Rattle.pcodetext.specs.declared.space_line.SpaceLine.{SpaceLine}
+use Rattle.pcodetext.specs.declared.written.Written.{Written}
 use Rattle.line_reader.specs.Faults.{first_fault}
-use Rattle.pcodetext.specs.Faults.{faults, is_complete}
-use Rattle.pcodetext.specs.Meaning.{after, function_of, number, varnode, with_op}
+use Rattle.pcodetext.specs.Checks.{is_complete}
+use Rattle.pcodetext.specs.LineKinds.{after, faults}
+use Rattle.pcodetext.specs.Convert.{number, varnode}
+use Rattle.pcodetext.specs.FunctionLine.{function_of}
+use Rattle.pcodetext.specs.OpLine.{with_op}
 use Rattle.pcode_model.specs.WellFormed.{constant_space}
 use Rattle.pcodetext.proofs.Formed.{IsFormed}
 use Rattle.line_reader.proofs.Faults.{AllFalse, all_false}
 use Rattle.std.proofs.lemmas.List.{nil_from_length}
-use Rattle.pcodetext.proofs.Passing.{left_false, never, none_is, right_false, zero_false}
+use Rattle.pcodetext.proofs.Passing.{left_false, never, no_length, none_is, right_false, zero_false}
 use Rattle.listing_again.proofs.Growth.{at_grows, bytes_grow, callees_grow, early_lines, end_grows, late_lines, no_ops, op_grows, protos_grow, said_lines, space_grows, up_to_bytes, up_to_callees, up_to_protos}
 use Rattle.listing_again.proofs.Lines.{IsReadAs, version_of}
 use Rattle.listing_again.proofs.Ranged.{op_of}
-use Rattle.pcodetext.proofs.Keeping.{no_length}
-use Rattle.pcodetext.proofs.Prototypes.{proto_of}
-use Rattle.pcodetext.proofs.Spaces.{some_spaces, space_of}
+use Rattle.pcodetext.specs.ProtoLine.{proto_of}
+use Rattle.pcodetext.proofs.Spaces.{some_spaces}
+use Rattle.pcodetext.specs.SpaceLine.{space_of}
 
 -- what stands after what hasn't come yet
 pub record IsOrdered (s : PartialListing) : Type 0 where
@@ -110,8 +113,10 @@ pcode_kept s n f o h =
     let p : AllFalse (faults s (form.Pcode n)) = all_false (faults s (form.Pcode n)) h in
     let new = some_none s.version p.1.0 in
     let empty = o.version new in
-    let old : early_lines s.version s.spaces s.stack ≡ [] = none_early s.version s.spaces s.stack p.1.0 empty.0 empty.1.0 in
-    let first : early_lines (Some n) s.spaces s.stack ≡ version_line n ∷ [] = first_early s.spaces s.stack empty.0 empty.1.0 in
+    let old : early_lines s.version s.spaces s.stack ≡ [] =
+    none_early s.version s.spaces s.stack p.1.0 empty.0 empty.1.0 in
+    let first : early_lines (Some n) s.spaces s.stack ≡ version_line n ∷ [] =
+    first_early s.spaces s.stack empty.0 empty.1.0 in
     record {
       ordered = record { version = λ e. absurd (never (sym e)); callees = o.callees; fixed = o.fixed; last = o.last };
       lines = before_protos s f empty.1.1 (early_lines (Some n) s.spaces s.stack) s.spaces ∙ first

@@ -14,17 +14,17 @@ use Rattle.pcode_model.specs.declared.listing.Space.{Space}
 use Rattle.pcode_model.specs.declared.opcode.Opcode.{Opcode}
 use Rattle.pcode_model.specs.WellFormed.{AreSpaces}
 use Rattle.pcodetext.specs.declared.partial_listing.PartialListing.{PartialListing}
-use Rattle.pcodetext.specs.declared.form.Form.TheVariants as form
-use Rattle.pcodetext.specs.declared.form.OpLine.{OpLine}
-use Rattle.pcodetext.specs.declared.form.ProtoLine.{ProtoLine}
-use Rattle.pcodetext.specs.declared.form.Written.{Written}
-use Rattle.pcodetext.specs.Faults.{is_foreign, is_unknown_proto, of_no_argument, of_other, of_some, of_unknown}
-use Rattle.pcodetext.specs.Forms.{op_assigned, op_by, op_made, proto_args, proto_made}
-use Rattle.pcodetext.specs.Meaning.{storage_of, varnode}
+use Rattle.pcodetext.specs.declared.line_kinds.Form.TheVariants as form
+use Rattle.pcodetext.specs.declared.op_line.OpLine.{OpLine}
+use Rattle.pcodetext.specs.declared.proto_line.ProtoLine.{ProtoLine}
+use Rattle.pcodetext.specs.declared.written.Written.{Written}
+use Rattle.pcodetext.specs.Checks.{of_some, of_unknown}
+use Rattle.pcodetext.specs.ProtoLine.{is_foreign, is_unknown_proto, of_no_argument, of_other, proto_args, proto_made, proto_of, storage_of}
+use Rattle.pcodetext.specs.OpLine.{op_assigned, op_by, op_made}
+use Rattle.pcodetext.specs.Convert.{varnode}
 use Rattle.operations.specs.Operations.{opcode_of}
 use Rattle.pcodetext.specs.Written.{before, range_of, range_or_none, ranges_of, ranges_until, with_first}
 use Rattle.pcodetext.proofs.Passing.{left_false, right_false}
-use Rattle.pcodetext.proofs.Prototypes.{proto_of}
 use Rattle.listing_again.proofs.Cuts.{IsPart, all_append, spaced_append}
 use Rattle.listing_again.proofs.Numbers.{hexadecimal_back}
 use Rattle.listing_again.proofs.Ranges.{IsRange, IsReadBack, argument_back, canonical, kept_back, not_word, range_back}
@@ -164,17 +164,31 @@ proto_again s l a h foreign unknown =
     let args : List Line = map (storage_part spaces) (map storage_of l.args) in
     let gives : Line = result_part spaces (option_map varnode l.gives) in
     let keep : List Line = map (range_part spaces) (map varnode l.keep) in
-    let args_back = arguments_back spaces l.args a h.args (left_false _ _ (left_false _ _ foreign)) (left_false _ _ (left_false _ _ unknown)) in
-    let gives_back = result_back spaces l.gives a h.gives (right_false _ _ (left_false _ _ foreign)) (right_false _ _ (left_false _ _ unknown)) in
+    let args_back =
+    arguments_back spaces l.args a h.args (left_false _ _ (left_false _ _ foreign))
+    (left_false _ _ (left_false _ _ unknown)) in
+    let gives_back =
+    result_back spaces l.gives a h.gives (right_false _ _ (left_false _ _ foreign))
+    (right_false _ _ (left_false _ _ unknown)) in
     let keep_back = keeps_back spaces l.keep a h.keep (right_false _ _ foreign) (right_false _ _ unknown) in
     let rest : List Line = gives ∷ codes "pop" ∷ hexadecimal l.pop ∷ codes "keep" ∷ keep in
-    let rest_parts : AllByRecursion IsPart (codes "result" ∷ rest) = (result_word, (gives_back.1, (pop_word, (hexadecimal_part l.pop h.pop, (keep_word, all_parts spaces keep l.keep keep_back))))) in
+    let rest_parts : AllByRecursion IsPart (codes "result" ∷ rest) = (
+      result_word,
+      (
+        gives_back.1,
+        (pop_word, (hexadecimal_part l.pop h.pop, (keep_word, all_parts spaces keep l.keep keep_back))),
+      ),
+    ) in
     made_of s _ (codes "proto") (proto_parts l.name args gives l.pop keep) _
     (proto_line_is l.name args gives l.pop keep) proto_word (
       name_part l.name h.name,
       (args_word, all_append IsPart args (codes "result" ∷ rest) (all_parts spaces args l.args args_back) rest_parts),
     )
-    (ap (λ (t : Bool). if t && true then proto_args spaces l.name (ranges_until (codes "result") spaces (args ++ codes "result" ∷ rest)) else form.Nothing) h.name
+    (ap
+    (λ (t : Bool). if t
+    && true then proto_args spaces l.name
+    (ranges_until (codes "result") spaces (args ++ codes "result" ∷ rest)) else form.Nothing)
+    h.name
     ∙ ap (proto_args spaces l.name) (until_back (codes "result") rest spaces refl args l.args args_back)
     ∙ ap
     (λ (g : Option (Option Written)).

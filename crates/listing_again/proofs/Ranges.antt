@@ -15,21 +15,21 @@ use Rattle.listing_print.specs.Printed as printed
 use Rattle.listing_print.specs.Printed.{hexadecimal, name_of, place_part, range_part, sized_part, storage_part}
 use Rattle.pcode_model.specs.declared.listing.Space.{Space}
 use Rattle.pcode_model.specs.declared.listing.Proto.{Proto}
-use Rattle.pcodetext.specs.declared.form.Named.{Named}
-use Rattle.pcodetext.specs.declared.form.Named.TheVariants as named
-use Rattle.pcodetext.specs.declared.form.Written.{Written}
+use Rattle.pcodetext.specs.declared.written.Named.{Named}
+use Rattle.pcodetext.specs.declared.written.Named.TheVariants as named
+use Rattle.pcodetext.specs.declared.written.Written.{Written}
 use Rattle.pcode_model.specs.declared.listing.SpaceKind.{SpaceKind}
 use Rattle.pcode_model.specs.declared.listing.SpaceKind.TheVariants.{Register}
 use Rattle.pcode_model.specs.WellFormed.{AreSpaces}
-use Rattle.pcodetext.specs.Faults.{is_no_argument, is_of_kind, is_other, is_unknown, of_no_argument, of_other, of_unknown}
-use Rattle.pcodetext.specs.Meaning.{number, reduced, storage_of, varnode}
-use Rattle.pcodetext.proofs.Passing.{never}
+use Rattle.pcodetext.specs.Checks.{is_of_kind, is_unknown, of_unknown}
+use Rattle.pcodetext.specs.ProtoLine.{is_no_argument, is_other, of_no_argument, of_other, storage_of}
+use Rattle.pcodetext.specs.Convert.{number, reduced, varnode}
+use Rattle.pcodetext.proofs.Passing.{left_true, never}
 use Rattle.pcodetext.specs.Tables.{place_from, place_in, proto_name, space_name}
 use Rattle.pcodetext.specs.Written.{named_by, numbered, place_by, place_of, placed, range_by, range_of, written}
 use Rattle.listing_again.proofs.Cuts.{IsPart, IsToken, all_append, one_token, token_is_part, token_then}
 use Rattle.listing_again.proofs.Numbers.{decimal_back, decimal_small, decimal_token, hexadecimal_back, hexadecimal_small, hexadecimal_token, right_true}
 use Rattle.pcodetext.proofs.Ranges.{reduced_le, register_kind, register_offset}
-use Rattle.pcodetext.proofs.FormIs.{left_true}
 
 -- ---- names
 
@@ -64,7 +64,8 @@ found_from f name (x ∷ xs) k =
         → bytes_eq (f x) name ≡ t
         → (o : Option ℕ)
         → IfSome o (λ n. (m : ℕ) × ((n ≡ k + 1 + m) × (option_map f (slice_get xs m) ≡ Some name)))
-        → IfSome (if t then Some k else o) (λ n. (m : ℕ) × ((n ≡ k + m) × (option_map f (slice_get (x ∷ xs) m) ≡ Some name)))
+        → IfSome (if t then Some k else o)
+        (λ n. (m : ℕ) × ((n ≡ k + m) × (option_map f (slice_get (x ∷ xs) m) ≡ Some name)))
     by_name true e o h = (0, (omega arith, ap Some ((bytes_eq-Decides (f x) name).0 e)))
     by_name false e o h = later o h
 
@@ -206,7 +207,9 @@ sized_part_is : (name : Line) (offset size : ℕ)
     → IsPart (sized_part name offset size)
 sized_part_is name offset size is far long =
     let last : IsPart (58 ∷ decimal size) = (omega arith, token_is_part (decimal size) (decimal_token size long)) in
-    let more : IsPart (hexadecimal offset ++ 58 ∷ decimal size) = all_append (λ b. 32 < b) (hexadecimal offset) (58 ∷ decimal size) (token_is_part (hexadecimal offset) (hexadecimal_token offset far)) last in
+    let more : IsPart (hexadecimal offset ++ 58 ∷ decimal size) =
+    all_append (λ b. 32 < b) (hexadecimal offset) (58 ∷ decimal size)
+    (token_is_part (hexadecimal offset) (hexadecimal_token offset far)) last in
     subst IsPart (sym (sized_is name offset size))
     (all_append (λ b. 32 < b) name (58 ∷ (hexadecimal offset ++ 58 ∷ decimal size))
     (token_is_part name (name_token name is)) (omega arith, more))
@@ -228,7 +231,8 @@ place_by_is spaces (a ∷ b ∷ []) = by_name (is_name a) refl
   where
     by_name : (t : Bool)
         → is_name a ≡ t
-        → IfSome (if t then placed (named_by spaces a) (hexadecimal_of b) else None) (λ p. IsSpelled spaces p.0 × (p.1 < 16 ^ 16))
+        → IfSome (if t then placed (named_by spaces a) (hexadecimal_of b) else None)
+        (λ p. IsSpelled spaces p.0 × (p.1 < 16 ^ 16))
     by_name true e = placed_is spaces (named_by spaces a) (hexadecimal_of b) (spelled spaces a e) (hexadecimal_small b)
     by_name false e = tt
 place_by_is spaces (a ∷ b ∷ c ∷ parts) = tt
@@ -316,7 +320,8 @@ pub range_back : (spaces : List Space) (w : Written)
     → IsReadBack spaces (range_part spaces (varnode w)) (canonical w)
 range_back spaces w h known =
     let c = canonical_is spaces w h in
-    let both = known_back spaces w.space (reduced (number w.space) w.offset w.size) w.size known h.space c.offset h.size in
+    let both =
+    known_back spaces w.space (reduced (number w.space) w.offset w.size) w.size known h.space c.offset h.size in
     record { read = both.0; part = both.1 }
 
 known_kind : (kind : SpaceKind) (spaces : List Space) (space : Named)
@@ -333,7 +338,8 @@ pub register_back : (spaces : List Space) (w : Written)
     → IsReadBack spaces (range_part spaces (varnode w)) w
 register_back spaces w a h kind =
     let back = range_back spaces w h (known_kind Register spaces w.space kind) in
-    let same : canonical w ≡ w = ap (λ (o : ℕ). record { space = w.space; offset = o; size = w.size }) (register_offset spaces a w kind) in
+    let same : canonical w ≡ w =
+    ap (λ (o : ℕ). record { space = w.space; offset = o; size = w.size }) (register_offset spaces a w kind) in
     record { read = back.read ∙ ap Some same; part = back.part }
 
 -- an argument's storage

@@ -13,16 +13,25 @@ use Rattle.pcode_model.specs.declared.listing.Proto.{Proto}
 use Rattle.pcode_model.specs.declared.opcode.Opcode.{Opcode}
 use Rattle.pcode_model.specs.Spaces.{same_kind}
 use Rattle.pcodetext.specs.declared.partial_listing.PartialListing.{PartialListing}
-use Rattle.pcodetext.specs.declared.form.BytesLine.{BytesLine}
-use Rattle.pcodetext.specs.declared.form.Form.{Form}
-use Rattle.pcodetext.specs.declared.form.Form.TheVariants as form
-use Rattle.pcodetext.specs.declared.form.FunctionLine.{FunctionLine}
-use Rattle.pcodetext.specs.declared.form.Named.{Named}
-use Rattle.pcodetext.specs.declared.form.OpLine.{OpLine}
-use Rattle.pcodetext.specs.declared.form.ProtoLine.{ProtoLine}
-use Rattle.pcodetext.specs.declared.form.SpaceLine.{SpaceLine}
-use Rattle.pcodetext.specs.declared.form.Written.{Written}
-use Rattle.pcodetext.specs.Forms.{at_form, at_made, bytes_form, bytes_made, callee_form, callee_made, end_form, form_by, form_of, func_form, func_made, function_made, head_form, is_two, kind_of, op_assigned, op_by, op_form, op_made, order_of, pcode_form, pcode_made, proto_args, proto_form, proto_made, proto_rest, returns_by, space_form, space_made, stack_form, stack_made, word_by}
+use Rattle.pcodetext.specs.declared.bytes_line.BytesLine.{BytesLine}
+use Rattle.pcodetext.specs.declared.line_kinds.Form.{Form}
+use Rattle.pcodetext.specs.declared.line_kinds.Form.TheVariants as form
+use Rattle.pcodetext.specs.declared.function_line.FunctionLine.{FunctionLine}
+use Rattle.pcodetext.specs.declared.written.Named.{Named}
+use Rattle.pcodetext.specs.declared.op_line.OpLine.{OpLine}
+use Rattle.pcodetext.specs.declared.proto_line.ProtoLine.{ProtoLine}
+use Rattle.pcodetext.specs.declared.space_line.SpaceLine.{SpaceLine}
+use Rattle.pcodetext.specs.declared.written.Written.{Written}
+use Rattle.pcodetext.specs.AtLine.{at_form, at_made}
+use Rattle.pcodetext.specs.BytesLine.{bytes_form, bytes_made}
+use Rattle.pcodetext.specs.EndLine.{end_form}
+use Rattle.pcodetext.specs.FunctionLine.{callee_form, callee_made, func_form, func_made, function_made, returns_by}
+use Rattle.pcodetext.specs.LineKinds.{form_by, form_of, head_form, is_two}
+use Rattle.pcodetext.specs.OpLine.{op_assigned, op_by, op_form, op_made}
+use Rattle.pcodetext.specs.PcodeLine.{pcode_form, pcode_made}
+use Rattle.pcodetext.specs.ProtoLine.{proto_args, proto_form, proto_made, proto_rest}
+use Rattle.pcodetext.specs.SpaceLine.{kind_of, order_of, space_form, space_made, word_by}
+use Rattle.pcodetext.specs.StackLine.{stack_form, stack_made}
 use Rattle.operations.specs.Operations.{opcode_of}
 use Rattle.operations.specs.Words.{word_of}
 use Rattle.operations.proofs.Exact.{opcode_is}
@@ -31,7 +40,8 @@ use Rattle.pcodetext.specs.Written.{before, place_of, range_of, range_or_none, r
 use Rattle.listing_lines.proofs.Bytes.{AreBytes, bytes_small}
 use Rattle.listing_again.proofs.Numbers.{decimal_small, hexadecimal_small, right_true}
 use Rattle.listing_again.proofs.Ranges.{IsCalled, IsRange, IsSpelled, called, place_is, range_is}
-use Rattle.pcodetext.proofs.FormIs.{kind_is, left_true}
+use Rattle.pcodetext.proofs.Passing.{left_true}
+use Rattle.pcodetext.proofs.SpaceLine.{kind_is}
 
 pub record IsSpaceTold (two : Bool) (l : SpaceLine) : Type 0 where
   pub name : is_name l.name ≡ true
@@ -228,7 +238,8 @@ proto_made_told two spaces protos name args (Some gives) (Some pop) (Some keep) 
   keep = k;
 }
 
-proto_rest_told : (two : Bool) (spaces : List Space) (protos : List Proto) (name : Line) (args : List Written) (parts : List Line)
+proto_rest_told : (two : Bool) (spaces : List Space) (protos : List Proto) (name : Line) (args : List Written)
+    (parts : List Line)
     → is_name name ≡ true
     → AllByRecursion (IsRange spaces) args
     → IsTold two spaces protos (proto_rest spaces name args parts)
@@ -238,7 +249,8 @@ proto_rest_told two spaces protos name args (a ∷ b ∷ []) n h = tt
 proto_rest_told two spaces protos name args (a ∷ b ∷ c ∷ []) n h = tt
 proto_rest_told two spaces protos name args (a ∷ b ∷ c ∷ d ∷ parts) n h =
     when two spaces protos (bytes_eq b (codes "pop") && bytes_eq d (codes "keep")) _ _
-    (λ e. proto_made_told two spaces protos name args _ _ _ n h (or_none_is spaces a) (hexadecimal_small c) (ranges_are spaces parts))
+    (λ e. proto_made_told two spaces protos name args _ _ _ n h (or_none_is spaces a) (hexadecimal_small c)
+    (ranges_are spaces parts))
     tt
 
 proto_told : (two : Bool) (spaces : List Space) (protos : List Proto) (parts : List Line)
@@ -246,7 +258,8 @@ proto_told : (two : Bool) (spaces : List Space) (protos : List Proto) (parts : L
 proto_told two spaces protos [] = tt
 proto_told two spaces protos (a ∷ []) = tt
 proto_told two spaces protos (a ∷ b ∷ parts) = when two spaces protos (is_name a && bytes_eq b (codes "args")) _ _
-    (λ e. args_told (left_true _ _ e) (ranges_until (codes "result") spaces parts) (until_is (codes "result") spaces parts))
+    (λ e. args_told (left_true _ _ e) (ranges_until (codes "result") spaces parts)
+    (until_is (codes "result") spaces parts))
     tt
   where
     args_told : is_name a ≡ true
@@ -256,9 +269,11 @@ proto_told two spaces protos (a ∷ b ∷ parts) = when two spaces protos (is_na
     args_told n None h = tt
     args_told n (Some found) h = proto_rest_told two spaces protos a found.0 found.1 n h
 
-function_told : (spaces : List Space) (protos : List Proto) (name proto : Line) (place : Option (Named × ℕ)) (returns : Option Bool)
+function_told : (spaces : List Space) (protos : List Proto) (name proto : Line) (place : Option (Named × ℕ))
+    (returns : Option Bool)
     → IfSome place (λ p. IsSpelled spaces p.0 × (p.1 < 16 ^ 16))
-    → IfSome (function_made protos name proto place returns) (λ l. IsFunctionTold spaces protos l × (Some l.returns ≡ returns))
+    → IfSome (function_made protos name proto place returns)
+    (λ l. IsFunctionTold spaces protos l × (Some l.returns ≡ returns))
 function_told spaces protos name proto None returns h = tt
 function_told spaces protos name proto (Some place) None h = tt
 function_told spaces protos name proto (Some place) (Some returns) h = by_names (is_name name && is_name proto) refl
@@ -368,7 +383,8 @@ at_told two spaces protos (a ∷ b ∷ []) = made (hexadecimal_of a) (decimal_of
     made (Some a) (Some b) h g = (h, g)
 at_told two spaces protos (a ∷ b ∷ c ∷ parts) = tt
 
-op_made_told : (two : Bool) (spaces : List Space) (protos : List Proto) (out : Option Written) (code : Line) (inputs : Option (List Written))
+op_made_told : (two : Bool) (spaces : List Space) (protos : List Proto) (out : Option Written) (code : Line)
+    (inputs : Option (List Written))
     → IfSome out (IsRange spaces)
     → IfSome inputs (AllByRecursion (IsRange spaces))
     → IsTold two spaces protos (op_made out code inputs)
@@ -394,7 +410,8 @@ op_told two spaces protos (blank ∷ first ∷ parts) =
     by_parts : (ps : List Line) → IsTold two spaces protos (op_by spaces first ps)
     by_parts [] = op_made_told two spaces protos None first (ranges_of spaces []) tt (ranges_are spaces [])
     by_parts (p ∷ ps) =
-        when two spaces protos (bytes_eq p (codes "=")) _ _ (λ e. assigned (range_of spaces first) ps (range_is spaces first))
+        when two spaces protos (bytes_eq p (codes "=")) _ _
+        (λ e. assigned (range_of spaces first) ps (range_is spaces first))
         (op_made_told two spaces protos None first (ranges_of spaces (p ∷ ps)) tt (ranges_are spaces (p ∷ ps)))
 
 end_told : (two : Bool) (spaces : List Space) (protos : List Proto) (parts : List Line)
@@ -412,7 +429,8 @@ head_told s word parts =
     (when two spaces protos (bytes_eq word (codes "space")) _ _ (λ e. space_told two spaces protos parts)
     (when two spaces protos (bytes_eq word (codes "stack")) _ _ (λ e. stack_told two spaces protos parts)
     (when two spaces protos (bytes_eq word (codes "proto")) _ _ (λ e. proto_told two spaces protos parts)
-    (when two spaces protos (bytes_eq word (codes "func")) _ _ (λ e. func_told two spaces protos parts) (when two spaces protos (bytes_eq word (codes "end")) _ _ (λ e. end_told two spaces protos parts) tt)))))
+    (when two spaces protos (bytes_eq word (codes "func")) _ _ (λ e. func_told two spaces protos parts)
+    (when two spaces protos (bytes_eq word (codes "end")) _ _ (λ e. end_told two spaces protos parts) tt)))))
 
 by_told : (s : PartialListing) (parts : List Line) → IsTold (is_two s.version) s.spaces s.protos (form_by s parts)
 by_told s [] = tt

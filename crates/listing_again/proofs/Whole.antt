@@ -15,25 +15,27 @@ use Rattle.pcodetext.specs.declared.partial_listing.PartialListing.{PartialListi
 use Rattle.pcodetext.specs.declared.fault.TextFault.TheVariants.{Syntax}
 use Rattle.pcodetext.specs.declared.fault.Why.{Why}
 use Rattle.pcodetext.specs.declared.fault.Why.TheVariants as why
-use Rattle.pcodetext.specs.declared.form.Form.{Form}
-use Rattle.pcodetext.specs.declared.form.Form.TheVariants as form
-use Rattle.pcodetext.specs.declared.form.OpLine.{OpLine}
-use Rattle.pcodetext.specs.declared.form.Written.{Written}
+use Rattle.pcodetext.specs.declared.line_kinds.Form.{Form}
+use Rattle.pcodetext.specs.declared.line_kinds.Form.TheVariants as form
+use Rattle.pcodetext.specs.declared.op_line.OpLine.{OpLine}
+use Rattle.pcodetext.specs.declared.written.Written.{Written}
 use Rattle.line_reader.specs.Faults.{first_fault}
-use Rattle.pcodetext.specs.Faults.{faults, is_empty, of_some, of_unknown}
-use Rattle.pcodetext.specs.Forms.{form_of, is_two}
+use Rattle.pcodetext.specs.Checks.{is_empty, of_some, of_unknown}
+use Rattle.pcodetext.specs.LineKinds.{after, faults, form_of, is_two}
 use Rattle.line_reader.specs.Reading.{Progress, advance, advanced, concluded, moved}
 use Rattle.line_reader.specs.Reading.Progress.{Going}
 use Rattle.line_reader.specs.Reading.Read.{Bad, Good}
 use Rattle.line_reader.specs.Reading.Step.{Goes}
 use Rattle.line_reader.proofs.Faults.{fails_not, goes_same}
 use Rattle.line_reader.proofs.Kept.{bad_not, good_same, read_keeps}
-use Rattle.pcodetext.specs.Meaning.{after, fault_at, finished, function_of, is_skipped, listing_of, number, reading, start, step, step_by, stepped, varnode, whole, with_op}
-use Rattle.pcodetext.proofs.FormIs.{form_is}
+use Rattle.pcodetext.specs.Convert.{number, varnode}
+use Rattle.pcodetext.specs.FunctionLine.{function_of}
+use Rattle.pcodetext.specs.Meaning.{fault_at, finished, is_skipped, listing_of, reading, start, step, step_by, stepped, whole}
+use Rattle.pcodetext.specs.OpLine.{with_op}
+use Rattle.pcodetext.proofs.LineKinds.{form_is, keeps}
 use Rattle.pcodetext.proofs.Formed.{IsFormed}
-use Rattle.pcodetext.proofs.Keeping.{kept}
-use Rattle.pcodetext.proofs.Prototypes.{proto_of}
-use Rattle.pcodetext.proofs.Spaces.{space_of}
+use Rattle.pcodetext.specs.ProtoLine.{proto_of}
+use Rattle.pcodetext.specs.SpaceLine.{space_of}
 use Rattle.pcodetext.proofs.Whole.{start_formed}
 use Rattle.line_reader.proofs.Faults.{AllFalse, all_false}
 use Rattle.pcodetext.proofs.Passing.{left_false, never, right_false}
@@ -236,7 +238,7 @@ step_reread s t line h = by_skip (is_skipped line)
     by_fault None is e =
         let again = said_again s f h.formed h.ordered (told s line) is in
         subst IsReread (goes_same _ _ e)
-        (line_reread s (after s f) again.0 h (kept s f h.formed (form_is s line) is) again.1)
+        (line_reread s (after s f) again.0 h (keeps s f h.formed (form_is s line) is) again.1)
 
     by_skip : (b : Bool) → (if b then Goes s else step_by s f) ≡ Goes t → IsReread t
     by_skip true e = subst IsReread (goes_same _ _ e) h

@@ -3,7 +3,7 @@ use Rattle.std.proofs.Common.{List, ◌++◌}
 use Rattle.std.specs.Prelude.{Option}
 use Rattle.std.specs.Option.{option_map}
 use Rattle.listing_lines.specs.Text.{Line}
-use Rattle.pcodetext.specs.declared.form.Written.{Written}
+use Rattle.pcodetext.specs.declared.written.Written.{Written}
 
 abbrev pub joined : List Written → Option (List Written) → Option (List Written)
 joined found more = option_map (λ last. found ++ last) more

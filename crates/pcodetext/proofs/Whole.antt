@@ -14,20 +14,18 @@ pub use Rattle.line_reader.proofs.Kept.{bad_not, good_same}
 use Rattle.pcode_model.specs.declared.listing.Function.{Function}
 use Rattle.pcode_model.specs.declared.listing.Instruction.{Instruction}
 use Rattle.pcode_model.specs.declared.listing.Listing.{Listing}
-use Rattle.pcode_model.specs.WellFormed.{AreDistinct, IsFunction, IsNamedFunction, IsVersionOne, IsWellFormed}
+use Rattle.pcode_model.specs.WellFormed.{AreDistinct, IsFunction, IsNamedFunction, IsVersionOne, IsWellFormed, constant_space}
 use Rattle.pcodetext.specs.declared.partial_listing.PartialListing.{PartialListing}
 use Rattle.pcodetext.specs.declared.fault.TextFault.{TextFault}
 use Rattle.pcodetext.specs.declared.fault.TextFault.TheVariants.{Syntax}
 use Rattle.pcodetext.specs.declared.fault.Why.{Why}
-use Rattle.pcodetext.specs.declared.form.Form.{Form}
-use Rattle.pcodetext.specs.Faults.{faults}
-use Rattle.pcodetext.specs.Forms.{form_of, is_two}
+use Rattle.pcodetext.specs.declared.line_kinds.Form.{Form}
+use Rattle.pcodetext.specs.LineKinds.{after, faults, form_of, is_two}
 use Rattle.pcodetext.specs.Tables.{function_address, function_name}
-use Rattle.pcodetext.specs.Meaning.{after, fault_at, finished, is_skipped, listing_of, reading, start, step, step_by, stepped, whole}
-use Rattle.pcodetext.proofs.FormIs.{form_is}
-use Rattle.pcodetext.proofs.Formed.{IsFormed}
+use Rattle.pcodetext.specs.Meaning.{fault_at, finished, is_skipped, listing_of, reading, start, step, step_by, stepped, whole}
+use Rattle.pcodetext.proofs.Formed.{IsFormed, has_protos, no_fixed, no_functions, no_protos}
 use Rattle.pcodetext.proofs.Instructions.{few_ops}
-use Rattle.pcodetext.proofs.Keeping.{has_protos, kept}
+use Rattle.pcodetext.proofs.LineKinds.{form_is, keeps}
 use Rattle.pcodetext.proofs.Passing.{never}
 use Rattle.pcodetext.proofs.Spaces.{keep_constant}
 
@@ -44,17 +42,25 @@ step_kept s t line f = by_skip (is_skipped line)
   where
     by_skip : (b : Bool) → (if b then Goes s else step_by s (form_of s line)) ≡ Goes t → IsFormed t
     by_skip true e = subst IsFormed (goes_same _ _ e) f
-    by_skip false e = form_kept s t (form_of s line) _ refl (kept s (form_of s line) f (form_is s line)) e
+    by_skip false e = form_kept s t (form_of s line) _ refl (keeps s (form_of s line) f (form_is s line)) e
 
 pub start_formed : IsFormed start
 start_formed = record {
   version = tt;
   spaces = keep_constant;
   stack = tt;
-  protos = record { complete = λ some. absurd (omega arith); formed = tt; named = tt; few = omega arith; distinct = tt };
-  functions = record { func = tt; func_named = tt; returns = tt; callees = tt; named = tt; few = omega arith; names = tt; addresses = tt; one = λ e. tt };
-  fixed = record { formed = tt; rising = tt };
-  code = record { apart = tt; first = λ e. refl; formed = tt; known = tt; total = refl; few = omega arith; closed = λ e. absurd (never (sym e)) };
+  protos = no_protos (constant_space ∷ []) None [] refl;
+  functions = no_functions false (constant_space ∷ []) 0 None [] refl refl;
+  fixed = no_fixed (constant_space ∷ []) [] refl;
+  code = record {
+    apart = tt;
+    first = λ e. refl;
+    formed = tt;
+    known = tt;
+    total = refl;
+    few = omega arith;
+    closed = λ e. absurd (never (sym e));
+  };
   no_func = λ z. refl;
   early = λ z. record { callees = refl; fixed = refl; done = refl; last = refl };
 }
@@ -62,12 +68,21 @@ start_formed = record {
 some_of : {A : Type 0} (P : A → Type 0) (o : Option A) (a : A) → o ≡ Some a → IfSome o P → P a
 some_of P o a e h = subst (λ (x : Option _). IfSome x P) e h
 
-some_code : (done : List Instruction) (last : Option Instruction) → is_some last ≡ true → 0 < length (done ++ option_to_list last)
+some_code : (done : List Instruction) (last : Option Instruction)
+    → is_some last ≡ true
+    → 0 < length (done ++ option_to_list last)
 some_code [] None e = absurd (never (sym e))
 some_code [] (Some i) e = omega arith
 some_code (d ∷ done) last e = omega arith
 
-module _ (s : PartialListing) (version : ℕ) (func : Function) (ended : s.ended ≡ true) (v : s.version ≡ Some version) (g : s.func ≡ Some func) (f : IsFormed s) where
+module _
+    (s : PartialListing)
+    (version : ℕ)
+    (func : Function)
+    (ended : s.ended ≡ true)
+    (v : s.version ≡ Some version)
+    (g : s.func ≡ Some func)
+    (f : IsFormed s) where
   of_version_one : version ≡ 1 → IsVersionOne (listing_of s version func)
   of_version_one e = record { words = f.spaces.one one; callees = f.functions.one one }
     where
@@ -105,8 +120,12 @@ module _ (s : PartialListing) (version : ℕ) (func : Function) (ended : s.ended
           spaces = f.spaces.distinct;
           no_stack = f.spaces.no_stack;
           protos = f.protos.distinct;
-          functions = subst (λ (o : Option Function). AreDistinct function_name (option_to_list o ++ s.callees)) g f.functions.names;
-          addresses = subst (λ (o : Option Function). AreDistinct function_address (option_to_list o ++ s.callees)) g f.functions.addresses;
+          functions =
+              subst (λ (o : Option Function). AreDistinct function_name (option_to_list o ++ s.callees)) g
+              f.functions.names;
+          addresses =
+              subst (λ (o : Option Function). AreDistinct function_address (option_to_list o ++ s.callees)) g
+              f.functions.addresses;
         };
         limited = record {
           spaces = f.spaces.few;

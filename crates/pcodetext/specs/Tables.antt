@@ -50,7 +50,8 @@ next_of space (f ∷ fixed) = if f.space == space then max (suc f.offset) (next_
 -- the greatest end of bytes in the space, or 0
 abbrev pub end_of : ℕ → List Fixed → ℕ
 end_of space [] = 0
-end_of space (f ∷ fixed) = if f.space == space then max (f.offset + length f.bytes) (end_of space fixed) else end_of space fixed
+end_of space (f ∷ fixed) =
+    if f.space == space then max (f.offset + length f.bytes) (end_of space fixed) else end_of space fixed
 
 -- what two tables by the space's number hold
 pub record HasTops (nexts ends : List ℕ) (fixed : List Fixed) : Type 0 where

@@ -6,9 +6,9 @@ use Rattle.listing_lines.specs.Text.{Line, parts_of}
 use Rattle.listing_lines.specs.Tokens.{decimal_of, hexadecimal_of, is_name}
 use Rattle.pcode_model.specs.declared.listing.Space.{Space}
 use Rattle.pcodetext.specs.Tables.{place_in, space_name}
-use Rattle.pcodetext.specs.declared.form.Named.{Named}
-use Rattle.pcodetext.specs.declared.form.Named.TheVariants as named
-use Rattle.pcodetext.specs.declared.form.Written.{Written}
+use Rattle.pcodetext.specs.declared.written.Named.{Named}
+use Rattle.pcodetext.specs.declared.written.Named.TheVariants as named
+use Rattle.pcodetext.specs.declared.written.Written.{Written}
 
 abbrev pub numbered : Option ℕ → Named
 numbered None = named.Unknown
@@ -16,7 +16,8 @@ numbered (Some n) = named.Space n
 
 -- what a name stands for; no space is named `stack`
 abbrev pub named_by : List Space → Line → Named
-named_by spaces name = if bytes_eq name (codes "stack") then named.Stack else numbered (place_in name (map space_name spaces))
+named_by spaces name =
+    if bytes_eq name (codes "stack") then named.Stack else numbered (place_in name (map space_name spaces))
 
 abbrev pub written : Named → Option ℕ → Option ℕ → Option Written
 written space None size = None
@@ -25,7 +26,8 @@ written space (Some offset) (Some size) = Some (record { space = space; offset =
 
 -- NAME, HEX and SIZE
 abbrev pub range_by : List Space → List Line → Option Written
-range_by spaces (name ∷ offset ∷ size ∷ []) = if is_name name then written (named_by spaces name) (hexadecimal_of offset) (decimal_of size) else None
+range_by spaces (name ∷ offset ∷ size ∷ []) =
+    if is_name name then written (named_by spaces name) (hexadecimal_of offset) (decimal_of size) else None
 range_by spaces _ = None
 
 -- `NAME:HEX:SIZE`; 58 is the colon
@@ -37,7 +39,8 @@ placed space None = None
 placed space (Some offset) = Some (space, offset)
 
 abbrev pub place_by : List Space → List Line → Option (Named × ℕ)
-place_by spaces (name ∷ offset ∷ []) = if is_name name then placed (named_by spaces name) (hexadecimal_of offset) else None
+place_by spaces (name ∷ offset ∷ []) =
+    if is_name name then placed (named_by spaces name) (hexadecimal_of offset) else None
 place_by spaces _ = None
 
 -- `NAME:HEX`
@@ -62,7 +65,8 @@ before (Some w) (Some more) = Some (w ∷ more.0, more.1)
 -- ranges up to a word, and the parts after it
 abbrev pub ranges_until : Line → List Space → List Line → Option (List Written × List Line)
 ranges_until word spaces [] = None
-ranges_until word spaces (part ∷ parts) = if bytes_eq part word then Some ([], parts) else before (range_of spaces part) (ranges_until word spaces parts)
+ranges_until word spaces (part ∷ parts) =
+    if bytes_eq part word then Some ([], parts) else before (range_of spaces part) (ranges_until word spaces parts)
 
 -- a range, or `none`
 abbrev pub range_or_none : List Space → Line → Option (Option Written)

@@ -1,15 +1,11 @@
 //! What written ranges stand for.
 
-ghost use Rattle.std.specs.Prelude.{◌≡◌, false, map, IfOk};
-ghost use Rattle.std.specs.List.{list_any};
+ghost use Rattle.std.specs.Prelude.{◌≡◌};
 ghost use Rattle.std.specs.Option.{option_map};
-ghost use Rattle.pcodetext.specs.Faults.{is_far};
-ghost use Rattle.pcodetext.specs.Meaning.{number, reduced, storage_of, varnode};
+ghost use Rattle.pcodetext.specs.Convert.{number, reduced, varnode};
 
-use crate::form::{Named, Written};
-use pcode_model::{Inputs, Storage, Varnode};
-use sqlite_items::Items;
-use std::alloc::{AllocError, Global};
+use crate::written::{Named, Written};
+use pcode_model::Varnode;
 
 impl Named {
     /// The number of the space, where it is known; else 0.
@@ -47,20 +43,6 @@ impl Written {
             size: self.size,
         }
     }
-
-    /// A storage. One on the stack is at most 0xffff bytes above the stack pointer.
-    pub fn storage(self) -> Storage
-        requires { is_far self ≡ false }
-        ensures { result ≡ storage_of self }
-    {
-        match self.space {
-            Named::Stack => Storage::Stack {
-                offset: self.offset as u32,
-                size: self.size,
-            },
-            Named::Space(_) | Named::Unknown => Storage::At(self.varnode()),
-        }
-    }
 }
 
 pub fn optional(range: Option<Written>) -> Option<Varnode>
@@ -70,35 +52,4 @@ pub fn optional(range: Option<Written>) -> Option<Varnode>
         Some(range) => Some(range.varnode()),
         None => None,
     }
-}
-
-pub fn varnodes(alloc: Global, ranges: &[Written]) -> Result<Items<Varnode>, AllocError>
-    ensures { IfOk result (λ made. made ≡ map varnode ranges.now) }
-{
-    let mut made = Items::new(alloc);
-    for range in ranges {
-        made.push(range.varnode())?;
-    }
-    Ok(made)
-}
-
-pub fn inputs(alloc: Global, ranges: &[Written]) -> Result<Inputs, AllocError>
-    ensures { IfOk result (λ made. made ≡ map varnode ranges.now) }
-{
-    let mut made = Inputs::new(alloc);
-    for range in ranges {
-        made.push(range.varnode())?;
-    }
-    Ok(made)
-}
-
-pub fn storages(alloc: Global, ranges: &[Written]) -> Result<Items<Storage>, AllocError>
-    requires { list_any is_far ranges.now ≡ false }
-    ensures { IfOk result (λ made. made ≡ map storage_of ranges.now) }
-{
-    let mut made = Items::new(alloc);
-    for range in ranges {
-        made.push(range.storage())?;
-    }
-    Ok(made)
 }

@@ -13,22 +13,26 @@
 //! where each space's bytes end, so that reading is linear in the text.
 #![tactic(auto)]
 
+pub mod at_line;
+pub mod bytes_line;
 pub mod callees;
 pub mod checks;
 pub mod convert;
+pub mod end_line;
 pub mod fault;
 pub mod fixed;
-pub mod form;
-pub mod forms;
+pub mod function_line;
+pub mod line_kinds;
+pub mod op_line;
 pub mod partial_listing;
+pub mod pcode_line;
+pub mod proto_line;
 pub mod reader;
-pub mod steps;
+pub mod space_line;
+pub mod stack_line;
 pub mod tables;
 pub mod written;
 
 pub use fault::{LineFault, TextFault, Why};
-pub use form::{
-    AtLine, BytesLine, Form, FunctionLine, Named, OpLine, ProtoLine, SpaceLine, Written,
-};
 pub use partial_listing::PartialListing;
 pub use reader::read_listing;

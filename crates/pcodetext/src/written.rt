@@ -5,14 +5,33 @@ ghost use Rattle.std.specs.Option.{option_map};
 ghost use Rattle.listing_lines.specs.Text.{left};
 ghost use Rattle.pcodetext.specs.Written.{named_by, place_of, range_of, range_or_none, ranges_of, ranges_until};
 
-use crate::form::{Named, Written};
 use crate::tables::SpaceTable;
 use listing_lines::{decimal, first_part, hexadecimal, is_name, next_part};
 use sqlite_items::Items;
 use std::alloc::{AllocError, Global};
 
+/// What the name of a space stands for, where the spaces of the lines before are known.
+#[derive(Clone, Copy, Debug, PartialEq, Eq)]
+pub enum Named {
+    /// The known space with that number.
+    Space(u8),
+    /// The name `stack`.
+    Stack,
+    /// No space that is known.
+    Unknown,
+}
+
+/// A range as it is written: `SPACE:HEX:SIZE`.
+#[derive(Clone, Copy, Debug, PartialEq, Eq)]
+pub struct Written {
+    pub space: Named,
+    pub offset: u64,
+    /// Bytes, below 100,000.
+    pub size: u32,
+}
+
 // What the name of a space stands for.
-fn named(spaces: &SpaceTable, name: &[u8]) -> Named
+fn space_named(spaces: &SpaceTable, name: &[u8]) -> Named
     ensures { result ≡ named_by spaces.now name.now }
 {
     if name == b"stack".as_slice() {
@@ -37,7 +56,7 @@ pub fn range(spaces: &SpaceTable, part: &[u8]) -> Option<Written>
     let offset = hexadecimal(offset)?;
     let size = decimal(size)?;
     Some(Written {
-        space: named(spaces, name),
+        space: space_named(spaces, name),
         offset,
         size,
     })
@@ -53,7 +72,7 @@ pub fn place(spaces: &SpaceTable, part: &[u8]) -> Option<(Named, u64)>
         return None;
     }
     let offset = hexadecimal(offset)?;
-    Some((named(spaces, name), offset))
+    Some((space_named(spaces, name), offset))
 }
 
 /// The ranges that the parts left of a line write. None where one has another form.

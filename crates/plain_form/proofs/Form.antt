@@ -99,6 +99,7 @@ mapped l (x ∷ xs) (suc n) v h = mapped l xs n v h
 
 -- ---- atoms in order are different ranges
 
+-- the order of storages is transitive
 pub before_trans : (r s t : ParamStorage) → StandsBefore r s → StandsBefore s t → StandsBefore r t
 before_trans (P.Register a) (P.Register b) (P.Register c) p q = omega (arith, p, q)
 before_trans (P.Register a) (P.Register b) (P.Unique c) p q = tt

@@ -4,10 +4,11 @@ use Rattle.pcode_model.specs.declared.atoms.Atom.{Atom}
 use Rattle.pcode_model.specs.declared.flow.Block as flow_block
 use Rattle.pcode_model.specs.declared.listing.Listing.{Listing}
 use Rattle.pcode_model.specs.declared.tables.TableAt.{TableAt}
-use Rattle.blockcode.specs.Laid.{params_of}
-use Rattle.plaincode.specs.Lowered.{plain_function, result_width, variable_for}
+use Rattle.layout.specs.Function.{params_of}
+use Rattle.plaincode.specs.Lowered.{result_width, variable_for}
 use Rattle.plaincode.specs.Form.{AreNarrow, IsPlainForm}
 use Rattle.plaincode.proofs.Nodes.{nearest_is}
+use Rattle.plain_valid.specs.Function.{plain_function}
 use Rattle.plain_valid.specs.Inputs.{AreInputs}
 
 -- It has the listing's name.

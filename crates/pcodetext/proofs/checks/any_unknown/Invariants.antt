@@ -1,6 +1,6 @@
 use Rattle.std.proofs.Common.{◌≡◌, drop}
 use Rattle.std.specs.List.{list_any}
-use Rattle.pcodetext.specs.Faults.{of_unknown}
+use Rattle.pcodetext.specs.Checks.{of_unknown}
 use Rattle.pcodetext.proofs.checks.any_unknown.Given as goal
 
 abbrev pub invariant-loop-range : goal.invariant-loop-range

@@ -7,6 +7,8 @@ use Rattle.pcodetext.proofs.fixed.FixedTable.overlaps.Goals as goal
 
 pub returns : goal.returns
 returns c =
-    let free : stands_after c.self.inside.fixed c.args.space c.args.offset ≡ false = ap (λ (fixed : List Fixed). stands_after fixed c.args.space c.args.offset) c.self.view_is ∙ c.requires in
-    ap₂ (λ (o end : ℕ). nat_lt o end) c.from.ensures (c.self.invariant.end c.args.space c.ranges.space.fits) ∙ sym (overlaps_is c.self.inside.fixed c.args.space c.args.offset c.args.size free)
+    let free : stands_after c.self.inside.fixed c.args.space c.args.offset ≡ false =
+    ap (λ (fixed : List Fixed). stands_after fixed c.args.space c.args.offset) c.self.view_is ∙ c.requires in
+    ap₂ (λ (o end : ℕ). nat_lt o end) c.from.ensures (c.self.invariant.end c.args.space c.ranges.space.fits)
+    ∙ sym (overlaps_is c.self.inside.fixed c.args.space c.args.offset c.args.size free)
     ∙ ap (λ (fixed : List Fixed). overlaps fixed c.args.space c.args.offset c.args.size) c.self.view_is

@@ -1,0 +1,8 @@
+//! A worked case. The function is a law: it does nothing, and its contract is how a small body is numbered.
+
+ghost use Rattle.naming.specs.Worked.{FirstAppearance};
+
+/// A parameter that nothing mentions, a variable of two blocks, one met first in a condition, and a callee called twice.
+pub fn first_appearance()
+    ensures { FirstAppearance }
+{}

@@ -1,0 +1,469 @@
+-- What stands for an op does what the op does. A further operation adds its cases here.
+use Rattle.std.proofs.Common.{◌≡◌, ◌≢◌, ℕ, ◌+◌, ◌<◌, ◌≤◌, Bool, true, false, List, [], ◌∷◌, ◌++◌, length, Option, Some, None, refl, sym, ap, ◌∙◌, subst, arith, ◌⊎◌, inl, inr, ⊎_elim}
+use Rattle.std.specs.Prelude.{cond, Ok}
+use Rattle.std.proofs.lemmas.Bool.{cases_eq}
+use Rattle.machine.specs.Trace.{DivZero}
+use Rattle.bits_core.specs.declared.ops.Unary.{Unary}
+use Rattle.bits_core.specs.declared.ops.Binary.{Binary}
+use Rattle.bits_core.specs.declared.ops.Binary.TheVariants as B
+use Rattle.bits_core.specs.declared.ops.Divide.{Divide}
+use Rattle.bits_core.specs.Value.{limit, binary_value, divide_value, quotient_or_rest, unary_value}
+use Rattle.laws.proofs.Division.{divide_none, divide_some}
+use Rattle.laws.proofs.Words.{binary_word, divide_word, unary_word}
+use Rattle.pcode_model.specs.declared.listing.SpaceKind.{SpaceKind}
+use Rattle.pcode_model.specs.declared.listing.SpaceKind.TheVariants.{Constant, Ram, Register, Unique}
+use Rattle.pcode_model.specs.declared.listing.Varnode.{Varnode}
+use Rattle.pcode_model.specs.declared.listing.Instruction.{Instruction}
+use Rattle.pcode_model.specs.declared.listing.Place.{Place}
+use Rattle.pcode_model.specs.declared.listing.Listing.{Listing}
+use Rattle.pcode_model.specs.declared.opcode.Opcode.{Opcode}
+use Rattle.pcode_model.specs.declared.opcode.Opcode.TheVariants as O
+use Rattle.pcode_model.specs.declared.flow.Turn.TheVariants.{GoesOn}
+use Rattle.pcode_model.specs.Flow.{turn_of}
+use Rattle.pcode_model.specs.Places.{Does, next_place}
+use Rattle.pcode_model.specs.Spaces.{kind_of}
+use Rattle.pcode_model.specs.Memory.{Acts, Bytes, Frame, plain}
+use Rattle.pcode_model.specs.World.{ended, store}
+use Rattle.pcode_model.specs.Step.{State, all_read, byte_address, bytes_in, in_world, moved, read_all, step_at, word_in_bytes, write_varnode}
+use Rattle.pcode_laws.specs.AsBytes.{AsBytes}
+use Rattle.range_words.proofs.Variables.{word_below}
+use Rattle.cmeaning.specs.declared.tree.Expr.{Expr}
+use Rattle.cmeaning.specs.declared.tree.Stmt.{Stmt}
+use Rattle.cmeaning.specs.declared.tree.Stmt.TheVariants as S
+use Rattle.cmeaning.specs.Do.{Local, assigned, divide_of, do_simple, ends}
+use Rattle.cmeaning.specs.Do as code
+use Rattle.cmeaning.specs.Value.{value_of, width_of}
+use Rattle.cmeaning.proofs.Do.{do_assign, do_divide}
+use Rattle.blockcode.proofs.Straight.{run_all}
+use Rattle.op_values.specs.Nodes.{binary_node, divides_by, division_node, nearest, statement_of, unary_node}
+use Rattle.op_values.proofs.Means.{Means, nearest_is}
+use Rattle.op_values.proofs.Operations.{IsDropped, binary_means, unary_means}
+use Rattle.op_values.proofs.Divisions.{division_means, divides_some, statement_is}
+use Rattle.op_code.specs.Made.{address, computes, divides, divides_at, name_of, op_made, reads, sets, stores, word_at}
+use Rattle.op_code.specs.Form.{IsMemory, IsOutput, IsPlainOp, IsSecond}
+use Rattle.op_code.proofs.Access.{address_points, load_runs, store_meets, store_runs}
+use Rattle.op_code.proofs.Operands.{AllHave, AllOperands, Has, ReadsAll, goes, reads_all, run_append, run_one}
+use Rattle.op_code.proofs.Sees.{AreWide, Meets, Sees, Setting, wide_back, wide_front}
+use Rattle.op_code.proofs.Sets.{Fails, Makes, fail_meets, set_meets}
+use Rattle.op_code.proofs.Steps.{op_of, binary_step, divide_ends, divide_step, load_step, store_step, unary_step}
+
+-- ---- the words of one operand and of two
+
+module _ {M : Type 0} (m : Acts M) (l : Listing) (ws : ℕ → ℕ) (s : State M) (env : ℕ → Option ℕ) where
+  pub record One (v : Varnode) (d : Expr) (words : List ℕ) : Type 0 where
+    pub word : ℕ
+    pub are : words ≡ word ∷ []
+    pub has : Has m l ws s env (kind_of l v.space) v d word
+
+  one_of : (v : Varnode) (d : Expr) (words : List ℕ)
+      → AllHave m l ws s env (v ∷ []) (d ∷ []) words
+      → One v d words
+  one_of v d [] h = absurd h
+  one_of v d (a ∷ []) h = record { word = a; are = refl; has = h.0 }
+  one_of v d (a ∷ b ∷ rest) h = absurd h.1
+
+  pub record Two (v w : Varnode) (d e : Expr) (words : List ℕ) : Type 0 where
+    pub first : ℕ
+    pub second : ℕ
+    pub are : words ≡ first ∷ second ∷ []
+    pub has : Has m l ws s env (kind_of l v.space) v d first
+    pub also : Has m l ws s env (kind_of l w.space) w e second
+
+  two_of : (v w : Varnode) (d e : Expr) (words : List ℕ)
+      → AllHave m l ws s env (v ∷ w ∷ []) (d ∷ e ∷ []) words
+      → Two v w d e words
+  two_of v w d e [] h = absurd h
+  two_of v w d e (a ∷ []) h = absurd h.1
+  two_of v w d e (a ∷ b ∷ []) h =
+      record { first = a; second = b; are = refl; has = h.0; also = h.1.0 }
+  two_of v w d e (a ∷ b ∷ c ∷ rest) h = absurd h.1.1
+
+  -- a constant's word is the constant
+  constant_has : (k : SpaceKind) (v : Varnode) (e : Expr) (a : ℕ)
+      → k ≡ Constant
+      → Has m l ws s env k v e a
+      → v.offset ≡ a
+  constant_has Constant v e a is h = let r : Ok v.offset ≡ Ok a = h.read in cc
+  constant_has Ram v e a is h = absurd (cc)
+  constant_has Register v e a is h = absurd (cc)
+  constant_has Unique v e a is h = absurd (cc)
+
+-- ---- statements that assign a word
+
+module _ (l : Listing) (ws : ℕ → ℕ) (x : Local) where
+  assign_makes : (e : Expr) (k n : ℕ) → Means ws x.env e k n → Makes l ws (λ v. S.Assign v e) k n x
+  assign_makes e k n means v returns wide =
+      do_assign l ws returns v e x ∙ ap (λ o. code.with_word o x (λ n. assigned v n x)) means.value
+
+  -- a division as a statement
+  divided_is : (op : Divide) (v k a b : ℕ) (d e : Expr) (returns : ℕ → Bool)
+      → Means ws x.env d k a
+      → Means ws x.env e k b
+      → do_simple l ws returns (S.Divide v (statement_of op) d e) x ≡ code.divided v (divide_value op k a b) x
+  divided_is op v k a b d e returns m n =
+      do_divide l ws returns v (statement_of op) d e x
+      ∙ ap (λ o. code.with_word o x (λ m. code.with_word (value_of ws x.env e) x
+      (λ n. code.divided v (divide_value (divide_of (statement_of op)) (width_of ws d) m n) x))) m.value
+      ∙ ap (λ o. code.with_word o x
+      (λ n. code.divided v (divide_value (divide_of (statement_of op)) (width_of ws d) a n) x)) n.value
+      ∙ ap (λ q. code.divided v (divide_value q (width_of ws d) a b) x) (statement_is op)
+      ∙ ap (λ w. code.divided v (divide_value op w a b) x) m.width
+
+constant_divides : (k : SpaceKind) (op : Divide) (v : Varnode) → divides_at k op v ≡ true → k ≡ Constant
+constant_divides Constant op v h = refl
+constant_divides Ram op v h = absurd (cc)
+constant_divides Register op v h = absurd (cc)
+constant_divides Unique op v h = absurd (cc)
+
+divides_then : (k : SpaceKind) (op : Divide) (v : Varnode)
+    → divides_at k op v ≡ true
+    → divides_by op (nearest v.size) v.offset ≡ true
+divides_then Constant op v h = h
+divides_then Ram op v h = absurd (cc)
+divides_then Register op v h = absurd (cc)
+divides_then Unique op v h = absurd (cc)
+
+dropped_by : (l : Listing) (op : Binary) (w : Varnode) (b : ℕ)
+    → IsSecond l op w
+    → (kind_of l w.space ≡ Constant → w.offset ≡ b)
+    → IsDropped op w.offset b
+dropped_by l B.Subpiece w b second h = h second
+dropped_by l op w b second h = tt
+
+-- ---- ops
+
+module _
+    {M : Type 0}
+    (m : Acts M)
+    (l : Listing)
+    (f : Frame)
+    (look : M → Bytes)
+    (ranges : List Varnode)
+    (ws : ℕ → ℕ)
+    (is : AsBytes m l look)
+    (set : Setting l ranges ws)
+    (next : Place)
+    (s : State M)
+    (go : s.world.over ≡ None)
+    (n : ℕ)
+    (free : length ranges ≤ n)
+  where
+    -- The step to t writes a word to the output, and the statement assigns it.
+    record Computed (z : Varnode) (make : ℕ → Stmt) (y : Local) (t : State M) : Type 0 where
+      word : ℕ
+      below : word < limit z.size
+      makes : Makes l ws make z.size word y
+      step : t ≡ write_varnode m l (kind_of l z.space) z word (moved next s)
+
+    -- Both end.
+    record Failed (make : ℕ → Stmt) (y : Local) (t : State M) : Type 0 where
+      fails : Fails l ws make DivZero y
+      step : t ≡ in_world (ended DivZero s.world) s
+
+    sets_meet : (z : Varnode) (returns : List Stmt → Bool) (make : ℕ → Stmt) (k : ℕ) (y : Local) (t : State M)
+        → IsOutput l ranges z
+        → n ≤ k
+        → AreWide ws k (sets l ranges k (Some z) make).locals
+        → Sees l ranges look s y
+        → Computed z make y t ⊎ Failed make y t
+        → Meets l ranges look next t (run_all l ws returns (sets l ranges k (Some z) make).statements y)
+    sets_meet z returns make k y t out later wide sees made =
+        let on = goes m l f look ranges ws is set s go y sees in
+        let P : State M → Type 0 = λ u. Meets l ranges look next u
+        (run_all l ws returns (sets l ranges k (Some z) make).statements y) in
+        ⊎_elim
+        (λ (c : Computed z make y t). subst P (sym c.step)
+        (set_meets m l look ranges ws is set next s y on sees returns make (kind_of l z.space) k z c.word out.0 out.1
+        c.below (omega (arith, free, later)) wide c.makes))
+        (λ (c : Failed make y t). subst P (sym c.step)
+        (fail_meets m l look ranges ws is set next s y on sees returns make (kind_of l z.space) k z DivZero c.fails))
+        made
+
+    -- The operands are read, and an output is set to what is made of them.
+    computes_meets : (vs : List Varnode) (z : Varnode) (returns : List Stmt → Bool) (make : ℕ → Stmt) (x : Local)
+        (t : State M)
+        → IsOutput l ranges z
+        → AllOperands l ranges vs
+        → AreWide ws n (computes l ranges n (Some z) (reads l ranges n vs) make).locals
+        → Sees l ranges look s x
+        → ((y : Local) → ReadsAll m l f look ranges ws n vs s x y → Computed z make y t ⊎ Failed make y t)
+        → Meets l ranges look next t
+        (run_all l ws returns (computes l ranges n (Some z) (reads l ranges n vs) make).statements x)
+    computes_meets vs z returns make x t out ops wide sees made =
+        let reading = reads l ranges n vs in
+        let k = n + length reading.locals in
+        let setting = sets l ranges k (Some z) make in
+        let rest = λ (ss : List Stmt). returns (ss ++ setting.statements) in
+        let y : Local = run_all l ws rest reading.loads x in
+        let r = reads_all m l f look ranges ws is set s go vs rest n x ops free
+        (wide_front ws n reading.locals setting.locals wide) sees in
+        let P : Local → Type 0 = λ u. Meets l ranges look next t u in
+        subst P (sym (run_append l ws returns reading.loads setting.statements x))
+        (sets_meet z returns make k y t out (omega arith) (wide_back ws n reading.locals setting.locals wide) r.sees
+        (made y r))
+
+    -- Two operands are read, the address in a space and what is stored there.
+    stores_meet : (at : ℕ) (v w : Varnode) (returns : List Stmt → Bool) (x : Local) (t : State M)
+        → IsMemory l at
+        → AllOperands l ranges (v ∷ w ∷ [])
+        → AreWide ws n (stores l at v.size (reads l ranges n (v ∷ w ∷ []))).locals
+        → Sees l ranges look s x
+        → ((a b : ℕ)
+        → read_all m l f s (all_read (v ∷ w ∷ [])) ≡ Ok (a ∷ b ∷ [])
+        → t ≡ in_world (store m at (byte_address l at a) (bytes_in l at w.size b) s.world) (moved next s))
+        → Meets l ranges look next t
+        (run_all l ws returns (stores l at v.size (reads l ranges n (v ∷ w ∷ []))).statements x)
+    stores_meet at v w returns x t mem ops wide sees step =
+        let reading = reads l ranges n (v ∷ w ∷ []) in
+        let d = word_at reading 0 in
+        let e = word_at reading 1 in
+        let one = S.Store (name_of l at) (address l at v.size d) e in
+        let rest = λ (ss : List Stmt). returns (ss ++ one ∷ []) in
+        let y : Local = run_all l ws rest reading.loads x in
+        let r = reads_all m l f look ranges ws is set s go (v ∷ w ∷ []) rest n x ops free
+        (wide_front ws n reading.locals [] wide) sees in
+        let on = goes m l f look ranges ws is set s go y r.sees in
+        let o = two_of m l ws s y.env v w d e r.words r.have in
+        let bytes = bytes_in l at w.size o.second in
+        let to = byte_address l at o.first in
+        let u : Local = code.in_world (store (plain l) at to bytes y.world) y in
+        let ran = run_one l ws returns one [] y u on
+        (store_runs l ws (λ c. returns []) at mem w.size o.second to (address l at v.size d) e y
+        (address_points ws y.env l at v.size o.first d mem ops.0.0.0 ops.0.0.1 o.has.means) o.also.means) in
+        let P : Local → Type 0 = λ z. Meets l ranges look next t z in
+        let Q : State M → Type 0 = λ z. Meets l ranges look next z u in
+        subst P (sym (run_append l ws returns reading.loads (one ∷ []) x ∙ ran))
+        (subst Q (sym (step o.first o.second (r.read ∙ ap (λ q. Ok q) o.are)))
+        (store_meets m l look is ranges next at to w.size o.second s y r.sees))
+
+-- ---- divisions
+
+module _
+    (l : Listing)
+    (ws : ℕ → ℕ)
+    (y : Local)
+    (op : Divide)
+    (w : Varnode)
+    (k a b : ℕ)
+    (d e : Expr)
+    (means : Means ws y.env d k a)
+    (also : Means ws y.env e k b)
+  where
+    -- by a constant that makes the division an expression
+    known : divides_at (kind_of l w.space) op w ≡ true
+        → (kind_of l w.space ≡ Constant → w.offset ≡ b)
+        → nearest w.size ≡ k
+        → divides_by op k b ≡ true
+    known t fixed wide =
+        let c = divides_then (kind_of l w.space) op w t in
+        let at : w.offset ≡ b = fixed (constant_divides (kind_of l w.space) op w t) in
+        sym (ap (λ j. divides_by op j b) wide) ∙ sym (ap (divides_by op (nearest w.size)) at) ∙ c
+
+    divides_some_by : (t : Bool)
+        → divides_at (kind_of l w.space) op w ≡ t
+        → (kind_of l w.space ≡ Constant → w.offset ≡ b)
+        → nearest w.size ≡ k
+        → b ≢ 0
+        → Makes l ws (λ v. cond t (S.Assign v (division_node op d e)) (S.Divide v (statement_of op) d e)) k
+        (quotient_or_rest op k a b) y
+    divides_some_by true is fixed wide some =
+        assign_makes l ws y (division_node op d e) k (quotient_or_rest op k a b)
+        (division_means ws y.env k a b d e means also op (known is fixed wide))
+    divides_some_by false is fixed wide some =
+        λ v returns same. divided_is l ws y op v k a b d e returns means also
+        ∙ ap (λ o. code.divided v o y) (divide_some op k a b some)
+
+    divides_none_by : (t : Bool)
+        → divides_at (kind_of l w.space) op w ≡ t
+        → (kind_of l w.space ≡ Constant → w.offset ≡ b)
+        → nearest w.size ≡ k
+        → divide_value op k a b ≡ None
+        → b ≡ 0
+        → Fails l ws (λ v. cond t (S.Assign v (division_node op d e)) (S.Divide v (statement_of op) d e)) DivZero y
+    divides_none_by true is fixed wide none zero = absurd (divides_some op k b (known is fixed wide) zero)
+    divides_none_by false is fixed wide none zero =
+        λ v returns. divided_is l ws y op v k a b d e returns means also ∙ ap (λ o. code.divided v o y) none
+
+-- ---- all ops
+
+module _
+    {M : Type 0}
+    (m : Acts M)
+    (l : Listing)
+    (f : Frame)
+    (look : M → Bytes)
+    (ranges : List Varnode)
+    (ws : ℕ → ℕ)
+    (is : AsBytes m l look)
+    (set : Setting l ranges ws)
+    (i : Instruction)
+    (s : State M)
+    (x : Local)
+    (go : s.world.over ≡ None)
+    (unframed : f.own s.at 0 ≡ None)
+    (sees : Sees l ranges look s x)
+    (n : ℕ)
+    (free : length ranges ≤ n)
+    (returns : List Stmt → Bool)
+  where
+    abbrev Meet : Opcode → Option Varnode → List Varnode → Type 0
+    Meet code out vs = Meets l ranges look (next_place i s.at.index) (step_at m l f (Does i (op_of code out vs)) s)
+        (run_all l ws returns (op_made l ranges n code out vs).statements x)
+
+    unary_meets : (op : Unary) (z v : Varnode)
+        → IsPlainOp l ranges (O.Unary op) (Some z) (v ∷ [])
+        → AreWide ws n (op_made l ranges n (O.Unary op) (Some z) (v ∷ [])).locals
+        → Meet (O.Unary op) (Some z) (v ∷ [])
+    unary_meets op z v h wide =
+        let d = word_at (reads l ranges n (v ∷ [])) 0 in
+        let node = unary_node op z.size d in
+        let small = h.1.1.0 in
+        computes_meets m l f look ranges ws is set (next_place i s.at.index) s go n free (v ∷ []) z returns
+        (λ u. S.Assign u node) x (step_at m l f (Does i (op_of (O.Unary op) (Some z) (v ∷ []))) s) h.1.1
+        (h.1.0, tt) wide
+        sees
+        (λ y r.
+        let o = one_of m l ws s y.env v d r.words r.have in
+        inl (record {
+          word = unary_value op v.size o.word z.size;
+          below = unary_word op v.size z.size o.word small.0 h.0 o.has.below;
+          makes = assign_makes l ws y node z.size (unary_value op v.size o.word z.size)
+              (unary_means ws y.env op v.size z.size o.word d h.0 small.0 small.1 h.1.0.0.1 o.has.below o.has.means);
+          step = unary_step m l f i s op z v o.word (r.read ∙ ap (λ q. Ok q) o.are);
+        }))
+
+    binary_meets : (op : Binary) (z v w : Varnode)
+        → IsPlainOp l ranges (O.Binary op) (Some z) (v ∷ w ∷ [])
+        → AreWide ws n (op_made l ranges n (O.Binary op) (Some z) (v ∷ w ∷ [])).locals
+        → Meet (O.Binary op) (Some z) (v ∷ w ∷ [])
+    binary_meets op z v w h wide =
+        let reading = reads l ranges n (v ∷ w ∷ []) in
+        let d = word_at reading 0 in
+        let e = word_at reading 1 in
+        let node = binary_node op v.size w.offset z.size d e in
+        let small = h.1.1.0 in
+        computes_meets m l f look ranges ws is set (next_place i s.at.index) s go n free (v ∷ w ∷ []) z returns
+        (λ u. S.Assign u node) x (step_at m l f (Does i (op_of (O.Binary op) (Some z) (v ∷ w ∷ []))) s) h.1.1
+        (h.1.0.0, (h.1.0.1, tt)) wide sees
+        (λ y r.
+        let o = two_of m l ws s y.env v w d e r.words r.have in
+        let word = binary_value op v.size o.first w.size o.second z.size in
+        let drops = dropped_by l op w o.second h.0.0
+        (λ c. constant_has m l ws s y.env (kind_of l w.space) w e o.second c o.also) in
+        inl (record {
+          word = word;
+          below = binary_word op v.size w.size z.size o.first o.second small.0 h.0.1 o.has.below o.also.below;
+          makes = assign_makes l ws y node z.size word
+              (binary_means ws y.env op v.size w.size z.size o.first o.second w.offset d e h.0.1 drops h.1.0.0.0 small
+              o.has.below o.has.means o.also.means);
+          step = binary_step m l f i s op z v w o.first o.second (r.read ∙ ap (λ q. Ok q) o.are);
+        }))
+
+    divide_meets : (op : Divide) (z v w : Varnode)
+        → IsPlainOp l ranges (O.Divide op) (Some z) (v ∷ w ∷ [])
+        → AreWide ws n (op_made l ranges n (O.Divide op) (Some z) (v ∷ w ∷ [])).locals
+        → Meet (O.Divide op) (Some z) (v ∷ w ∷ [])
+    divide_meets op z v w h wide =
+        let reading = reads l ranges n (v ∷ w ∷ []) in
+        let d = word_at reading 0 in
+        let e = word_at reading 1 in
+        let t = divides_at (kind_of l w.space) op w in
+        let small = h.1.1.0 in
+        computes_meets m l f look ranges ws is set (next_place i s.at.index) s go n free (v ∷ w ∷ []) z returns
+        (divides l op w d e) x (step_at m l f (Does i (op_of (O.Divide op) (Some z) (v ∷ w ∷ []))) s) h.1.1
+        (h.1.0.0, (h.1.0.1, tt)) wide sees
+        (λ y r.
+        let o = two_of m l ws s y.env v w d e r.words r.have in
+        let a = o.first in
+        let b = o.second in
+        let P : ℕ → Type 0 = λ k. Means ws y.env d k a in
+        let Q : ℕ → Type 0 = λ k. Means ws y.env e k b in
+        let R : ℕ → Type 0 = λ k. a < limit k in
+        let means : Means ws y.env d z.size a = subst P h.0.0 o.has.means in
+        let also : Means ws y.env e z.size b = subst Q h.0.1 o.also.means in
+        let fixed : kind_of l w.space ≡ Constant → w.offset ≡ b =
+        λ c. constant_has m l ws s y.env (kind_of l w.space) w e b c o.also in
+        let near : nearest w.size ≡ z.size = ap nearest h.0.1 ∙ nearest_is z.size small.0 small.1 in
+        let read : read_all m l f s (all_read (v ∷ w ∷ [])) ≡ Ok (a ∷ b ∷ []) = r.read ∙ ap (λ q. Ok q) o.are in
+        ⊎_elim
+        (λ (zero : b ≡ 0).
+        let none : divide_value op z.size a b ≡ None = ap (divide_value op z.size a) zero ∙ divide_none op z.size a in
+        inr (record {
+          fails = divides_none_by l ws y op w z.size a b d e means also t refl fixed near none zero;
+          step = divide_ends m l f i s op z v w a b read none;
+        }))
+        (λ (some : b ≢ 0).
+        inl (record {
+          word = quotient_or_rest op z.size a b;
+          below = divide_word op z.size a b (quotient_or_rest op z.size a b) (subst R h.0.0 o.has.below)
+              (divide_some op z.size a b some);
+          makes = divides_some_by l ws y op w z.size a b d e means also t refl fixed near some;
+          step = divide_step m l f i s op z v w a b read some;
+        }))
+        (cases_eq b 0))
+
+    load_meets : (z at v : Varnode)
+        → IsPlainOp l ranges O.Load (Some z) (at ∷ v ∷ [])
+        → AreWide ws n (op_made l ranges n O.Load (Some z) (at ∷ v ∷ [])).locals
+        → Meet O.Load (Some z) (at ∷ v ∷ [])
+    load_meets z at v h wide =
+        let d = word_at (reads l ranges n (v ∷ [])) 0 in
+        let e = address l at.offset v.size d in
+        let next = next_place i s.at.index in
+        computes_meets m l f look ranges ws is set next s go n free (v ∷ []) z returns
+        (λ u. S.Load u (name_of l at.offset) e) x (step_at m l f (Does i (op_of O.Load (Some z) (at ∷ v ∷ []))) s) h.1.1
+        (h.1.0, tt) wide sees
+        (λ y r.
+        let o = one_of m l ws s y.env v d r.words r.have in
+        let to = byte_address l at.offset o.word in
+        let mem : look s.world.memory ≡ y.world.memory = ap (λ w. w.memory) r.sees.world in
+        let P : Bytes → Type 0 = λ b. word_in_bytes l at.offset to z.size b < limit z.size in
+        inl (record {
+          word = word_in_bytes l at.offset to z.size y.world.memory;
+          below = subst P mem (word_below l at.offset to z.size (look s.world.memory) r.sees.memory);
+          makes = λ u returns wide. load_runs l ws returns at.offset h.0 u z.size to e y wide
+              (address_points ws y.env l at.offset v.size o.word d h.0 h.1.0.0.0 h.1.0.0.1 o.has.means);
+          step = load_step m l f i s look is at v z o.word (r.read ∙ ap (λ q. Ok q) o.are) unframed
+              ∙ ap (λ b. write_varnode m l (kind_of l z.space) z (word_in_bytes l at.offset to z.size b) (moved next s))
+              mem;
+        }))
+
+    -- An op that goes on.
+    pub op_meets : (code : Opcode) (out : Option Varnode) (vs : List Varnode)
+        → IsPlainOp l ranges code out vs
+        → turn_of l code vs ≡ GoesOn
+        → AreWide ws n (op_made l ranges n code out vs).locals
+        → Meets l ranges look (next_place i s.at.index) (step_at m l f (Does i (op_of code out vs)) s)
+        (run_all l ws returns (op_made l ranges n code out vs).statements x)
+    op_meets (O.Unary op) (Some z) (v ∷ []) h turn wide = unary_meets op z v h wide
+    op_meets (O.Binary op) (Some z) (v ∷ w ∷ []) h turn wide = binary_meets op z v w h wide
+    op_meets (O.Divide op) (Some z) (v ∷ w ∷ []) h turn wide = divide_meets op z v w h wide
+    op_meets O.Load (Some z) (at ∷ v ∷ []) h turn wide = load_meets z at v h wide
+    op_meets O.Store None (at ∷ v ∷ w ∷ []) h turn wide =
+        stores_meet m l f look ranges ws is set (next_place i s.at.index) s go n free at.offset v w returns x
+        (step_at m l f (Does i (op_of O.Store None (at ∷ v ∷ w ∷ []))) s) h.0 (h.1.0, (h.1.1, tt)) wide sees
+        (λ a b read. store_step m l f i s at v w a b read unframed)
+    op_meets O.Branch out vs h turn wide = absurd (cc)
+    op_meets O.CBranch out vs h turn wide = absurd (cc)
+    op_meets O.Return out vs h turn wide = absurd (cc)
+    op_meets (O.Unary op) None vs h turn wide = absurd h
+    op_meets (O.Unary op) (Some z) [] h turn wide = absurd h
+    op_meets (O.Unary op) (Some z) (v ∷ w ∷ vs) h turn wide = absurd h
+    op_meets (O.Binary op) None vs h turn wide = absurd h
+    op_meets (O.Binary op) (Some z) [] h turn wide = absurd h
+    op_meets (O.Binary op) (Some z) (v ∷ []) h turn wide = absurd h
+    op_meets (O.Binary op) (Some z) (v ∷ w ∷ u ∷ vs) h turn wide = absurd h
+    op_meets (O.Divide op) None vs h turn wide = absurd h
+    op_meets (O.Divide op) (Some z) [] h turn wide = absurd h
+    op_meets (O.Divide op) (Some z) (v ∷ []) h turn wide = absurd h
+    op_meets (O.Divide op) (Some z) (v ∷ w ∷ u ∷ vs) h turn wide = absurd h
+    op_meets O.Load None vs h turn wide = absurd h
+    op_meets O.Load (Some z) [] h turn wide = absurd h
+    op_meets O.Load (Some z) (v ∷ []) h turn wide = absurd h
+    op_meets O.Load (Some z) (v ∷ w ∷ u ∷ vs) h turn wide = absurd h
+    op_meets O.Store (Some z) vs h turn wide = absurd h
+    op_meets O.Store None [] h turn wide = absurd h
+    op_meets O.Store None (v ∷ []) h turn wide = absurd h
+    op_meets O.Store None (v ∷ w ∷ []) h turn wide = absurd h
+    op_meets O.Store None (v ∷ w ∷ u ∷ t ∷ vs) h turn wide = absurd h
+    op_meets code out vs h turn wide = absurd h

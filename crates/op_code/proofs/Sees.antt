@@ -1,0 +1,102 @@
+-- The state of a code's run beside that of the listing's.
+use Rattle.std.proofs.Common.{◌≡◌, ℕ, zero, suc, ◌+◌, ◌≤◌, Bool, true, false, List, [], ◌∷◌, ◌++◌, length, Some, None, refl, sym, ap, ◌∙◌, subst, arith, ⊎_elim}
+use Rattle.std.specs.Prelude.{slice_get, cond}
+use Rattle.std.proofs.lemmas.Bool.Decides.{nat_tests}
+use Rattle.pcode_model.specs.declared.listing.Varnode.{Varnode}
+use Rattle.pcode_model.specs.declared.listing.Place.{Place}
+use Rattle.pcode_model.specs.declared.listing.Listing.{Listing}
+use Rattle.pcode_model.specs.Flow.{IsIn}
+use Rattle.pcode_model.specs.Memory.{Bytes}
+use Rattle.pcode_model.specs.Step.{State}
+use Rattle.pcode_laws.specs.AsBytes.{seen_over}
+use Rattle.range_words.specs.Ranges.{IsTable, Holds, AreBytes}
+use Rattle.range_words.proofs.Variables.{holds_other}
+use Rattle.cmeaning.specs.Do.{Local, assigned}
+use Rattle.blockcode.specs.declared.code.Variable.{Variable}
+use Rattle.op_code.specs.Form.{IsNarrow}
+use Rattle.op_code.specs.Made.{same_range, variable_of}
+
+-- The worlds are the same over what is seen of memory, and the variables of ranges hold the ranges' words.
+pub record Sees {M : Type 0} (l : Listing) (ranges : List Varnode) (look : M → Bytes) (s : State M) (x : Local) : Type
+    0 where
+  pub world : seen_over look s.world ≡ x.world
+  pub holds : Holds l ranges s.local x.env
+  pub bytes : AreBytes s.local
+  pub memory : AreBytes (look s.world.memory)
+
+-- An op's state and the code's go together, and the op has gone on to this place.
+pub record Meets {M : Type 0} (l : Listing) (ranges : List Varnode) (look : M → Bytes) (next : Place) (s : State M)
+    (x : Local) : Type 0 where
+  pub sees : Sees l ranges look s x
+  pub at : s.world.over ≡ None → s.at ≡ next
+
+-- the variables of the ranges have the ranges' widths
+pub record Setting (l : Listing) (ranges : List Varnode) (ws : ℕ → ℕ) : Type 0 where
+  pub table : IsTable l ranges
+  pub widths : (n : ℕ) (v : Varnode) → slice_get ranges n ≡ Some v → IsNarrow v → ws n ≡ v.size
+
+-- the variables from a number on have the widths of these
+abbrev pub AreWide : (ℕ → ℕ) → ℕ → List Variable → Type 0
+AreWide ws n [] = Unit {0}
+AreWide ws n (v ∷ vs) = (ws n ≡ v.width.bytes) × AreWide ws (suc n) vs
+
+pub wide_front : (ws : ℕ → ℕ) (n : ℕ) (xs ys : List Variable) → AreWide ws n (xs ++ ys) → AreWide ws n xs
+wide_front ws n [] ys h = tt
+wide_front ws n (x ∷ xs) ys h = (h.0, wide_front ws (suc n) xs ys h.1)
+
+pub wide_back : (ws : ℕ → ℕ) (n : ℕ) (xs ys : List Variable)
+    → AreWide ws n (xs ++ ys)
+    → AreWide ws (n + length xs) ys
+wide_back ws n [] ys h = let e : n + 0 ≡ n = omega arith in let P : ℕ → Type 0 = λ k. AreWide ws k ys in
+    subst P (sym e) h
+wide_back ws n (x ∷ xs) ys h =
+    let e : n + suc (length xs) ≡ suc n + length xs = omega arith in
+    let P : ℕ → Type 0 = λ k. AreWide ws k ys in
+    subst P (sym e) (wide_back ws (suc n) xs ys h.1)
+
+-- ---- the variable of a range
+
+same_by : (a v : Varnode) → same_range a v ≡ true → a ≡ v
+same_by a v t =
+    let s : a.space ≡ v.space = grind (arith, nat_tests) in
+    let o : a.offset ≡ v.offset = grind (arith, nat_tests) in
+    let k : a.size ≡ v.size = grind (arith, nat_tests) in
+    ap (λ (x : ℕ). let r : Varnode = record { space = x; offset = a.offset; size = a.size } in r) s
+    ∙ ap (λ (x : ℕ). let r : Varnode = record { space = v.space; offset = x; size = a.size } in r) o
+    ∙ ap (λ (x : ℕ). let r : Varnode = record { space = v.space; offset = v.offset; size = x } in r) k
+
+same_self : (v : Varnode) → same_range v v ≡ true
+same_self v = grind (arith, nat_tests)
+
+found_at : (t : Bool) (a v : Varnode) (rest : List Varnode)
+    → same_range a v ≡ t
+    → (IsIn v rest → slice_get rest (variable_of rest v) ≡ Some v)
+    → IsIn v (a ∷ rest)
+    → slice_get (a ∷ rest) (cond t 0 (suc (variable_of rest v))) ≡ Some v
+found_at true a v rest is later h = ap (λ x. Some x) (same_by a v is)
+found_at false a v rest is later h = ⊎_elim
+    (λ (same : v ≡ a). let s : same_range a v ≡ true = ap (λ x. same_range x v) (sym same) ∙ same_self v in absurd (cc))
+    later h
+
+-- The variable of a range stands for that range.
+pub found : (ranges : List Varnode) (v : Varnode) → IsIn v ranges → slice_get ranges (variable_of ranges v) ≡ Some v
+found [] v h = absurd h
+found (a ∷ rest) v h = found_at (same_range a v) a v rest refl (found rest v) h
+
+past_end : {A : Type 0} (xs : List A) (n : ℕ) → length xs ≤ n → slice_get xs n ≡ None
+past_end [] n h = refl
+past_end (x ∷ xs) zero h = absurd (omega (arith, h))
+past_end (x ∷ xs) (suc n) h = past_end xs n (omega (arith, h))
+
+-- a local is assigned
+pub sees_local : {M : Type 0} (l : Listing) (ranges : List Varnode) (look : M → Bytes) (s : State M) (x : Local)
+    (v n : ℕ)
+    → length ranges ≤ v
+    → Sees l ranges look s x
+    → Sees l ranges look s (assigned v n x)
+sees_local l ranges look s x v n behind sees = record {
+  world = sees.world;
+  holds = holds_other l ranges v (past_end ranges v behind) (Some n) s.local x.env sees.holds;
+  bytes = sees.bytes;
+  memory = sees.memory;
+}

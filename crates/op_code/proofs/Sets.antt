@@ -1,0 +1,154 @@
+-- An output is set: its variable is assigned, or a local that is stored then.
+use Rattle.std.proofs.Common.{◌≡◌, ℕ, ◌<◌, ◌≤◌, Bool, List, [], ◌∷◌, length, Some, None, refl, sym, ap, ◌∙◌, subst}
+use Rattle.machine.specs.Trace.{End}
+use Rattle.bits_core.specs.Value.{limit}
+use Rattle.pcode_model.specs.declared.listing.SpaceKind.{SpaceKind}
+use Rattle.pcode_model.specs.declared.listing.SpaceKind.TheVariants.{Constant, Ram, Register, Unique}
+use Rattle.pcode_model.specs.declared.listing.Varnode.{Varnode}
+use Rattle.pcode_model.specs.declared.listing.Place.{Place}
+use Rattle.pcode_model.specs.declared.listing.Listing.{Listing}
+use Rattle.pcode_model.specs.Flow.{IsIn}
+use Rattle.pcode_model.specs.Memory.{Acts, Bytes, plain}
+use Rattle.pcode_model.specs.World.{ended, store}
+use Rattle.pcode_model.specs.Step.{State, bytes_in, in_world, moved, with_word, write_varnode}
+use Rattle.pcode_laws.specs.AsBytes.{AsBytes}
+use Rattle.pcode_laws.proofs.Puts.{put_at}
+use Rattle.range_words.proofs.Variables.{bytes_written, holds_written}
+use Rattle.cmeaning.specs.declared.tree.Expr.TheVariants as E
+use Rattle.cmeaning.specs.declared.tree.Stmt.{Stmt}
+use Rattle.cmeaning.specs.declared.tree.Stmt.TheVariants as S
+use Rattle.cmeaning.specs.Do.{Local, assigned, do_simple, ends}
+use Rattle.cmeaning.specs.Do as code
+use Rattle.cmeaning.proofs.Value.{width_of_var, value_of_var}
+use Rattle.blockcode.proofs.Straight.{run_all, run_over}
+use Rattle.op_values.proofs.Means.{Means, nearest_is}
+use Rattle.op_code.specs.Made.{address_of, name_of, set_by, variable_of}
+use Rattle.op_code.specs.Form.{IsDirect, IsNarrow, IsOutputBy}
+use Rattle.op_code.proofs.Access.{direct_points, store_meets, store_runs}
+use Rattle.op_code.proofs.Operands.{run_one}
+use Rattle.op_code.proofs.Sees.{AreWide, Meets, Sees, Setting, found, sees_local}
+
+-- The statement assigns this word to any variable of so many bytes.
+abbrev pub Makes : Listing → (ℕ → ℕ) → (ℕ → Stmt) → (k n : ℕ) → Local → Type 0
+Makes l ws make k n x = (v : ℕ) (returns : ℕ → Bool) → ws v ≡ k → do_simple l ws returns (make v) x ≡ assigned v n x
+
+-- The statement ends the run.
+abbrev pub Fails : Listing → (ℕ → ℕ) → (ℕ → Stmt) → End → Local → Type 0
+Fails l ws make e x = (v : ℕ) (returns : ℕ → Bool) → do_simple l ws returns (make v) x ≡ ends e x
+
+module _
+    {M : Type 0}
+    (m : Acts M)
+    (l : Listing)
+    (look : M → Bytes)
+    (ranges : List Varnode)
+    (ws : ℕ → ℕ)
+    (is : AsBytes m l look)
+    (set : Setting l ranges ws)
+    (next : Place)
+    (s : State M)
+    (x : Local)
+    (go : x.world.over ≡ None)
+    (sees : Sees l ranges look s x)
+    (returns : List Stmt → Bool)
+    (make : ℕ → Stmt)
+  where
+    -- a range that is a variable's
+    local_meets : (z : Varnode) (n : ℕ)
+        → IsNarrow z
+        → IsIn z ranges
+        → n < limit z.size
+        → Makes l ws make z.size n x
+        → (let there : State M = record { at = next; local = with_word l z n s.local; world = s.world } in
+        Meets l ranges look next there (run_all l ws returns (make (variable_of ranges z) ∷ []) x))
+    local_meets z n narrow h below makes =
+        let v = variable_of ranges z in
+        let at = found ranges z h in
+        let there : State M = record { at = next; local = with_word l z n s.local; world = s.world } in
+        let ran = run_one l ws returns (make v) [] x (assigned v n x) go
+        (makes v (λ c. returns []) (set.widths v z at narrow)) in
+        let P : Local → Type 0 = λ y. Meets l ranges look next there y in
+        subst P (sym ran) (record {
+          sees = record {
+            world = sees.world;
+            holds = holds_written l ranges set.table v z at n below s.local x.env sees.holds;
+            bytes = bytes_written l z n s.local sees.bytes;
+            memory = sees.memory;
+          };
+          at = λ _. refl;
+        })
+
+    -- a direct range of memory
+    memory_meets : (t : ℕ) (z : Varnode) (n : ℕ)
+        → IsNarrow z
+        → IsDirect l z
+        → length ranges ≤ t
+        → ws t ≡ z.size
+        → Makes l ws make z.size n x
+        → Meets l ranges look next
+        (in_world (store m z.space z.offset (bytes_in l z.space z.size n) s.world) (moved next s))
+        (run_all l ws returns (make t ∷ S.Store (name_of l z.space) (address_of l z) (E.Var t) ∷ []) x)
+    memory_meets t z n narrow h behind wide makes =
+        let to = S.Store (name_of l z.space) (address_of l z) (E.Var t) in
+        let y : Local = assigned t n x in
+        let w : Local = code.in_world (store (plain l) z.space z.offset (bytes_in l z.space z.size n) y.world) y in
+        let held : Means ws y.env (E.Var t) z.size n = record {
+          width = width_of_var ws t ∙ wide;
+          value = value_of_var ws y.env t ∙ put_at x.env t (Some n);
+        } in
+        let first = run_one l ws returns (make t) (to ∷ []) x y go (makes t (λ c. returns (to ∷ [])) wide) in
+        let second = run_one l ws returns to [] y w go
+        (store_runs l ws (λ c. returns []) z.space h.0 z.size n z.offset (address_of l z) (E.Var t) y
+        (direct_points ws y.env l z h) held) in
+        let P : Local → Type 0 = λ u. Meets l ranges look next
+        (in_world (store m z.space z.offset (bytes_in l z.space z.size n) s.world) (moved next s)) u in
+        subst P (sym (first ∙ second))
+        (store_meets m l look is ranges next z.space z.offset z.size n s y
+        (sees_local l ranges look s x t n behind sees))
+
+    -- A word is written to an output.
+    pub set_meets : (k : SpaceKind) (t : ℕ) (z : Varnode) (n : ℕ)
+        → IsNarrow z
+        → IsOutputBy k l ranges z
+        → n < limit z.size
+        → length ranges ≤ t
+        → AreWide ws t (set_by k l ranges t z make).locals
+        → Makes l ws make z.size n x
+        → Meets l ranges look next (write_varnode m l k z n (moved next s))
+        (run_all l ws returns (set_by k l ranges t z make).statements x)
+    set_meets Constant t z n narrow h below behind wide makes = absurd h
+    set_meets Ram t z n narrow h below behind wide makes =
+        memory_meets t z n narrow h behind (wide.0 ∙ nearest_is z.size narrow.0 narrow.1) makes
+    set_meets Register t z n narrow h below behind wide makes = local_meets z n narrow h below makes
+    set_meets Unique t z n narrow h below behind wide makes = local_meets z n narrow h below makes
+
+    ended_meets : (e : End) → Meets l ranges look next (in_world (ended e s.world) s) (ends e x)
+    ended_meets e = record {
+      sees = record {
+        world = ap (ended e) sees.world;
+        holds = sees.holds;
+        bytes = sees.bytes;
+        memory = sees.memory;
+      };
+      at = λ g. absurd (cc);
+    }
+
+    fails_first : (e : End) (v : ℕ) (rest : List Stmt)
+        → Fails l ws make e x
+        → Meets l ranges look next (in_world (ended e s.world) s) (run_all l ws returns (make v ∷ rest) x)
+    fails_first e v rest fails =
+        let ran = run_one l ws returns (make v) rest x (ends e x) go (fails v (λ c. returns rest))
+        ∙ run_over l ws returns rest (ends e x) e refl in
+        let P : Local → Type 0 = λ y. Meets l ranges look next (in_world (ended e s.world) s) y in
+        subst P (sym ran) (ended_meets e)
+
+    -- Both end before an output is written.
+    pub fail_meets : (k : SpaceKind) (t : ℕ) (z : Varnode) (e : End)
+        → Fails l ws make e x
+        → Meets l ranges look next (in_world (ended e s.world) s)
+        (run_all l ws returns (set_by k l ranges t z make).statements x)
+    fail_meets Constant t z e fails = fails_first e (variable_of ranges z) [] fails
+    fail_meets Ram t z e fails =
+        fails_first e t (S.Store (name_of l z.space) (address_of l z) (E.Var t) ∷ []) fails
+    fail_meets Register t z e fails = fails_first e (variable_of ranges z) [] fails
+    fail_meets Unique t z e fails = fails_first e (variable_of ranges z) [] fails

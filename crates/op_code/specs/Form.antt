@@ -1,0 +1,84 @@
+-- The form of the ops that have statements so far. This project's own.
+use Rattle.std.specs.Prelude.{◌≡◌, ℕ, ◌<◌, ◌≤◌, List, [], ◌∷◌, Option, Some, None}
+use Rattle.bits_core.specs.Value.{limit, IsUnarySized, IsBinarySized}
+use Rattle.bits_core.specs.declared.ops.Binary.{Binary}
+use Rattle.bits_core.specs.declared.ops.Binary.TheVariants as B
+use Rattle.pcode_model.specs.declared.listing.SpaceKind.{SpaceKind}
+use Rattle.pcode_model.specs.declared.listing.SpaceKind.TheVariants.{Constant, Ram, Register, Unique}
+use Rattle.pcode_model.specs.declared.listing.Varnode.{Varnode}
+use Rattle.pcode_model.specs.declared.listing.Listing.{Listing}
+use Rattle.pcode_model.specs.declared.opcode.Opcode.{Opcode}
+use Rattle.pcode_model.specs.declared.opcode.Opcode.TheVariants as O
+use Rattle.pcode_model.specs.Flow.{IsIn}
+use Rattle.pcode_model.specs.Spaces.{kind_of, size_of, word_size}
+use Rattle.pcode_model.specs.Step.{proto_of}
+use Rattle.cmeaning.specs.Do.{accessed}
+use Rattle.op_code.specs.Made.{name_of, offset_bytes}
+
+-- A ram space: a statement names it, and its offsets and words are of so many bytes.
+pub record IsMemory (l : Listing) (s : ℕ) : Type 0 where
+  pub ram : kind_of l s ≡ Ram
+  pub name : accessed l (name_of l s) ≡ s
+  pub some : 0 < offset_bytes l s
+  pub few : offset_bytes l s ≤ 8
+  pub word : word_size l s ≤ 8
+
+abbrev pub IsNarrow : Varnode → Type 0
+IsNarrow v = (0 < v.size) × (v.size ≤ 16)
+
+-- it begins in its space
+abbrev pub IsDirect : Listing → Varnode → Type 0
+IsDirect l v = IsMemory l v.space × (v.offset < size_of l v.space)
+
+abbrev pub IsOperandBy : SpaceKind → Listing → List Varnode → Varnode → Type 0
+IsOperandBy Constant l ranges v = v.offset < limit v.size
+IsOperandBy Ram l ranges v = IsDirect l v
+IsOperandBy Register l ranges v = IsIn v ranges
+IsOperandBy Unique l ranges v = IsIn v ranges
+
+-- a constant, a direct range of memory, or a range that is a variable's
+abbrev pub IsOperand : Listing → List Varnode → Varnode → Type 0
+IsOperand l ranges v = IsNarrow v × IsOperandBy (kind_of l v.space) l ranges v
+
+abbrev pub IsOutputBy : SpaceKind → Listing → List Varnode → Varnode → Type 0
+IsOutputBy Constant l ranges v = ⊥
+IsOutputBy Ram l ranges v = IsDirect l v
+IsOutputBy Register l ranges v = IsIn v ranges
+IsOutputBy Unique l ranges v = IsIn v ranges
+
+-- a direct range of memory, or a range that is a variable's
+abbrev pub IsOutput : Listing → List Varnode → Varnode → Type 0
+IsOutput l ranges v = IsNarrow v × IsOutputBy (kind_of l v.space) l ranges v
+
+-- the second input of SUBPIECE is a constant
+abbrev pub IsSecond : Listing → Binary → Varnode → Type 0
+IsSecond l B.Subpiece v = kind_of l v.space ≡ Constant
+IsSecond l op v = Unit {0}
+
+-- the result of a function is a range that is a variable's
+abbrev pub IsLocalBy : SpaceKind → List Varnode → Varnode → Type 0
+IsLocalBy Constant ranges v = ⊥
+IsLocalBy Ram ranges v = ⊥
+IsLocalBy Register ranges v = IsIn v ranges
+IsLocalBy Unique ranges v = IsIn v ranges
+
+abbrev pub IsResult : Listing → List Varnode → Option Varnode → Type 0
+IsResult l ranges None = Unit {0}
+IsResult l ranges (Some v) = IsNarrow v × IsLocalBy (kind_of l v.space) ranges v
+
+abbrev pub IsPlainOp : Listing → List Varnode → Opcode → Option Varnode → List Varnode → Type 0
+IsPlainOp l ranges (O.Unary op) (Some z) (x ∷ []) =
+    IsUnarySized op x.size z.size × (IsOperand l ranges x × IsOutput l ranges z)
+IsPlainOp l ranges (O.Binary op) (Some z) (x ∷ y ∷ []) =
+    (IsSecond l op y × IsBinarySized op x.size y.size z.size)
+    × ((IsOperand l ranges x × IsOperand l ranges y) × IsOutput l ranges z)
+IsPlainOp l ranges (O.Divide op) (Some z) (x ∷ y ∷ []) =
+    ((x.size ≡ z.size) × (y.size ≡ z.size)) × ((IsOperand l ranges x × IsOperand l ranges y) × IsOutput l ranges z)
+IsPlainOp l ranges O.Load (Some z) (s ∷ x ∷ []) =
+    IsMemory l s.offset × (IsOperand l ranges x × IsOutput l ranges z)
+IsPlainOp l ranges O.Store None (s ∷ x ∷ y ∷ []) =
+    IsMemory l s.offset × (IsOperand l ranges x × IsOperand l ranges y)
+IsPlainOp l ranges O.Branch None (to ∷ []) = Unit {0}
+IsPlainOp l ranges O.CBranch None (to ∷ x ∷ []) = (x.size ≡ 1) × IsOperand l ranges x
+IsPlainOp l ranges O.Return None (to ∷ []) = IsOperand l ranges to × IsResult l ranges (proto_of l None).gives
+IsPlainOp l ranges code out vs = ⊥

@@ -1,0 +1,189 @@
+-- What stands for an op: its statements, and the locals that they need, numbered behind the variables that there are.
+-- Both come by one definition, so that there are as many locals as the statements name. This project's own.
+use Rattle.std.specs.Prelude.{ℕ, suc, ◌+◌, ◌==◌, ◌&&◌, Bool, false, if◌then◌else◌, List, [], ◌∷◌, ◌++◌, length, slice_get, Option, Some, None}
+use Rattle.std.specs.List.{slice_index_or}
+use Rattle.bits_core.specs.declared.ops.Divide.{Divide}
+use Rattle.pcode_model.specs.declared.listing.Space.{Space}
+use Rattle.pcode_model.specs.declared.listing.SpaceKind.{SpaceKind}
+use Rattle.pcode_model.specs.declared.listing.SpaceKind.TheVariants.{Constant, Ram, Register, Unique}
+use Rattle.pcode_model.specs.declared.listing.Varnode.{Varnode}
+use Rattle.pcode_model.specs.declared.listing.Listing.{Listing}
+use Rattle.pcode_model.specs.declared.opcode.Opcode.{Opcode}
+use Rattle.pcode_model.specs.declared.opcode.Opcode.TheVariants as O
+use Rattle.pcode_model.specs.Spaces.{first_ram, kind_of, offset_bytes_in, word_size}
+use Rattle.pcode_model.specs.Step.{size_out, varnode_at}
+use Rattle.cmeaning.specs.declared.tree.Expr.{Expr}
+use Rattle.cmeaning.specs.declared.tree.Expr.TheVariants as E
+use Rattle.cmeaning.specs.declared.tree.Stmt.{Stmt}
+use Rattle.cmeaning.specs.declared.tree.Stmt.TheVariants as S
+use Rattle.blockcode.specs.declared.code.Variable.{Variable}
+use Rattle.op_values.specs.Nodes.{address_node, binary_node, constant, divides_by, division_node, nearest, statement_of, unary_node, width_by}
+
+-- ---- ranges and their variables
+
+abbrev pub same_range : Varnode → Varnode → Bool
+same_range v w = v.space == w.space && (v.offset == w.offset && v.size == w.size)
+
+-- the number of the variable that stands for a range
+abbrev pub variable_of : List Varnode → Varnode → ℕ
+variable_of [] v = 0
+variable_of (a ∷ rest) v = if same_range a v then 0 else suc (variable_of rest v)
+
+-- a variable of so many bytes that is no parameter
+abbrev pub local_of : ℕ → Variable
+local_of w = record { width = width_by w; storage = None }
+
+-- ---- memory
+
+abbrev pub name_in : Option Space → List ℕ
+name_in None = []
+name_in (Some s) = s.name
+
+-- a ram space by its name, and the first one without
+abbrev pub name_of : Listing → ℕ → Option (List ℕ)
+name_of l s = if s == first_ram l then None else Some (name_in (slice_get l.spaces s))
+
+-- the bytes of an offset in a space
+abbrev pub offset_bytes : Listing → ℕ → ℕ
+offset_bytes l s = offset_bytes_in (slice_get l.spaces s)
+
+-- the byte address of an offset of w bytes in a space
+abbrev pub address : Listing → ℕ → ℕ → Expr → Expr
+address l s w e = address_node (offset_bytes l s) (word_size l s) w e
+
+-- where a direct range of memory lies
+abbrev pub address_of : Listing → Varnode → Expr
+address_of l v = constant (offset_bytes l v.space) v.offset
+
+-- ---- what is read
+
+-- What stands for an operand.
+-- loads: what is done before.
+-- word: its word then.
+-- locals: those that are needed.
+pub record ReadOne : Type 0 where
+  pub loads : List Stmt
+  pub word : Expr
+  pub locals : List Variable
+
+-- A constant, the variable of a range, or a local that a direct range of memory is loaded to.
+abbrev pub read_by : SpaceKind → Listing → List Varnode → ℕ → Varnode → ReadOne
+read_by Constant l ranges next v = record { loads = []; word = constant v.size v.offset; locals = [] }
+read_by Ram l ranges next v = record {
+  loads = S.Load next (name_of l v.space) (address_of l v) ∷ [];
+  word = E.Var next;
+  locals = local_of v.size ∷ [];
+}
+read_by Register l ranges next v = record { loads = []; word = E.Var (variable_of ranges v); locals = [] }
+read_by Unique l ranges next v = record { loads = []; word = E.Var (variable_of ranges v); locals = [] }
+
+abbrev pub read_one : Listing → List Varnode → ℕ → Varnode → ReadOne
+read_one l ranges next v = read_by (kind_of l v.space) l ranges next v
+
+pub record Read : Type 0 where
+  pub loads : List Stmt
+  pub words : List Expr
+  pub locals : List Variable
+
+-- operands, in their order
+abbrev pub reads : Listing → List Varnode → ℕ → List Varnode → Read
+reads l ranges next [] = record { loads = []; words = []; locals = [] }
+reads l ranges next (v ∷ vs) = record {
+  loads = (read_one l ranges next v).loads
+      ++ (reads l ranges (next + length (read_one l ranges next v).locals) vs).loads;
+  words = (read_one l ranges next v).word
+      ∷ (reads l ranges (next + length (read_one l ranges next v).locals) vs).words;
+  locals = (read_one l ranges next v).locals
+      ++ (reads l ranges (next + length (read_one l ranges next v).locals) vs).locals;
+}
+
+abbrev pub word_at : Read → ℕ → Expr
+word_at r n = slice_index_or r.words n (constant 1 0)
+
+-- ---- what is made
+
+pub record Made : Type 0 where
+  pub statements : List Stmt
+  pub locals : List Variable
+
+abbrev pub nothing : Made
+nothing = record { statements = []; locals = [] }
+
+-- the variable that an output's word is assigned to: the range's own, or the next local
+abbrev pub target_by : SpaceKind → List Varnode → ℕ → Varnode → ℕ
+target_by Ram ranges next z = next
+target_by k ranges next z = variable_of ranges z
+
+-- what follows: a local of memory is stored
+abbrev pub settle_by : SpaceKind → Listing → ℕ → Varnode → List Stmt
+settle_by Ram l next z = S.Store (name_of l z.space) (address_of l z) (E.Var next) ∷ []
+settle_by k l next z = []
+
+abbrev pub locals_by : SpaceKind → Varnode → List Variable
+locals_by Ram z = local_of z.size ∷ []
+locals_by k z = []
+
+-- an output, by the statement that sets a variable
+abbrev pub set_by : SpaceKind → Listing → List Varnode → ℕ → Varnode → (ℕ → Stmt) → Made
+set_by k l ranges next z make = record {
+  statements = make (target_by k ranges next z) ∷ settle_by k l next z;
+  locals = locals_by k z;
+}
+
+abbrev pub sets : Listing → List Varnode → ℕ → Option Varnode → (ℕ → Stmt) → Made
+sets l ranges next None make = nothing
+sets l ranges next (Some z) make = set_by (kind_of l z.space) l ranges next z make
+
+-- with what is read before
+abbrev pub behind : Read → Made → Made
+behind r m = record { statements = r.loads ++ m.statements; locals = r.locals ++ m.locals }
+
+-- an output that is set by what is read
+abbrev pub computes : Listing → List Varnode → ℕ → Option Varnode → Read → (ℕ → Stmt) → Made
+computes l ranges next out r make = behind r (sets l ranges (next + length r.locals) out make)
+
+-- ---- ops
+
+abbrev pub divides_at : SpaceKind → Divide → Varnode → Bool
+divides_at Constant op v = divides_by op (nearest v.size) v.offset
+divides_at k op v = false
+
+-- a division: an expression by a constant that lets it have a value, and else a statement
+abbrev pub divides : Listing → Divide → Varnode → (d e : Expr) → ℕ → Stmt
+divides l op v d e target = if divides_at (kind_of l v.space) op v then S.Assign target (division_node op d e)
+    else S.Divide target (statement_of op) d e
+
+-- a store to a space, of what is read
+abbrev pub stores : Listing → ℕ → ℕ → Read → Made
+stores l s w r = behind r (record {
+  statements = S.Store (name_of l s) (address l s w (word_at r 0)) (word_at r 1) ∷ [];
+  locals = [];
+})
+
+-- the input of a number, and that one and the next
+abbrev pub one_read : Listing → List Varnode → ℕ → List Varnode → ℕ → Read
+one_read l ranges next vs n = reads l ranges next (varnode_at vs n ∷ [])
+
+abbrev pub both_read : Listing → List Varnode → ℕ → List Varnode → ℕ → Read
+both_read l ranges next vs n = reads l ranges next (varnode_at vs n ∷ varnode_at vs (suc n) ∷ [])
+
+-- An op that leads on. What an op reads that leaves a block is its exit's.
+abbrev pub op_made : Listing → List Varnode → ℕ → Opcode → Option Varnode → List Varnode → Made
+op_made l ranges next (O.Unary op) out vs =
+    computes l ranges next out (one_read l ranges next vs 0)
+    (λ v. S.Assign v (unary_node op (size_out out) (word_at (one_read l ranges next vs 0) 0)))
+op_made l ranges next (O.Binary op) out vs =
+    computes l ranges next out (both_read l ranges next vs 0)
+    (λ v. S.Assign v (binary_node op (varnode_at vs 0).size (varnode_at vs 1).offset (size_out out)
+    (word_at (both_read l ranges next vs 0) 0) (word_at (both_read l ranges next vs 0) 1)))
+op_made l ranges next (O.Divide op) out vs =
+    computes l ranges next out (both_read l ranges next vs 0)
+    (divides l op (varnode_at vs 1) (word_at (both_read l ranges next vs 0) 0)
+    (word_at (both_read l ranges next vs 0) 1))
+op_made l ranges next O.Load out vs =
+    computes l ranges next out (one_read l ranges next vs 1)
+    (λ v. S.Load v (name_of l (varnode_at vs 0).offset)
+    (address l (varnode_at vs 0).offset (varnode_at vs 1).size (word_at (one_read l ranges next vs 1) 0)))
+op_made l ranges next O.Store out vs =
+    stores l (varnode_at vs 0).offset (varnode_at vs 1).size (both_read l ranges next vs 1)
+op_made l ranges next code out vs = nothing

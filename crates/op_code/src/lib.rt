@@ -1,0 +1,14 @@
+//! Ops as statements: what stands for an op, in memory's terms too, and the locals that it needs.
+//!
+//! An op's operands come first. A constant is itself and a range is its variable; a direct range of memory is loaded
+//! to a local of its own, in the order of the inputs. Then comes the statement that does what the op does, over the
+//! words that were read, and assigns its output's variable; where the output is a direct range of memory it is a local
+//! that is stored then. A division is an expression by a constant that lets it have a value, and else the statement
+//! that ends the run at 0. The statements of an op and its locals are made by one definition (`specs/Made.antt`), so
+//! that there are as many locals as statements name.
+//!
+//! It is right over any memory whose acts are those of bytes, as far as they are seen (`proofs/Ops.antt`): where a
+//! variable holds the word of each range, the memories look the same and both hold bytes, the statements lead to such
+//! states again, or to the same end. A local is no range, so it changes nothing that is asked of the variables; and
+//! where an op ends the run before its last statement, the statements behind do nothing.
+#![tactic(auto)]

@@ -1,0 +1,5 @@
+pub mod Addresses
+pub mod Divisions
+pub mod Means
+pub mod Operations
+pub mod Parts

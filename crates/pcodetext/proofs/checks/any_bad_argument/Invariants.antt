@@ -1,7 +1,0 @@
-use Rattle.std.proofs.Common.{◌≡◌, drop}
-use Rattle.std.specs.List.{list_any}
-use Rattle.pcodetext.specs.Faults.{is_bad_argument}
-use Rattle.pcodetext.proofs.checks.any_bad_argument.Given as goal
-
-abbrev pub invariant-loop-range : goal.invariant-loop-range
-invariant-loop-range l = list_any (is_bad_argument l.said) l.ranges ≡ list_any (is_bad_argument l.said) (drop l.range-index l.ranges)

@@ -1,7 +1,0 @@
-use Rattle.std.proofs.Common.{◌≡◌, drop}
-use Rattle.std.specs.List.{list_any}
-use Rattle.pcodetext.specs.Faults.{is_far}
-use Rattle.pcodetext.proofs.checks.any_far.Given as goal
-
-abbrev pub invariant-loop-range : goal.invariant-loop-range
-invariant-loop-range l = list_any is_far l.ranges ≡ list_any is_far (drop l.range-index l.ranges)

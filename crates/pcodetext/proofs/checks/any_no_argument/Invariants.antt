@@ -1,7 +1,0 @@
-use Rattle.std.proofs.Common.{◌≡◌, drop}
-use Rattle.std.specs.List.{list_any}
-use Rattle.pcodetext.specs.Faults.{of_no_argument}
-use Rattle.pcodetext.proofs.checks.any_no_argument.Given as goal
-
-abbrev pub invariant-loop-range : goal.invariant-loop-range
-invariant-loop-range l = list_any of_no_argument l.ranges ≡ list_any of_no_argument (drop l.range-index l.ranges)

@@ -1,6 +1,0 @@
-use Rattle.std.proofs.Common.{◌≡◌, ◌++◌, drop, map}
-use Rattle.pcodetext.specs.Meaning.{varnode}
-use Rattle.pcodetext.proofs.convert.inputs.Given as goal
-
-abbrev pub invariant-loop-range : goal.invariant-loop-range
-invariant-loop-range l = map varnode l.ranges ≡ l.made ++ map varnode (drop l.range-index l.ranges)

@@ -1,0 +1,8 @@
+use Rattle.std.proofs.Common.{◌≡◌, drop}
+use Rattle.std.specs.List.{list_any}
+use Rattle.pcodetext.specs.ProtoLine.{is_bad_kept}
+use Rattle.pcodetext.proofs.proto_line.any_bad_kept.Given as goal
+
+abbrev pub invariant-loop-range : goal.invariant-loop-range
+invariant-loop-range l =
+    list_any (is_bad_kept l.said l.gives) l.ranges ≡ list_any (is_bad_kept l.said l.gives) (drop l.range-index l.ranges)
