@@ -4,15 +4,14 @@ use Rattle.std.specs.Prelude.{◌==◌, cond}
 use Rattle.std.proofs.lemmas.Bool.Decides.{nat_tests}
 use Rattle.pcode_model.specs.Spaces.{or}
 use Rattle.cmeaning.specs.declared.tree.Expr.{Expr}
-use Rattle.cmeaning.specs.declared.tree.Arm.{Arm as Branch}
 use Rattle.cmeaning.specs.declared.tree.Stmt.{Stmt}
 use Rattle.cmeaning.specs.declared.tree.Stmt.TheOpen.{Stmt-F}
 use Rattle.cmeaning.specs.declared.tree.Stmt.TheVariants as S
-use Rattle.cmeaning.specs.Mentions.{Mention, Variable, Callee, LabelLine, all, in_expr, in_option, in_stmt, in_arm, in_arms, in_body}
+use Rattle.cmeaning.specs.Mentions.{Mention, Variable, Callee, LabelLine, all, in_expr, in_option, in_stmt, in_arms, in_body}
 use Rattle.cmeaning.proofs.Mentions.{in_append, in_arm_body, in_statement}
 use Rattle.naming.specs.declared.head.Head.{Head}
 use Rattle.naming.specs.Listed.{is_listed, with_one}
-use Rattle.naming_laws.specs.Covered.{Covers, CoversOne, IsCovered, has_line}
+use Rattle.naming_laws.specs.Covered.{Covers, IsCovered, has_line}
 use Rattle.naming_laws.specs.Kept.{HasOnce}
 use Rattle.naming_laws.proofs.Found.{listed_more}
 use Rattle.blockcode.specs.declared.code.Arm.{Arm}
@@ -21,7 +20,7 @@ use Rattle.blockcode.specs.declared.code.Exit.TheVariants as X
 use Rattle.blockcode.specs.declared.code.Block.{Block}
 use Rattle.blockcode.specs.declared.code.Code.{Code}
 use Rattle.blockcode.specs.Laid.{is_named, branch_to, branches, targets, label_line, goto, exit_lines, laid_from, laid_body}
-use Rattle.layout_laws.specs.Suits.{Knows, KnowsOne, BodySuits, ExitSuits, AllSuit}
+use Rattle.layout_laws.specs.Suits.{Knows, BodySuits, ExitSuits, AllSuit}
 
 -- ---- what lines mention
 

@@ -1,5 +1,5 @@
 -- The statements and exits of the plain lowering obey their rules.
-use Rattle.std.proofs.Common.{◌≡◌, ℕ, ◌<◌, ◌≤◌, ◌^◌, Bool, true, false, List, [], ◌∷◌, ◌++◌, length, map, Option, Some, None, refl, sym, ap, ◌∙◌, subst, arith, inl, inr}
+use Rattle.std.proofs.Common.{◌≡◌, ℕ, ◌<◌, ◌≤◌, ◌^◌, Bool, true, false, List, [], ◌∷◌, length, map, Option, Some, None, refl, sym, ap, ◌∙◌, subst, arith, inl, inr}
 use Rattle.std.specs.Prelude.{◌==◌, ◌&&◌, nat_lt, cond}
 use Rattle.std.proofs.lemmas.Bool.Decides.{nat_tests}
 use Rattle.pcode_model.specs.declared.listing.SpaceKind.{SpaceKind}
@@ -25,7 +25,7 @@ use Rattle.naming.specs.declared.head.Head.{Head}
 use Rattle.naming.specs.Run.{widths_of}
 use Rattle.layout_laws.specs.Suits.{AllSuit, BodySuits, ExitSuits, Knows}
 use Rattle.cmeaning.specs.Shape.{shape_of, has_width, is_condition}
-use Rattle.cmeaning.specs.Mentions.{Variable, in_expr, in_option}
+use Rattle.cmeaning.specs.Mentions.{in_expr, in_option}
 use Rattle.cmeaning.specs.Valid.{is_variable, is_assigned, is_returned}
 use Rattle.blockcode.specs.declared.code.Exit.TheVariants as X
 use Rattle.plaincode.specs.Nodes.{nearest, unary_node, binary_node}
