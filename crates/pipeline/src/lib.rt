@@ -19,6 +19,6 @@ mod verdict;
 
 pub use outcome::work_out;
 pub use passes::{decompile, lower};
-pub use request::{Form, Wanted, wanted};
+pub use request::{Form, Wanted, asked_for};
 pub use top::decompile_words;
 pub use verdict::{Accepted, accept};

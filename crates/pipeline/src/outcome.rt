@@ -11,7 +11,7 @@ ghost use Rattle.words.specs.Request.{text_in};
 
 use crate::message::refusal_line;
 use crate::passes::decompile;
-use crate::request::{Form, Wanted, wanted};
+use crate::request::{Form, Wanted, asked_for};
 use listing_again::canonical_text;
 use outside::{Bytes, ReadEnd, Shelf, Source, Words, read_all};
 use pcode_model::{MAX_INPUT, Text};
@@ -32,7 +32,7 @@ pub fn work_out<S: Source, H: Shelf>(
     ensures input_later { (S.told input.old).faults ≤ (S.told input.new).faults }
     ensures shelf_later { (H.told shelf.old).faults ≤ (H.told shelf.new).faults }
 {
-    match wanted(alloc, words) {
+    match asked_for(alloc, words) {
         Ok(Some(wanted)) => read(alloc, &wanted, input, shelf),
         Ok(None) => Outcome::BadArguments,
         Err(_) => Outcome::Memory,

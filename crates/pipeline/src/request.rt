@@ -27,7 +27,7 @@ pub struct Wanted<'a> {
 }
 
 // The SSA text isn't built.
-fn form(stage: Stage) -> Option<Form>
+fn built_form(stage: Stage) -> Option<Form>
     ensures { result ≡ form_of stage }
 {
     match stage {
@@ -40,11 +40,11 @@ fn form(stage: Stage) -> Option<Form>
 
 /// What the words ask for. None where they are refused or ask for what isn't built, the SSA text or the numbers of a
 /// generated listing. Fails where there is no memory to read them.
-pub fn wanted(alloc: Global, words: &Words) -> Result<Option<Wanted<'_>>, Memory>
+pub fn asked_for(alloc: Global, words: &Words) -> Result<Option<Wanted<'_>>, Memory>
     ensures { IfOk result (λ wanted. option_map wanted_of wanted ≡ asked_by (map string_bytes words.now)) }
 {
     match read_words(alloc, words.as_slice())? {
-        Some(Request::Text { stage, file }) => match form(stage) {
+        Some(Request::Text { stage, file }) => match built_form(stage) {
             Some(form) => Ok(Some(Wanted { form, file })),
             None => Ok(None),
         },
