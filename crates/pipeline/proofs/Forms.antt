@@ -69,7 +69,7 @@ module _
     (atoms : List Atom)
     (are : AreAccessed l atoms)
   where
-    form : code.IsPlainForm l [] blocks atoms
+    form : code.IsLowerable l [] blocks atoms
     form = plain_form l good built (formed_is l read good) blocks flow fine few atoms are
 
     are_atoms : AreAtoms l [] no_variables atoms

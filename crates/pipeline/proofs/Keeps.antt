@@ -22,7 +22,7 @@ use Rattle.blockcode.specs.CanLay.{has_switch}
 use Rattle.layout_laws.proofs.Keeps as layout
 use Rattle.plaincode.specs.Lowered.{lowered, result_width, width_of_result}
 use Rattle.plain_valid.specs.Function.{plain_head, plain_function}
-use Rattle.plaincode.specs.Form.{IsPlainForm}
+use Rattle.plaincode.specs.Form.{IsLowerable}
 use Rattle.plaincode.proofs.Laying.{can_lay, no_switch}
 use Rattle.plaincode.proofs.Keeps as lowering
 use Rattle.plain_valid.proofs.Valid.{plain_covered, plain_declares}
@@ -106,7 +106,7 @@ module _
     (t : List TableAt)
     (blocks : List Block)
     (atoms : List Atom)
-    (form : IsPlainForm l t blocks atoms)
+    (form : IsLowerable l t blocks atoms)
     (few : length atoms ≤ 2 ^ 32)
   where
     -- no run of this code meets a switch
