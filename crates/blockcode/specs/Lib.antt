@@ -1,4 +1,4 @@
 pub mod Run
 pub mod Numbers
 pub mod Laid
-pub mod Plain
+pub mod CanLay

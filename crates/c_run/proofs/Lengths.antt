@@ -11,4 +11,5 @@ pub names_of_lengths : (a b : List ℕ) → length a ≢ length b → false ≡ 
 names_of_lengths [] [] differ = absurd (differ refl)
 names_of_lengths [] (d ∷ ds) differ = refl
 names_of_lengths (c ∷ cs) [] differ = refl
-names_of_lengths (c ∷ cs) (d ∷ ds) differ = and_no (c == d) ∙ ap (λ b. c == d && b) (names_of_lengths cs ds (λ same. differ (ap suc same)))
+names_of_lengths (c ∷ cs) (d ∷ ds) differ =
+    and_no (c == d) ∙ ap (λ b. c == d && b) (names_of_lengths cs ds (λ same. differ (ap suc same)))

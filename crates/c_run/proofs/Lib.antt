@@ -7,7 +7,6 @@ pub mod Values
 pub mod Effects
 pub mod Asking
 pub mod Accesses
-pub mod Meaningless
 pub mod Positions
 pub mod Turns
 pub mod Starts

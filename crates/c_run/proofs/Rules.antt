@@ -40,15 +40,20 @@ widths_right ws [] ns h = refl
 widths_right ws (e ∷ es) [] h = absurd cc
 widths_right ws (e ∷ es) (w ∷ ns) h =
     let two = both (has_width w.bytes (shape_of ws e)) (have_widths ws es ns) h in
-    and_from (is_right (shape_of ws e)) (are_right ws es) (right_width w.bytes (shape_of ws e) two.0) (widths_right ws es ns two.1)
+    and_from (is_right (shape_of ws e)) (are_right ws es) (right_width w.bytes (shape_of ws e) two.0)
+    (widths_right ws es ns two.1)
 
-pub call_right : (ws : ℕ → ℕ) (v : Option ℕ) (args : List Expr) (c : Option CalleeDecl) → is_call ws v args c ≡ true → IsTarget ws v × AreRight ws args
+pub call_right : (ws : ℕ → ℕ) (v : Option ℕ) (args : List Expr) (c : Option CalleeDecl)
+    → is_call ws v args c ≡ true
+    → IsTarget ws v × AreRight ws args
 call_right ws v args None h = absurd cc
 call_right ws v args (Some c) h =
     let two = both (have_widths ws args c.args) (takes ws v c.gives) h in
     (takes_there ws v c.gives two.1, widths_right ws args c.args two.0)
 
-pub returned_right : (ws : ℕ → ℕ) (gives : Option Width) (e : Option Expr) → is_returned ws gives e ≡ true → may_give ws e
+pub returned_right : (ws : ℕ → ℕ) (gives : Option Width) (e : Option Expr)
+    → is_returned ws gives e ≡ true
+    → may_give ws e
 returned_right ws gives None h = tt
 returned_right ws None (Some e) h = absurd cc
 returned_right ws (Some w) (Some e) h = right_width w.bytes (shape_of ws e) h

@@ -1,5 +1,5 @@
 -- The spaces of a well-formed listing.
-use Rattle.std.proofs.Common.{◌≡◌, ℕ, suc, ◌+◌, ◌<◌, ◌≤◌, ◌^◌, ◌&&◌, not, Bool, true, false, cond, List, [], ◌∷◌, Option, Some, None, refl, ap, ◌∙◌, arith, subst}
+use Rattle.std.proofs.Common.{◌≡◌, ℕ, ◌+◌, ◌<◌, ◌≤◌, ◌^◌, ◌&&◌, not, Bool, true, false, List, Option, Some, None, refl, ap, ◌∙◌, arith, subst}
 use Rattle.std.specs.Prelude.{IfSome, nat_lt, slice_get}
 use Rattle.std.proofs.lemmas.Bool.Decides.{nat_tests}
 use Rattle.pcode_model.specs.declared.listing.Listing.{Listing}
@@ -7,12 +7,12 @@ use Rattle.pcode_model.specs.declared.listing.Space.{Space}
 use Rattle.pcode_model.specs.declared.listing.SpaceKind.{SpaceKind}
 use Rattle.pcode_model.specs.declared.listing.SpaceKind.TheVariants.{Constant, Ram, Register, Unique}
 use Rattle.pcode_model.specs.declared.listing.Varnode.{Varnode}
-use Rattle.pcode_model.specs.Spaces.{first_ram, kind_in, kind_of, number_of, register_space, same_kind, size_of, unique_space}
+use Rattle.pcode_model.specs.Spaces.{kind_in, kind_of, number_of, register_space, same_kind, size_of, unique_space}
 use Rattle.pcode_model.specs.WellFormed.{IsRegister, IsStackPointer, IsWellFormed, how_many}
 use Rattle.cmeaning.specs.Do.{accessed, space_named}
 use Rattle.run_world.specs.Setting.{HasShape}
 use Rattle.run_world.specs.declared.shape.Shape.{Shape}
-use Rattle.run_world.proofs.Declared.{size_most}
+use Rattle.run_world.proofs.Declared.{kind_at, size_most}
 use Rattle.cmeaning.specs.Fits.{lies_in, names_ram}
 
 pub both : (a b : Bool) → a && b ≡ true → (a ≡ true) × (b ≡ true)
@@ -40,28 +40,31 @@ same_is Unique Register h = absurd cc
 
 -- the first space of a kind is of that kind
 first_is : (k : SpaceKind) (ss : List Space) → 1 ≤ how_many k ss → kind_in (slice_get ss (number_of k ss)) ≡ k
-first_is k [] some = absurd (omega (arith, some))
-first_is k (s ∷ ss) some = step (same_kind k s.kind) refl some (first_is k ss) where
-  step : (b : Bool) → same_kind k s.kind ≡ b → 1 ≤ cond b (suc (how_many k ss)) (how_many k ss) → (1 ≤ how_many k ss → kind_in (slice_get ss (number_of k ss)) ≡ k) → kind_in (slice_get (s ∷ ss) (cond b 0 (suc (number_of k ss)))) ≡ k
-  step true is some rest = same_is k s.kind is
-  step false is some rest = rest some
+first_is k ss some = same_is k (kind_in (slice_get ss (number_of k ss))) (kind_at k ss some)
 
-pub ram_accessed : (l : Listing) (space : Option (List ℕ)) → IsWellFormed l → names_ram l space ≡ true → kind_of l (accessed l space) ≡ Ram
+pub ram_accessed : (l : Listing) (space : Option (List ℕ))
+    → IsWellFormed l
+    → names_ram l space ≡ true
+    → kind_of l (accessed l space) ≡ Ram
 ram_accessed l None formed h = first_is Ram l.spaces formed.complete.ram
 ram_accessed l (Some name) formed h = same_is Ram (kind_of l (space_named name l.spaces)) (both _ _ h).0
 
 -- sizes
-pub small_of : (l : Listing) (n : ℕ) (k : SpaceKind) → IsWellFormed l → kind_of l n ≡ k → same_kind Constant k ≡ false → size_of l n ≤ 2 ^ 64
+pub small_of : (l : Listing) (n : ℕ) (k : SpaceKind)
+    → IsWellFormed l
+    → kind_of l n ≡ k
+    → same_kind Constant k ≡ false
+    → size_of l n ≤ 2 ^ 64
 small_of l n k formed is other = size_most l.spaces n formed.spaces (ap (same_kind Constant) is ∙ other)
 
-pub ram_small : (l : Listing) → IsWellFormed l → size_of l (first_ram l) ≤ 2 ^ 64
-ram_small l formed = small_of l (first_ram l) Ram formed (first_is Ram l.spaces formed.complete.ram) refl
-
 pub registers_small : (l : Listing) → IsWellFormed l → size_of l (register_space l) ≤ 2 ^ 64
-registers_small l formed = small_of l (register_space l) Register formed (first_is Register l.spaces (omega (arith, formed.complete.register))) refl
+registers_small l formed =
+    small_of l (register_space l) Register formed (first_is Register l.spaces (omega (arith, formed.complete.register)))
+    refl
 
 pub uniques_small : (l : Listing) → IsWellFormed l → size_of l (unique_space l) ≤ 2 ^ 64
-uniques_small l formed = small_of l (unique_space l) Unique formed (first_is Unique l.spaces (omega (arith, formed.complete.unique))) refl
+uniques_small l formed =
+    small_of l (unique_space l) Unique formed (first_is Unique l.spaces (omega (arith, formed.complete.unique))) refl
 
 pub register_small : (l : Listing) (v : Varnode) → IsWellFormed l → IsRegister l.spaces v → size_of l v.space ≤ 2 ^ 64
 register_small l v formed is = small_of l v.space Register formed (same_is Register (kind_of l v.space) is.kind) refl
@@ -74,12 +77,17 @@ stack_register l v formed e =
     is.register
 
 -- ranges
-pub inside : (l : Listing) (space offset count : ℕ) → lies_in l space offset count ≡ true → offset + count ≤ size_of l space
+pub inside : (l : Listing) (space offset count : ℕ)
+    → lies_in l space offset count ≡ true
+    → offset + count ≤ size_of l space
 inside l space offset count h =
     let lies : not (nat_lt (size_of l space) (offset + count)) ≡ true = h in
     grind (arith, nat_tests, lies)
 
-pub register_inside : (l : Listing) (v : Varnode) (shape : Shape) → IsRegister l.spaces v → HasShape l v.space shape → v.offset ≤ shape.last
+pub register_inside : (l : Listing) (v : Varnode) (shape : Shape)
+    → IsRegister l.spaces v
+    → HasShape l v.space shape
+    → v.offset ≤ shape.last
 register_inside l v shape is has =
     let inside : nat_lt (size_of l v.space) (v.offset + v.size) ≡ false = is.inside in
     let some : 0 < v.size = is.some in

@@ -26,7 +26,9 @@ left_of m o = or_else (at_offset m o) 0
 
 -- the state, but for its place, where the entry has these answers
 abbrev pub local_of : List Answer → Local → D.Local
-local_of answers x = record { env = env_of x.variables.words.items; left = left_of x.left; world = world_of (bytes_of x.memory) answers x.log }
+local_of answers x =
+    record
+    { env = env_of x.variables.words.items; left = left_of x.left; world = world_of (bytes_of x.memory) answers x.log }
 
 abbrev pub state_of : List Answer → Local → ℕ → CState
 state_of answers x position = record { position = position; local = local_of answers x }

@@ -26,7 +26,9 @@ pub(crate) fn values(
     args: &[Expr],
 ) -> Result<Option<WordList>, Memory>
     requires { AreRight (widths_in local.now.variables.f.now) args.now }
-    ensures { IfOk result (λ o. numbers_in o ≡ all_of (values_of (widths_in local.now.variables.f.now) (env_of local.now.variables.words.items) args.now)) }
+    ensures { IfOk result (λ o. numbers_in o
+        ≡ all_of
+        (values_of (widths_in local.now.variables.f.now) (env_of local.now.variables.words.items) args.now)) }
 {
     let mut words = WordList::new(context.alloc);
     for e in args {
@@ -41,7 +43,13 @@ pub(crate) fn values(
 /// The target of a call takes the answer's word, reduced to its width.
 fn give(local: &mut Local, target: Option<u32>, word: u128)
     requires { IsTarget (widths_in local.old.variables.f.now) target }
-    ensures { (answers : List AnAnswer) → Becomes answers local.old local.new (let x = local_of answers local.old in record { env = with_target (widths_in local.old.variables.f.now) target word x.env; left = x.left; world = x.world }) }
+    ensures { (answers : List AnAnswer)
+        → Becomes answers local.old local.new (let x = local_of answers local.old in
+        record {
+          env = with_target (widths_in local.old.variables.f.now) target word x.env;
+          left = x.left;
+          world = x.world;
+        }) }
 {
     if let Some(v) = target {
         let width = local.variables.width(v);
@@ -56,7 +64,13 @@ fn answered(
     answer: &Answer,
 ) -> Result<(), Memory>
     requires { IsTarget (widths_in local.old.variables.f.now) target }
-    ensures { OnOk result ((answers : List AnAnswer) → Becomes answers local.old local.new (let x = local_of answers local.old in record { env = with_target (widths_in local.old.variables.f.now) target answer.now.word x.env; left = (answer_of answer.now).registers; world = x.world })) }
+    ensures { OnOk result ((answers : List AnAnswer)
+        → Becomes answers local.old local.new (let x = local_of answers local.old in
+        record {
+          env = with_target (widths_in local.old.variables.f.now) target answer.now.word x.env;
+          left = (answer_of answer.now).registers;
+          world = x.world;
+        })) }
 {
     local.left = OffsetMap::of_bytes(context.alloc, answer.registers.as_slice())?;
     give(local, target, answer.word);
@@ -67,7 +81,9 @@ fn answered(
 fn ask(context: &CContext, local: &mut Local, target: Option<u32>) -> Result<(), Memory>
     requires context { IsContext context.now }
     requires target { IsTarget (widths_in local.old.variables.f.now) target }
-    ensures { OnOk result (Becomes context.now.answers.now local.old local.new (asks context.now.listing.now (widths_in local.old.variables.f.now) target (local_of context.now.answers.now local.old))) }
+    ensures { OnOk result (Becomes context.now.answers.now local.old local.new
+        (asks context.now.listing.now (widths_in local.old.variables.f.now) target
+        (local_of context.now.answers.now local.old))) }
 {
     let answer = take_answer(
         context.listing,
@@ -84,7 +100,9 @@ fn ask(context: &CContext, local: &mut Local, target: Option<u32>) -> Result<(),
 
 /// An event is recorded.
 fn record(local: &mut Local, event: Event) -> Result<(), Memory>
-    ensures { OnOk result ((answers : List AnAnswer) → Becomes answers local.old local.new (let x = local_of answers local.old in in_world (recorded (event_of event) x.world) x)) }
+    ensures { OnOk result ((answers : List AnAnswer)
+        → Becomes answers local.old local.new
+        (let x = local_of answers local.old in in_world (recorded (event_of event) x.world) x)) }
 {
     local.log.events.push(event)?;
     Ok(())
@@ -99,7 +117,10 @@ fn ask_after(
 ) -> Result<(), Memory>
     requires context { IsContext context.now }
     requires target { IsTarget (widths_in local.old.variables.f.now) target }
-    ensures { OnOk result (Becomes context.now.answers.now local.old local.new (let x = (local_of context.now.answers.now local.old) in asks context.now.listing.now (widths_in local.old.variables.f.now) target (in_world (recorded (event_of event) x.world) x))) }
+    ensures { OnOk result (Becomes context.now.answers.now local.old local.new
+        (let x = (local_of context.now.answers.now local.old) in
+        asks context.now.listing.now (widths_in local.old.variables.f.now) target
+        (in_world (recorded (event_of event) x.world) x))) }
 {
     record(local, event)?;
     ask(context, local, target)
@@ -115,7 +136,10 @@ pub(crate) fn call(
     requires context { IsContext context.now }
     requires target { IsTarget (widths_in local.old.variables.f.now) target }
     requires args { AreRight (widths_in local.old.variables.f.now) args.now }
-    ensures { OnOk result (Becomes context.now.answers.now local.old local.new (do_simple context.now.listing.now (widths_in local.old.variables.f.now) (returns_by local.old.variables.f.now.callees) (S.Call target callee args.now) (local_of context.now.answers.now local.old))) }
+    ensures { OnOk result (Becomes context.now.answers.now local.old local.new
+        (do_simple context.now.listing.now (widths_in local.old.variables.f.now)
+        (returns_by local.old.variables.f.now.callees) (S.Call target callee args.now)
+        (local_of context.now.answers.now local.old))) }
 {
     let Some(args) = values(context, local, args)? else {
         local.finish(End::Undefined);
@@ -144,7 +168,10 @@ pub(crate) fn call_ind(
     requires target { IsTarget (widths_in local.old.variables.f.now) target }
     requires callee { IsRight (widths_in local.old.variables.f.now) callee.now }
     requires args { AreRight (widths_in local.old.variables.f.now) args.now }
-    ensures { OnOk result (Becomes context.now.answers.now local.old local.new (do_simple context.now.listing.now (widths_in local.old.variables.f.now) (returns_by local.old.variables.f.now.callees) (S.CallInd target callee.now args.now) (local_of context.now.answers.now local.old))) }
+    ensures { OnOk result (Becomes context.now.answers.now local.old local.new
+        (do_simple context.now.listing.now (widths_in local.old.variables.f.now)
+        (returns_by local.old.variables.f.now.callees) (S.CallInd target callee.now args.now)
+        (local_of context.now.answers.now local.old))) }
 {
     let Some(callee) = local.variables.value(callee) else {
         local.finish(End::Undefined);
@@ -175,7 +202,10 @@ pub(crate) fn other(
     requires context { IsContext context.now }
     requires target { IsTarget (widths_in local.old.variables.f.now) target }
     requires args { AreRight (widths_in local.old.variables.f.now) args.now }
-    ensures { OnOk result (Becomes context.now.answers.now local.old local.new (do_simple context.now.listing.now (widths_in local.old.variables.f.now) (returns_by local.old.variables.f.now.callees) (S.Other target index args.now) (local_of context.now.answers.now local.old))) }
+    ensures { OnOk result (Becomes context.now.answers.now local.old local.new
+        (do_simple context.now.listing.now (widths_in local.old.variables.f.now)
+        (returns_by local.old.variables.f.now.callees) (S.Other target index args.now)
+        (local_of context.now.answers.now local.old))) }
 {
     let Some(args) = values(context, local, args)? else {
         local.finish(End::Undefined);

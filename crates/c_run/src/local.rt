@@ -24,7 +24,8 @@ impl<'a> Local<'a> {
 
     /// The run ends.
     pub fn finish(&mut self, end: End)
-        ensures { (answers : List AnAnswer) → Becomes answers self.old self.new (ends (end_of end) (local_of answers self.old)) }
+        ensures { (answers : List AnAnswer)
+            → Becomes answers self.old self.new (ends (end_of end) (local_of answers self.old)) }
     {
         self.log.end = Some(end);
     }
@@ -32,7 +33,9 @@ impl<'a> Local<'a> {
     /// A variable that there is takes a word of its width, if there is one; else the run ends Undefined.
     pub fn assign(&mut self, v: u32, word: Option<Word>)
         requires { IsWide (widths_in self.old.variables.f.now v) word }
-        ensures { (answers : List AnAnswer) → Becomes answers self.old self.new (with_word (number_in word) (local_of answers self.old) (λ n. assigned v n (local_of answers self.old))) }
+        ensures { (answers : List AnAnswer)
+            → Becomes answers self.old self.new (with_word (number_in word) (local_of answers self.old)
+            (λ n. assigned v n (local_of answers self.old))) }
     {
         match word {
             Some(word) => self.variables.assign(v as usize, word),

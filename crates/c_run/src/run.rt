@@ -30,8 +30,11 @@ fn run_from(context: &CContext, code: &FlatCode, local: Local, n: u32) -> Result
     requires context { IsContext context.now }
     requires code { code_of code.now ≡ flat_of local.variables.f.now }
     requires right { AllByRecursion (MayStep (widths_in local.variables.f.now)) (flat_of local.variables.f.now) }
-    requires fits { AllByRecursion (StepFits context.now.listing.now (widths_in local.variables.f.now)) (flat_of local.variables.f.now) }
-    ensures { IfOk result (λ t. trace_of t ≡ seen (c_machine context.now.listing.now local.entry.variables.f.now) (state_of context.now.answers.now local.entry 0) n) }
+    requires fits { AllByRecursion (StepFits context.now.listing.now (widths_in local.variables.f.now))
+        (flat_of local.variables.f.now) }
+    ensures { IfOk result (λ t. trace_of t
+        ≡ seen (c_machine context.now.listing.now local.entry.variables.f.now)
+        (state_of context.now.answers.now local.entry 0) n) }
 {
     let mut local = local;
     let mut position = 0;

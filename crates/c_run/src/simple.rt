@@ -56,7 +56,10 @@ fn load(
     requires ram { kind_of context.now.listing.now (access context.now.listing.now space.now) ≡ K.Ram }
     requires target { 0 < widths_in local.old.variables.f.now target }
     requires address { IsRight (widths_in local.old.variables.f.now) address.now }
-    ensures { OnOk result (Becomes context.now.answers.now local.old local.new (done context.now.listing.now (widths_in local.old.variables.f.now) (returns_by local.old.variables.f.now.callees) (S.Load target space.now address.now) (local_of context.now.answers.now local.old))) }
+    ensures { OnOk result (Becomes context.now.answers.now local.old local.new
+        (done context.now.listing.now (widths_in local.old.variables.f.now)
+        (returns_by local.old.variables.f.now.callees) (S.Load target space.now address.now)
+        (local_of context.now.answers.now local.old))) }
 {
     let Some(address) = local.variables.value(address) else {
         local.finish(End::Undefined);
@@ -88,7 +91,10 @@ fn store_word(
     requires ram { kind_of context.now.listing.now (access context.now.listing.now space.now) ≡ K.Ram }
     requires address { IsRight (widths_in local.old.variables.f.now) address.now }
     requires value { IsRight (widths_in local.old.variables.f.now) value.now }
-    ensures { OnOk result (Becomes context.now.answers.now local.old local.new (done context.now.listing.now (widths_in local.old.variables.f.now) (returns_by local.old.variables.f.now.callees) (S.Store space.now address.now value.now) (local_of context.now.answers.now local.old))) }
+    ensures { OnOk result (Becomes context.now.answers.now local.old local.new
+        (done context.now.listing.now (widths_in local.old.variables.f.now)
+        (returns_by local.old.variables.f.now.callees) (S.Store space.now address.now value.now)
+        (local_of context.now.answers.now local.old))) }
 {
     let Some(address) = local.variables.value(address) else {
         local.finish(End::Undefined);
@@ -120,7 +126,10 @@ fn store_word(
 
 fn assign(context: &CContext, local: &mut Local, target: u32, value: &Expr)
     requires { IsFor (widths_in local.old.variables.f.now) target value.now }
-    ensures { Becomes context.now.answers.now local.old local.new (done context.now.listing.now (widths_in local.old.variables.f.now) (returns_by local.old.variables.f.now.callees) (S.Assign target value.now) (local_of context.now.answers.now local.old)) }
+    ensures { Becomes context.now.answers.now local.old local.new
+        (done context.now.listing.now (widths_in local.old.variables.f.now)
+        (returns_by local.old.variables.f.now.callees) (S.Assign target value.now)
+        (local_of context.now.answers.now local.old)) }
 {
     let word = local.variables.value(value);
     local.assign(target, word);
@@ -147,7 +156,10 @@ fn divide_words(
 )
     requires left { IsFor (widths_in local.old.variables.f.now) target left.now }
     requires right { IsFor (widths_in local.old.variables.f.now) target right.now }
-    ensures { Becomes context.now.answers.now local.old local.new (done context.now.listing.now (widths_in local.old.variables.f.now) (returns_by local.old.variables.f.now.callees) (S.Divide target op left.now right.now) (local_of context.now.answers.now local.old)) }
+    ensures { Becomes context.now.answers.now local.old local.new
+        (done context.now.listing.now (widths_in local.old.variables.f.now)
+        (returns_by local.old.variables.f.now.callees) (S.Divide target op left.now right.now)
+        (local_of context.now.answers.now local.old)) }
 {
     let Some(a) = local.variables.value(left) else {
         local.finish(End::Undefined);
@@ -166,8 +178,12 @@ fn divide_words(
 fn extra(context: &CContext, local: &mut Local, target: u32, offset: u64) -> Result<(), Memory>
     requires context { IsContext context.now }
     requires target { 0 < widths_in local.old.variables.f.now target }
-    requires inside { offset + widths_in local.old.variables.f.now target ≤ size_of context.now.listing.now (register_space context.now.listing.now) }
-    ensures { OnOk result (Becomes context.now.answers.now local.old local.new (done context.now.listing.now (widths_in local.old.variables.f.now) (returns_by local.old.variables.f.now.callees) (S.Extra target offset) (local_of context.now.answers.now local.old))) }
+    requires inside { offset + widths_in local.old.variables.f.now target
+        ≤ size_of context.now.listing.now (register_space context.now.listing.now) }
+    ensures { OnOk result (Becomes context.now.answers.now local.old local.new
+        (done context.now.listing.now (widths_in local.old.variables.f.now)
+        (returns_by local.old.variables.f.now.callees) (S.Extra target offset)
+        (local_of context.now.answers.now local.old))) }
 {
     let width = local.variables.width(target);
     let word = read_left(context, &local.left, offset, width)?;
@@ -177,7 +193,8 @@ fn extra(context: &CContext, local: &mut Local, target: u32, offset: u64) -> Res
 
 /// What is no simple statement has no meaning as one.
 fn undefined(local: &mut Local) -> Result<(), Memory>
-    ensures { OnOk result ((answers : List AnAnswer) → Becomes answers local.old local.new (ends T.Undefined (local_of answers local.old))) }
+    ensures { OnOk result ((answers : List AnAnswer)
+        → Becomes answers local.old local.new (ends T.Undefined (local_of answers local.old))) }
 {
     local.finish(End::Undefined);
     Ok(())
@@ -188,7 +205,9 @@ pub(crate) fn do_simple(context: &CContext, local: &mut Local, s: &Stmt) -> Resu
     requires context { IsContext context.now }
     requires right { MayDo (widths_in local.old.variables.f.now) s.now }
     requires fits { StmtFits context.now.listing.now (widths_in local.old.variables.f.now) s.now }
-    ensures { OnOk result (Becomes context.now.answers.now local.old local.new (done context.now.listing.now (widths_in local.old.variables.f.now) (returns_by local.old.variables.f.now.callees) (s.now) (local_of context.now.answers.now local.old))) }
+    ensures { OnOk result (Becomes context.now.answers.now local.old local.new
+        (done context.now.listing.now (widths_in local.old.variables.f.now)
+        (returns_by local.old.variables.f.now.callees) (s.now) (local_of context.now.answers.now local.old))) }
 {
     match s {
         Stmt::Assign { target, value } => {

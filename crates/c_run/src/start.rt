@@ -62,7 +62,9 @@ fn reduced_word(shape: Shape, big: bool, bytes: Vec<u8>) -> u64
 fn pointer(context: &CContext, memory: &ByteMap, v: Varnode) -> Result<u64, Memory>
     requires context { IsContext context.now }
     requires register { IsRegister context.now.listing.now.spaces v }
-    ensures { IfOk result (λ n. n ≡ local_word context.now.listing.now v (bytes_of memory.now) % size_of context.now.listing.now (first_ram context.now.listing.now)) }
+    ensures { IfOk result (λ n. n
+        ≡ local_word context.now.listing.now v (bytes_of memory.now) % size_of context.now.listing.now
+        (first_ram context.now.listing.now)) }
 {
     let shape = Shape::new(context.listing, v.space);
     let bytes = memory.read(context.alloc, shape, v.space, v.offset, v.size as usize)?;
@@ -72,7 +74,9 @@ fn pointer(context: &CContext, memory: &ByteMap, v: Varnode) -> Result<u64, Memo
 /// The stack pointer's word, likewise; 0 where there is no stack pointer.
 fn stack_pointer(context: &CContext, memory: &ByteMap) -> Result<u64, Memory>
     requires context { IsContext context.now }
-    ensures { IfOk result (λ n. n ≡ stack_word context.now.listing.now context.now.listing.now.stack (bytes_of memory.now) % size_of context.now.listing.now (first_ram context.now.listing.now)) }
+    ensures { IfOk result (λ n. n
+        ≡ stack_word context.now.listing.now context.now.listing.now.stack (bytes_of memory.now) % size_of
+        context.now.listing.now (first_ram context.now.listing.now)) }
 {
     match context.listing.stack {
         None => Ok(0),
@@ -116,7 +120,8 @@ fn own_bytes(
     requires origin { IsOrigin context.now.listing.now origin.now }
     requires shape { HasShape context.now.listing.now (first_ram context.now.listing.now) shape }
     requires inside { offset ≤ shape.last }
-    ensures { IfOk result (λ v. v.items ≡ bytes_at (size shape) (first_apart context.now.listing.now (entry_at origin.now)).own offset count) }
+    ensures { IfOk result (λ v. v.items
+        ≡ bytes_at (size shape) (first_apart context.now.listing.now (entry_at origin.now)).own offset count) }
 {
     let mut out = Vec::new(context.alloc);
     let mut here = offset;
@@ -136,7 +141,8 @@ fn stack_param(
 ) -> Result<Word, Memory>
     requires context { IsContext context.now }
     requires origin { IsOrigin context.now.listing.now origin.now }
-    ensures value { IfOk result (λ w. w.value ≡ word_at context.now.listing.now (entry_at origin.now) width.bytes (P.Stack offset)) }
+    ensures value { IfOk result
+        (λ w. w.value ≡ word_at context.now.listing.now (entry_at origin.now) width.bytes (P.Stack offset)) }
     ensures width { IfOk result (λ w. w.width ≡ width) }
 {
     let shape = context.ram;
@@ -150,7 +156,8 @@ fn param_word(context: &CContext, origin: &Origin, param: &Param) -> Result<Word
     requires context { IsContext context.now }
     requires origin { IsOrigin context.now.listing.now origin.now }
     requires fits { param_fits context.now.listing.now param.now ≡ true }
-    ensures value { IfOk result (λ w. w.value ≡ word_at context.now.listing.now (entry_at origin.now) param.now.width.bytes param.now.storage) }
+    ensures value { IfOk result (λ w.
+        w.value ≡ word_at context.now.listing.now (entry_at origin.now) param.now.width.bytes param.now.storage) }
     ensures width { IfOk result (λ w. w.width ≡ param.now.width) }
 {
     match param.storage {
@@ -185,7 +192,8 @@ fn assign_params(
     requires fits { params_fit context.now.listing.now params.now ≡ true }
     requires own { params.now ≡ variables.old.f.now.params }
     requires none { env_of variables.old.words.items ≡ λ v. None }
-    ensures words { OnOk result (env_of variables.new.words.items ≡ λ v. first_word context.now.listing.now (entry_at origin.now) (slice_get params.now v)) }
+    ensures words { OnOk result (env_of variables.new.words.items
+        ≡ λ v. first_word context.now.listing.now (entry_at origin.now) (slice_get params.now v)) }
     ensures function { OnOk result (variables.new.f.now ≡ variables.old.f.now) }
 {
     for i in 0..params.len() {
@@ -203,7 +211,8 @@ pub(crate) fn start<'a>(
 ) -> Result<Local<'a>, Memory>
     requires context { IsContext context.now }
     requires fits { params_fit context.now.listing.now f.now.params ≡ true }
-    ensures means { IfOk result (λ x. state_of entry.now.answers x 0 ≡ start_c context.now.listing.now f.now (entry_of context.now.listing.now entry.now)) }
+    ensures means { IfOk result (λ x. state_of entry.now.answers x 0
+        ≡ start_c context.now.listing.now f.now (entry_of context.now.listing.now entry.now)) }
     ensures function { IfOk result (λ x. x.variables.f.now ≡ f.now) }
 {
     let memory = ByteMap::first(context.alloc, context.listing, entry.state.as_slice())?;

@@ -23,7 +23,10 @@ use run_world::End;
 /// Where a condition leads.
 fn test(local: &mut Local, condition: &Expr, yes: usize, no: usize, position: usize) -> usize
     requires { IsRight (widths_in local.old.variables.f.now) condition.now }
-    ensures { (answers : List AnAnswer) → Goes answers local.old local.new result (goes_by (value_of (widths_in local.old.variables.f.now) (env_of local.old.variables.words.items) condition.now) (state_of answers local.old position) (tested yes no)) }
+    ensures { (answers : List AnAnswer)
+        → Goes answers local.old local.new result (goes_by
+        (value_of (widths_in local.old.variables.f.now) (env_of local.old.variables.words.items) condition.now)
+        (state_of answers local.old position) (tested yes no)) }
 {
     match local.variables.value(condition) {
         None => {
@@ -37,7 +40,10 @@ fn test(local: &mut Local, condition: &Expr, yes: usize, no: usize, position: us
 /// Where a switch leads.
 fn choose(local: &mut Local, value: &Expr, cases: &[Case], other: usize, position: usize) -> usize
     requires { IsRight (widths_in local.old.variables.f.now) value.now }
-    ensures { (answers : List AnAnswer) → Goes answers local.old local.new result (goes_by (value_of (widths_in local.old.variables.f.now) (env_of local.old.variables.words.items) value.now) (state_of answers local.old position) (found_in (map case_of cases.now) other)) }
+    ensures { (answers : List AnAnswer)
+        → Goes answers local.old local.new result (goes_by
+        (value_of (widths_in local.old.variables.f.now) (env_of local.old.variables.words.items) value.now)
+        (state_of answers local.old position) (found_in (map case_of cases.now) other)) }
 {
     match local.variables.value(value) {
         None => {
@@ -51,7 +57,10 @@ fn choose(local: &mut Local, value: &Expr, cases: &[Case], other: usize, positio
 /// The function ends with a value.
 fn give_value(local: &mut Local, e: &Expr, position: usize) -> usize
     requires { IsRight (widths_in local.old.variables.f.now) e.now }
-    ensures { (answers : List AnAnswer) → Goes answers local.old local.new result (gives (value_of (widths_in local.old.variables.f.now) (env_of local.old.variables.words.items) e.now) (state_of answers local.old position)) }
+    ensures { (answers : List AnAnswer)
+        → Goes answers local.old local.new result
+        (gives (value_of (widths_in local.old.variables.f.now) (env_of local.old.variables.words.items) e.now)
+        (state_of answers local.old position)) }
 {
     let Some(word) = local.variables.value(e) else {
         local.finish(End::Undefined);
@@ -64,7 +73,9 @@ fn give_value(local: &mut Local, e: &Expr, position: usize) -> usize
 /// The function ends.
 fn give(local: &mut Local, value: &Option<Expr>, position: usize) -> usize
     requires { may_give (widths_in local.old.variables.f.now) value.now }
-    ensures { (answers : List AnAnswer) → Goes answers local.old local.new result (given (widths_in local.old.variables.f.now) value.now (state_of answers local.old position)) }
+    ensures { (answers : List AnAnswer)
+        → Goes answers local.old local.new result
+        (given (widths_in local.old.variables.f.now) value.now (state_of answers local.old position)) }
 {
     match value {
         None => {
@@ -85,9 +96,15 @@ fn do_step(
 ) -> Result<usize, Memory>
     requires context { IsContext context.now }
     requires below { position + 1 < 2 ^ 64 }
-    requires right { MayStep (widths_in local.old.variables.f.now) (flat_step (place_in code.now.labels.items code.now.end) step.now) }
-    requires fits { StepFits context.now.listing.now (widths_in local.old.variables.f.now) (flat_step (place_in code.now.labels.items code.now.end) step.now) }
-    ensures { IfOk result (λ next. Goes context.now.answers.now local.old local.new next (carried context.now.listing.now (widths_in local.old.variables.f.now) (returns_by local.old.variables.f.now.callees) (Some (flat_step (place_in code.now.labels.items code.now.end) step.now)) (state_of context.now.answers.now local.old position))) }
+    requires right { MayStep (widths_in local.old.variables.f.now)
+        (flat_step (place_in code.now.labels.items code.now.end) step.now) }
+    requires fits { StepFits context.now.listing.now (widths_in local.old.variables.f.now)
+        (flat_step (place_in code.now.labels.items code.now.end) step.now) }
+    ensures { IfOk result (λ next. Goes context.now.answers.now local.old local.new next
+        (carried context.now.listing.now (widths_in local.old.variables.f.now)
+        (returns_by local.old.variables.f.now.callees)
+        (Some (flat_step (place_in code.now.labels.items code.now.end) step.now))
+        (state_of context.now.answers.now local.old position))) }
 {
     match step {
         Step::Do(s) => {
@@ -115,8 +132,12 @@ pub(crate) fn carry_out(
 ) -> Result<usize, Memory>
     requires context { IsContext context.now }
     requires right { IfSome (slice_get (code_of code.now) position) (MayStep (widths_in local.old.variables.f.now)) }
-    requires fits { IfSome (slice_get (code_of code.now) position) (StepFits context.now.listing.now (widths_in local.old.variables.f.now)) }
-    ensures { IfOk result (λ next. Goes context.now.answers.now local.old local.new next (carried context.now.listing.now (widths_in local.old.variables.f.now) (returns_by local.old.variables.f.now.callees) (slice_get (code_of code.now) position) (state_of context.now.answers.now local.old position))) }
+    requires fits { IfSome (slice_get (code_of code.now) position)
+        (StepFits context.now.listing.now (widths_in local.old.variables.f.now)) }
+    ensures { IfOk result (λ next. Goes context.now.answers.now local.old local.new next
+        (carried context.now.listing.now (widths_in local.old.variables.f.now)
+        (returns_by local.old.variables.f.now.callees) (slice_get (code_of code.now) position)
+        (state_of context.now.answers.now local.old position))) }
 {
     match code.steps.get(position) {
         None => {

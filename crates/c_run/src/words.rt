@@ -39,7 +39,8 @@ pub(crate) fn read(
 ) -> Result<Word, Memory>
     requires shape { HasShape context.now.listing.now space shape }
     requires inside { offset ≤ shape.last }
-    ensures value { IfOk result (λ w. w.value ≡ word_in_bytes context.now.listing.now space offset width.bytes (bytes_of memory.now)) }
+    ensures value { IfOk result
+        (λ w. w.value ≡ word_in_bytes context.now.listing.now space offset width.bytes (bytes_of memory.now)) }
     ensures width { IfOk result (λ w. w.width ≡ width) }
 {
     let bytes = memory.read(

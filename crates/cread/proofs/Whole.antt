@@ -1,6 +1,6 @@
 -- A valid tree is read again from its text, so each text has one tree.
 use Rattle.std.proofs.Common.{◌≡◌, ℕ, ◌+◌, ◌-◌, ◌<◌, Bool, true, false, List, [], ◌∷◌, ◌++◌, length, Option, Some, None, Err, refl, sym, ap, ◌∙◌, arith, append_assoc, lit<}
-use Rattle.std.specs.Prelude.{codes, map, ◌↔◌, IsTrue, slice_get}
+use Rattle.std.specs.Prelude.{codes, map, IsTrue, slice_get}
 use Rattle.bits_core.specs.declared.word.Width.{Width}
 use Rattle.cmeaning.specs.declared.tree.CFunction.{CFunction}
 use Rattle.cmeaning.specs.declared.tree.CName.TheVariants.{Declared}
@@ -15,7 +15,7 @@ use Rattle.ctext.specs.Statements.{lines, all_lines, body_text}
 use Rattle.ctext.specs.Text.{callee_lines, param_text, local_lines, text_of}
 use Rattle.cread.specs.declared.item.CFault.{CFault}
 use Rattle.cread.specs.declared.item.CFault.TheVariants as fault
-use Rattle.cread.specs.Answer.{IsTreeOf, IsAnswered}
+use Rattle.cread.specs.Answer.{IsAnswered}
 use Rattle.cread.specs.Words.{◌>>=◌, Fails, after, ended, decimal_at, hex_at}
 use Rattle.cread.specs.Names.{type_at}
 use Rattle.cread.specs.Functions.{addressed, callee_at, tail_at, widths_at, head_at, local_by, local_at, title_at, variables_at, frame_at, function_at}
@@ -192,24 +192,3 @@ pub not_failed : (e : CFault) (f : CFunction) (bytes : List ℕ)
 not_failed fault.Memory f bytes valid is h = tt
 not_failed fault.NotC f bytes valid is h =
     absurd (let never : None ≡ Some f = sym h ∙ ap function_at is ∙ taken f valid in cc)
-
-pub not_true : (b : Bool) → b ≡ false → IsTrue b → ⊥
-not_true true f h = absurd cc
-not_true false f h = absurd (let e : false ≡ true = h in cc)
-
--- what isn't valid is no tree of the text
-pub not_tree : (f : CFunction) (bytes : List ℕ) (right : Bool)
-    → (IsTrue right ↔ IsValid f)
-    → right ≡ false
-    → (IsTrue false ↔ IsTreeOf bytes f)
-not_tree f bytes right valid wrong =
-    (λ t. absurd (not_true false refl t), λ tree. absurd (not_true right wrong (valid.1 tree.valid)))
-
--- what is valid is a tree of the text if it has it
-pub tree_when : (f : CFunction) (bytes : List ℕ) (right same : Bool)
-    → (IsTrue right ↔ IsValid f)
-    → right ≡ true
-    → (IsTrue same ↔ (bytes ≡ text_of f))
-    → (IsTrue same ↔ IsTreeOf bytes f)
-tree_when f bytes right same valid holds text =
-    (λ t. record { valid = valid.0 holds; text = text.0 t }, λ tree. text.1 tree.text)

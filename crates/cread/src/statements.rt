@@ -181,7 +181,8 @@ fn behind_word<'b>(
     word: Line,
     bytes: &'b [u8],
 ) -> Result<(Stmt, &'b [u8]), CFault>
-    ensures { Gives (λ x. (x.0, x.1.now)) result (line_by (scope_of f.now) (statement_at (scope_of f.now) levels) word bytes.now) }
+    ensures { Gives (λ x. (x.0, x.1.now)) result
+        (line_by (scope_of f.now) (statement_at (scope_of f.now) levels) word bytes.now) }
 {
     match word {
         Line::If => branch(alloc, f, levels, bytes),
@@ -299,7 +300,8 @@ fn repeated<'b>(
     levels: u32,
     bytes: &'b [u8],
 ) -> Result<(Stmt, &'b [u8]), CFault>
-    ensures { Gives (λ x. (x.0, x.1.now)) result (while_by (scope_of f.now) (statement_at (scope_of f.now) levels) bytes.now) }
+    ensures { Gives (λ x. (x.0, x.1.now)) result
+        (while_by (scope_of f.now) (statement_at (scope_of f.now) levels) bytes.now) }
 {
     let (condition, rest) = head(alloc, f, bytes)?;
     let (body, rest) = closed(alloc, f, levels, rest)?;
@@ -397,7 +399,8 @@ fn switch<'b>(
     levels: u32,
     bytes: &'b [u8],
 ) -> Result<(Stmt, &'b [u8]), CFault>
-    ensures { Gives (λ x. (x.0, x.1.now)) result (switch_by (scope_of f.now) (statement_at (scope_of f.now) levels) bytes.now) }
+    ensures { Gives (λ x. (x.0, x.1.now)) result
+        (switch_by (scope_of f.now) (statement_at (scope_of f.now) levels) bytes.now) }
 {
     let (value, rest) = head(alloc, f, bytes)?;
     let (arms, rest) = all_arms(alloc, f, levels, rest)?;

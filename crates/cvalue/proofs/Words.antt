@@ -12,17 +12,24 @@ use Rattle.cmeaning.specs.Do.{widths_in, variable_width, local_width}
 use Rattle.pcode_model.specs.Spaces.{put}
 use Rattle.cvalue.specs.Held.{env_of, AreWide}
 
-env_set_at : (xs : List (Option Word)) (v k : ℕ) (w : Word) → v < length xs → env_of (slice_set xs v (Some w)) k ≡ put (env_of xs) v (Some w.value) k
+env_set_at : (xs : List (Option Word)) (v k : ℕ) (w : Word)
+    → v < length xs
+    → env_of (slice_set xs v (Some w)) k ≡ put (env_of xs) v (Some w.value) k
 env_set_at [] v k w h = absurd (omega arith)
 env_set_at (x ∷ xs) zero zero w h = refl
 env_set_at (x ∷ xs) zero (suc k) w h = rw (eqb-suc-zero k) refl
 env_set_at (x ∷ xs) (suc v) zero w h = rw (eqb-zero-suc v) refl
 env_set_at (x ∷ xs) (suc v) (suc k) w h = rw (eqb-suc-suc k v) (env_set_at xs v k w (omega arith))
 
-pub env_set : (xs : List (Option Word)) (v : ℕ) (w : Word) → v < length xs → env_of (slice_set xs v (Some w)) ≡ put (env_of xs) v (Some w.value)
+pub env_set : (xs : List (Option Word)) (v : ℕ) (w : Word)
+    → v < length xs
+    → env_of (slice_set xs v (Some w)) ≡ put (env_of xs) v (Some w.value)
 env_set xs v w h = fun_ext (λ k. env_set_at xs v k w h)
 
-pub wide_set : (ws : ℕ → ℕ) (xs : List (Option Word)) (v : ℕ) (w : Word) → AreWide ws xs → w.width.bytes ≡ ws v → AreWide ws (slice_set xs v (Some w))
+pub wide_set : (ws : ℕ → ℕ) (xs : List (Option Word)) (v : ℕ) (w : Word)
+    → AreWide ws xs
+    → w.width.bytes ≡ ws v
+    → AreWide ws (slice_set xs v (Some w))
 wide_set ws [] v w h e k y is = h k y is
 wide_set ws (x ∷ xs) zero w h e zero y is = let same : w ≡ y = cc in cc
 wide_set ws (x ∷ xs) zero w h e (suc k) y is = h (suc k) y is
@@ -34,8 +41,13 @@ local_inside [] n h = absurd (omega arith)
 local_inside (x ∷ xs) zero h = omega arith
 local_inside (x ∷ xs) (suc n) h = let below : n < length xs = local_inside xs n h in omega arith
 
-inside_by : (o : Option Param) (params : List Param) (locals : List Local) (v : ℕ) → slice_get params v ≡ o → 0 < variable_width o (slice_get locals (v - length params)) → v < length params + length locals
-inside_by None params locals v is h = let below : v - length params < length locals = local_inside locals (v - length params) h in omega arith
+inside_by : (o : Option Param) (params : List Param) (locals : List Local) (v : ℕ)
+    → slice_get params v ≡ o
+    → 0 < variable_width o (slice_get locals (v - length params))
+    → v < length params + length locals
+inside_by None params locals v is h =
+    let below : v - length params < length locals = local_inside locals (v - length params) h in
+    omega arith
 inside_by (Some p) params locals v is h = let below : v < length params = slice_get_within params v p is in omega arith
 
 -- a variable that has a width is one of the function's

@@ -25,7 +25,11 @@ abbrev pub count : CountOp → Meaning → Meaning
 count op a = of_one (count_of op) 1 a
 
 abbrev pub part : ℕ → Width → Meaning → Meaning
-part dropped w a = record { width = w.bytes; value = λ env. with_value (a.value env) (λ x. Some (binary_value B.Subpiece a.width x 1 dropped w.bytes)) }
+part dropped w a =
+    record {
+      width = w.bytes;
+      value = λ env. with_value (a.value env) (λ x. Some (binary_value B.Subpiece a.width x 1 dropped w.bytes));
+    }
 
 abbrev pub arithmetic : ArithmeticOp → Meaning → Meaning → Meaning
 arithmetic op a b = of_two (arithmetic_of op) a.width a b
@@ -46,7 +50,13 @@ abbrev pub concat : Meaning → Meaning → Meaning
 concat a b = of_two B.Piece (a.width + b.width) a b
 
 abbrev pub division : DivisionOp → Meaning → Meaning → Meaning
-division op a b = record { width = a.width; value = λ env. with_values (a.value env) (b.value env) (divide_value (division_of op) a.width) }
+division op a b =
+    record
+    { width = a.width; value = λ env. with_values (a.value env) (b.value env) (divide_value (division_of op) a.width) }
 
 abbrev pub signed_division : SignedDivisionOp → Meaning → Meaning → Meaning
-signed_division op a b = record { width = a.width; value = λ env. with_values (a.value env) (b.value env) (signed_quotient (signed_division_of op) a.width) }
+signed_division op a b =
+    record {
+      width = a.width;
+      value = λ env. with_values (a.value env) (b.value env) (signed_quotient (signed_division_of op) a.width);
+    }

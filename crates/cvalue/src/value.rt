@@ -62,7 +62,10 @@ fn part(dropped: u8, out: Width, a: Option<Word>) -> Option<Word>
 
 fn arithmetic(op: ArithmeticOp, a: Option<Word>, b: Option<Word>) -> Option<Word>
     requires { AreAlike a b }
-    ensures { (m n : Meaning) (env : ℕ → Option ℕ) → Tells a m env → Tells b n env → Tells result (N.arithmetic op m n) env }
+    ensures { (m n : Meaning) (env : ℕ → Option ℕ)
+        → Tells a m env
+        → Tells b n env
+        → Tells result (N.arithmetic op m n) env }
 {
     let a = a?;
     let b = b?;
@@ -88,7 +91,10 @@ fn compared(op: CompareOp, a: Option<Word>, b: Option<Word>) -> Option<Word>
 
 fn compared_signed(op: SignedCompareOp, a: Option<Word>, b: Option<Word>) -> Option<Word>
     requires { AreAlike a b }
-    ensures { (m n : Meaning) (env : ℕ → Option ℕ) → Tells a m env → Tells b n env → Tells result (N.signed_compare op m n) env }
+    ensures { (m n : Meaning) (env : ℕ → Option ℕ)
+        → Tells a m env
+        → Tells b n env
+        → Tells result (N.signed_compare op m n) env }
 {
     let a = a?;
     let b = b?;
@@ -135,7 +141,10 @@ fn overflows_quotient(a: Word, b: Word) -> bool
 /// None also where the divisor is 0 or the quotient doesn't fit.
 fn divided_signed(op: SignedDivisionOp, a: Option<Word>, b: Option<Word>) -> Option<Word>
     requires { AreAlike a b }
-    ensures { (m n : Meaning) (env : ℕ → Option ℕ) → Tells a m env → Tells b n env → Tells result (N.signed_division op m n) env }
+    ensures { (m n : Meaning) (env : ℕ → Option ℕ)
+        → Tells a m env
+        → Tells b n env
+        → Tells result (N.signed_division op m n) env }
 {
     let a = a?;
     let b = b?;

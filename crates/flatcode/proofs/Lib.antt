@@ -1,4 +1,3 @@
 pub mod Turns
 pub mod Adds
 pub mod Sums
-pub mod Tables

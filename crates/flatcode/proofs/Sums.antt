@@ -15,8 +15,10 @@ module _ (returns : ℕ → Bool) (s : Stmt) (c : Expr) where
       → n ≡ 1 + e
       → n ≡ (piece_of returns s).span
   if_else_span body other is a b d e n ha hb hd he hn =
-      let span : (piece_of returns s).span ≡ suc (spans (pieces_of returns body) + suc (spans (pieces_of returns other))) =
-      ap (λ (x : Stmt). (piece_of returns x).span) is ∙ ap (λ (x : Piece). x.span) (piece_of_if_else returns c body other) in
+      let span : (piece_of returns s).span
+      ≡ suc (spans (pieces_of returns body) + suc (spans (pieces_of returns other))) =
+      ap (λ (x : Stmt). (piece_of returns x).span) is
+      ∙ ap (λ (x : Piece). x.span) (piece_of_if_else returns c body other) in
       omega (arith, span, ha, hb, hd, he, hn)
 
   pub while_span : (body : List Stmt) → s ≡ S.While c body → (a b n : ℕ)

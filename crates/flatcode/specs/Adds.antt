@@ -17,16 +17,24 @@ pub record Adds (old new : Draft) (span : ℕ) (labels : List (ℕ × ℕ)) (ste
 
 -- the labels and steps of a statement, where `out` is the position behind the innermost loop
 abbrev pub Puts : Draft → Draft → Piece → ℕ → Type 0
-Puts old new piece out = Adds old new piece.span (piece.labels (length old.steps.items)) (λ place. piece.steps place out (length old.steps.items))
+Puts old new piece out =
+    Adds old new piece.span (piece.labels (length old.steps.items))
+    (λ place. piece.steps place out (length old.steps.items))
 
 -- of statements one after another
 abbrev pub PutsAll : Draft → Draft → List Piece → ℕ → Type 0
-PutsAll old new pieces out = Adds old new (spans pieces) (all_labels pieces (length old.steps.items)) (λ place. all_steps pieces place out (length old.steps.items))
+PutsAll old new pieces out =
+    Adds old new (spans pieces) (all_labels pieces (length old.steps.items))
+    (λ place. all_steps pieces place out (length old.steps.items))
 
 -- of an arm of a switch that ends at `past`
 abbrev pub PutsArm : Draft → Draft → Branch → ℕ → ℕ → Type 0
-PutsArm old new arm out past = Adds old new (arm_span arm) (all_labels arm.body (length old.steps.items)) (λ place. all_steps arm.body place out (length old.steps.items) ++ (if breaks arm then Jump past ∷ [] else []))
+PutsArm old new arm out past =
+    Adds old new (arm_span arm) (all_labels arm.body (length old.steps.items))
+    (λ place. all_steps arm.body place out (length old.steps.items) ++ (if breaks arm then Jump past ∷ [] else []))
 
 -- of arms one after another
 abbrev pub PutsArms : Draft → Draft → List Branch → ℕ → ℕ → Type 0
-PutsArms old new arms out past = Adds old new (arm_spans arms) (arm_labels arms (length old.steps.items)) (λ place. arm_steps arms place out past (length old.steps.items))
+PutsArms old new arms out past =
+    Adds old new (arm_spans arms) (arm_labels arms (length old.steps.items))
+    (λ place. arm_steps arms place out past (length old.steps.items))

@@ -80,7 +80,8 @@ fn put_if_else<'a>(
     out: usize,
     code: &mut Draft<'a>,
 ) -> Result<(), Memory>
-    ensures { OnOk result (Puts code.old code.new (piece_of (returns_by callees.now) (S.IfElse condition.now body.now other.now)) out) }
+    ensures { OnOk result
+        (Puts code.old code.new (piece_of (returns_by callees.now) (S.IfElse condition.now body.now other.now)) out) }
 {
     let first = after(code.steps.len(), 1)?;
     let no = after(after(first, spans(callees, body)?)?, 1)?;
@@ -107,7 +108,8 @@ fn put_while<'a>(
     out: usize,
     code: &mut Draft<'a>,
 ) -> Result<(), Memory>
-    ensures { OnOk result (Puts code.old code.new (piece_of (returns_by callees.now) (S.While condition.now body.now)) out) }
+    ensures { OnOk result
+        (Puts code.old code.new (piece_of (returns_by callees.now) (S.While condition.now body.now)) out) }
 {
     let start = code.steps.len();
     let first = after(start, 1)?;
@@ -133,7 +135,8 @@ fn put_do_while<'a>(
     out: usize,
     code: &mut Draft<'a>,
 ) -> Result<(), Memory>
-    ensures { OnOk result (Puts code.old code.new (piece_of (returns_by callees.now) (S.DoWhile body.now condition.now)) out) }
+    ensures { OnOk result
+        (Puts code.old code.new (piece_of (returns_by callees.now) (S.DoWhile body.now condition.now)) out) }
 {
     let start = code.steps.len();
     let end = after(after(start, spans(callees, body)?)?, 1)?;

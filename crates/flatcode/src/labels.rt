@@ -22,7 +22,9 @@ fn make_room(table: &mut Vec<Option<usize>>, at: usize) -> Result<(), Memory>
 
 /// Puts a label into the table, in place of what it held for its number.
 fn put(table: &mut Vec<Option<usize>>, label: Placed) -> Result<(), Memory>
-    ensures { OnOk result ((end n : ℕ) → place_in table.new.items end n ≡ (if label.label == n then label.position else place_in table.old.items end n)) }
+    ensures { OnOk result ((end n : ℕ)
+        → place_in table.new.items end n
+        ≡ (if label.label == n then label.position else place_in table.old.items end n)) }
 {
     let at = label.label as usize;
     make_room(table, at)?;

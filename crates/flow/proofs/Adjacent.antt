@@ -40,18 +40,30 @@ relative_is : (l : Listing) (o : Option Place) (q : Place) → Leads q ≡ relat
 relative_is l None q e = absurd (cc)
 relative_is l (Some p) q e = ap Some (sym (lead_is l FallsOff p q e))
 
-pub branch_is : (l : Listing) (i : Instruction) (n : ℕ) (to : Varnode) (q : Place) → Leads q ≡ branch_way l i n to → branch_place i n to ≡ Some q
+pub branch_is : (l : Listing) (i : Instruction) (n : ℕ) (to : Varnode) (q : Place)
+    → Leads q ≡ branch_way l i n to
+    → branch_place i n to ≡ Some q
 branch_is l i n to q e = by (to.space == 0) refl where
   by : (b : Bool) → (to.space == 0) ≡ b → branch_place i n to ≡ Some q
   by true h =
       ap (λ (b : Bool). cond b (relative_place i n to) (Some (place to.offset 0))) h
-      ∙ relative_is l (relative_place i n to) q (e ∙ ap (λ (b : Bool). cond b (relative_way l (relative_place i n to)) (way_to l NoTarget (place to.offset 0))) h)
+      ∙ relative_is l (relative_place i n to) q (e
+      ∙ ap (λ (b : Bool). cond b (relative_way l (relative_place i n to)) (way_to l NoTarget (place to.offset 0)))
+      h)
   by false h =
       ap (λ (b : Bool). cond b (relative_place i n to) (Some (place to.offset 0))) h
-      ∙ ap Some (sym (lead_is l NoTarget (place to.offset 0) q (e ∙ ap (λ (b : Bool). cond b (relative_way l (relative_place i n to)) (way_to l NoTarget (place to.offset 0))) h)))
+      ∙ ap Some (sym (lead_is l NoTarget (place to.offset 0) q (e
+      ∙ ap
+      (λ (b : Bool).
+      cond b (relative_way l (relative_place i n to)) (way_to l NoTarget (place to.offset 0)))
+      h)))
 
 -- where a place that goes on leads is the place after it
-pub lead_next : (l : Listing) (p q : Place) → stands l p ≡ true → turn_at l p ≡ GoesOn → LeadsTo l [] p q → next_in (standing l p) p.index ≡ Some q
+pub lead_next : (l : Listing) (p q : Place)
+    → stands l p ≡ true
+    → turn_at l p ≡ GoesOn
+    → LeadsTo l [] p q
+    → next_in (standing l p) p.index ≡ Some q
 lead_next l p q s t h =
     let o = owner_of l p s in
     let P : List Way → Type 0 = λ ws. IsIn (Leads q) ws in
@@ -60,7 +72,12 @@ lead_next l p q s t h =
     (λ bad. absurd bad)
     (subst P (ways_by l p o.owner GoesOn o.found s t) h)
 
-pub next_lead : (l : Listing) (p q : Place) → stands l p ≡ true → turn_at l p ≡ GoesOn → next_in (standing l p) p.index ≡ Some q → stands l q ≡ true → LeadsTo l [] p q
+pub next_lead : (l : Listing) (p q : Place)
+    → stands l p ≡ true
+    → turn_at l p ≡ GoesOn
+    → next_in (standing l p) p.index ≡ Some q
+    → stands l q ≡ true
+    → LeadsTo l [] p q
 next_lead l p q s t e h =
     let o = owner_of l p s in
     let P : List Way → Type 0 = λ ws. IsIn (Leads q) ws in
@@ -75,14 +92,24 @@ slots_under [] n le = omega arith
 slots_under (op ∷ ops) n le = le
 
 -- no place of the listing stands between a place and the one after it
-between : (l : Listing) (p r : Place) (i : Instruction) → AreApart l.code → instruction_at l p.address ≡ Some i → p.index < slots i → stands l r ≡ true → IsBefore p r → IsBefore r (next_place i p.index) → ⊥
+between : (l : Listing) (p r : Place) (i : Instruction)
+    → AreApart l.code
+    → instruction_at l p.address ≡ Some i
+    → p.index < slots i
+    → stands l r ≡ true
+    → IsBefore p r
+    → IsBefore r (next_place i p.index)
+    → ⊥
 between l p r i a found lt s before after = ⊎_elim inside outside (cases_lt (p.index + 1) (length i.ops)) where
   inside : p.index + 1 < length i.ops → ⊥
   inside less =
       let own = found_in l.code p.address i found in
       let e = next_inside i p.index less in
       let P : Place → Type 0 = λ q. IsBefore r q in
-      ⊎_elim (λ x. ⊎_elim (λ y. omega (arith, own.1)) (λ y. omega (arith, own.1)) (subst P e after)) (λ x. ⊎_elim (λ y. omega (arith, own.1)) (λ y. omega (arith, own.1)) (subst P e after)) before
+      ⊎_elim
+      (λ x. ⊎_elim (λ y. omega (arith, own.1)) (λ y. omega (arith, own.1)) (subst P e after))
+      (λ x. ⊎_elim (λ y. omega (arith, own.1)) (λ y. omega (arith, own.1)) (subst P e after))
+      before
 
   outside : length i.ops ≤ p.index + 1 → ⊥
   outside le =
@@ -91,16 +118,22 @@ between l p r i a found lt s before after = ⊎_elim inside outside (cases_lt (p
       let other = found_in l.code r.address o.owner o.found in
       let e = next_outside i p.index le in
       let P : Place → Type 0 = λ q. IsBefore r q in
-      let last : r.address < i.address + i.length = ⊎_elim (λ y. y) (λ y. absurd (omega (arith, y.1))) (subst P e after) in
+      let last : r.address < i.address + i.length =
+      ⊎_elim (λ y. y) (λ y. absurd (omega (arith, y.1))) (subst P e after) in
       ⊎_elim
-      (λ x. let apart = apart_in l.code a i o.owner own.0 other.0 (omega (arith, own.1, other.1)) in omega (arith, other.1, apart))
+      (λ x.
+      let apart = apart_in l.code a i o.owner own.0 other.0 (omega (arith, own.1, other.1)) in
+      omega (arith, other.1, apart))
       (λ x.
       let same : o.owner ≡ i = some_same (sym o.found ∙ (ap (λ n. instruction_at l n) (sym x.0) ∙ found)) in
       let index : r.index < slots i = let Q : Instruction → Type 0 = λ j. r.index < slots j in subst Q same o.index in
       omega (arith, x.1, index, slots_under i.ops p.index le))
       before
 
-after_it : (l : Listing) (p : Place) (i : Instruction) → AreApart l.code → instruction_at l p.address ≡ Some i → IsBefore p (next_place i p.index)
+after_it : (l : Listing) (p : Place) (i : Instruction)
+    → AreApart l.code
+    → instruction_at l p.address ≡ Some i
+    → IsBefore p (next_place i p.index)
 after_it l p i a found =
     let own = found_in l.code p.address i found in
     let P : Place → Type 0 = λ q. IsBefore p q in
@@ -115,11 +148,19 @@ after_it l p i a found =
       positive (x ∷ y ∷ code) a (inl e) = let Q : Instruction → Type 0 = λ y. 0 < y.length in subst Q (sym e) a.0
       positive (x ∷ y ∷ code) a (inr h) = positive (y ∷ code) a.1.1 h
 
-pub adjacent : (l : Listing) (ps : List Place) → AreApart l.code → ArePlaces l ps → (k s : ℕ) → k < length ps → s < length ps → next_in (standing l (at ps k)) (at ps k).index ≡ Some (at ps s) → suc k ≡ s
+pub adjacent : (l : Listing) (ps : List Place)
+    → AreApart l.code
+    → ArePlaces l ps
+    → (k s : ℕ)
+    → k < length ps
+    → s < length ps
+    → next_in (standing l (at ps k)) (at ps k).index ≡ Some (at ps s)
+    → suc k ≡ s
 adjacent l ps a all k s k_in s_in e =
     let p = at ps k in
     let o = owner_of l p ((all.each p).0 (at_in ps k k_in)) in
-    let n : next_place o.owner p.index ≡ at ps s = some_same (sym (next_here l p o.owner o.found ((all.each p).0 (at_in ps k k_in))) ∙ e) in
+    let n : next_place o.owner p.index ≡ at ps s =
+    some_same (sym (next_here l p o.owner o.found ((all.each p).0 (at_in ps k k_in))) ∙ e) in
     let P : Place → Type 0 = λ q. IsBefore p q in
     let before : IsBefore p (at ps s) = subst P n (after_it l p o.owner a o.found) in
     ⊎_elim (λ same. same)
@@ -128,7 +169,9 @@ adjacent l ps a all k s k_in s_in e =
     let r = at ps (suc k) in
     let r_in : suc k < length ps = omega arith in
     let Q : Place → Type 0 = λ q. IsBefore r q in
-    absurd (between l p r o.owner a o.found o.index ((all.each r).0 (at_in ps (suc k) r_in)) (at_before ps all.rising k (suc k) (omega arith) r_in) (subst Q (sym n) (at_before ps all.rising (suc k) s less s_in))))
+    absurd (between l p r o.owner a o.found o.index ((all.each r).0 (at_in ps (suc k) r_in))
+    (at_before ps all.rising k (suc k) (omega arith) r_in)
+    (subst Q (sym n) (at_before ps all.rising (suc k) s less s_in))))
     (λ more. absurd (⊎_elim
     (λ same. not_before p (let R : ℕ → Type 0 = λ j. IsBefore p (at ps j) in subst R same before))
     (λ less. before_once p (at ps s) before (at_before ps all.rising s k less k_in))
@@ -150,7 +193,11 @@ pub starts_reached : (l : Listing) (p : Place) → BeginsBlock l [] p → Reache
 starts_reached l p Entry = First
 starts_reached l p (Led q p' r b h) = Next q p' r h
 
-pub before_it : (l : Listing) (p : Place) → ((q : Place) → Reached l [] q → stands l q ≡ true) → Reached l [] p → (BeginsBlock l [] p → ⊥) → Before l p
+pub before_it : (l : Listing) (p : Place)
+    → ((q : Place) → Reached l [] q → stands l q ≡ true)
+    → Reached l [] p
+    → (BeginsBlock l [] p → ⊥)
+    → Before l p
 before_it l p all First out = absurd (out Entry)
 before_it l p all (Next q p' r h) out = by (turn_at l q) refl where
   ends : (t : Turn) → turn_at l q ≡ t → turn_ways l [] q (owner_of l q (all q r)).owner t ≡ [] → Before l p'

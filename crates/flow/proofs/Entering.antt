@@ -13,9 +13,15 @@ use Rattle.flow.specs.declared.answer.FlowFault.TheVariants as F
 use Rattle.flow.specs.Slots.{ArePlaces}
 use Rattle.flow.specs.Answer.{HasTooMany, IsTooMany, IsFlowFault}
 
-nothing_there : (l : Listing) (ps : List Place) → ArePlaces l ps → (IsIn (first_place l) ps → ⊥) → ways l [] (first_place l) ≡ Fails NoTarget ∷ []
+nothing_there : (l : Listing) (ps : List Place)
+    → ArePlaces l ps
+    → (IsIn (first_place l) ps → ⊥)
+    → ways l [] (first_place l) ≡ Fails NoTarget ∷ []
 nothing_there l ps a none = by (standing l (first_place l)) refl where
-  stood : (s : Standing) → standing l (first_place l) ≡ s → stands_by s ≡ true → ways l [] (first_place l) ≡ Fails NoTarget ∷ []
+  stood : (s : Standing)
+      → standing l (first_place l) ≡ s
+      → stands_by s ≡ true
+      → ways l [] (first_place l) ≡ Fails NoTarget ∷ []
   stood s e h = absurd (none ((a.each (first_place l)).1 (ap stands_by e ∙ h)))
 
   by : (s : Standing) → standing l (first_place l) ≡ s → ways l [] (first_place l) ≡ Fails NoTarget ∷ []
@@ -23,7 +29,11 @@ nothing_there l ps a none = by (standing l (first_place l)) refl where
   by (Passes i) e = stood (Passes i) e refl
   by (Does i op) e = stood (Does i op) e refl
 
-alone : (l : Listing) → ways l [] (first_place l) ≡ Fails NoTarget ∷ [] → (q : Place) → Reached l [] q → first_place l ≡ q
+alone : (l : Listing)
+    → ways l [] (first_place l) ≡ Fails NoTarget ∷ []
+    → (q : Place)
+    → Reached l [] q
+    → first_place l ≡ q
 alone l e q First = refl
 alone l e q (Next p q' r h) =
     let P : Place → Type 0 = λ z. IsIn (Leads q') (ways l [] z) in
@@ -35,7 +45,10 @@ alone l e q (Next p q' r h) =
 fails_same : (a b : FlowWhy) → Fails a ≡ Fails b → a ≡ b
 fails_same a b e = cc
 
-pub entry_fault : (l : Listing) (ps : List Place) → ArePlaces l ps → (IsIn (first_place l) ps → ⊥) → FirstFault l [] (first_place l) NoTarget
+pub entry_fault : (l : Listing) (ps : List Place)
+    → ArePlaces l ps
+    → (IsIn (first_place l) ps → ⊥)
+    → FirstFault l [] (first_place l) NoTarget
 entry_fault l ps a none =
     let e = nothing_there l ps a none in
     let P : List Way → Type 0 = λ ws. IsIn (Fails NoTarget) ws in
@@ -48,7 +61,10 @@ entry_fault l ps a none =
           inr (
             same,
             ⊎_elim
-                (λ i. ⊎_elim (λ f. omega (arith, ap rank (fails_same other NoTarget f))) (λ bad. absurd bad) (subst R e (subst Q (sym same) i)))
+                (λ i. ⊎_elim
+                (λ f. omega (arith, ap rank (fails_same other NoTarget f)))
+                (λ bad. absurd bad)
+                (subst R e (subst Q (sym same) i)))
                 (λ b. absurd b.1.1)
                 h.1,
           );
@@ -56,7 +72,10 @@ entry_fault l ps a none =
 
 -- ---- what the whole call answers
 
-pub too_many_fault : (l : Listing) (t : List TableAt) (n : ℕ) (f : FlowFault) → HasTooMany l t n → IsTooMany n f → IsFlowFault l t f
+pub too_many_fault : (l : Listing) (t : List TableAt) (n : ℕ) (f : FlowFault)
+    → HasTooMany l t n
+    → IsTooMany n f
+    → IsFlowFault l t f
 too_many_fault l t n (F.NoTarget p) h k = absurd k
 too_many_fault l t n (F.FallsOff p) h k = absurd k
 too_many_fault l t n (F.BadRelative p) h k = absurd k

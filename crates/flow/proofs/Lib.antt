@@ -1,6 +1,5 @@
 pub mod Order
 pub mod Listed
-pub mod Relative
 pub mod Meaning
 pub mod Rounds
 pub mod Reaching

@@ -7,13 +7,16 @@ use Rattle.pcode_model.specs.declared.listing.Place.{Place}
 use Rattle.pcode_model.specs.Places.{place}
 use Rattle.pcode_model.specs.Flow.{IsIn, IsBefore, Rising}
 use Rattle.flow.specs.Slots.{at, IsLowerBound}
+use Rattle.instructions.proofs.Members.{in_either, same_place}
 
+-- the order of places is transitive
 pub before_trans : (p q r : Place) → IsBefore p q → IsBefore q r → IsBefore p r
 before_trans p q r (inl a) (inl b) = inl (omega arith)
 before_trans p q r (inl a) (inr b) = inl (omega arith)
 before_trans p q r (inr a) (inl b) = inl (omega arith)
 before_trans p q r (inr a) (inr b) = inr (omega arith, omega arith)
 
+-- no place stands before itself
 pub not_before : (p : Place) → IsBefore p p → ⊥
 not_before p (inl a) = omega arith
 not_before p (inr a) = omega arith
@@ -21,13 +24,13 @@ not_before p (inr a) = omega arith
 pub before_once : (p q : Place) → IsBefore p q → IsBefore q p → ⊥
 before_once p q a b = not_before p (before_trans p q p a b)
 
-pub same_place : (p q : Place) → p.address ≡ q.address → p.index ≡ q.index → p ≡ q
-same_place p q e f = ap (λ a. place a p.index) e ∙ ap (λ n. place q.address n) f
-
 pub ordered : (p q : Place) → (p ≡ q) ⊎ (IsBefore p q ⊎ IsBefore q p)
 ordered p q =
     ⊎_elim
-    (λ e. ⊎_elim (λ f. inl (same_place p q e f)) (λ o. inr (⊎_elim (λ a. inl (inr (e, a))) (λ b. inr (inr (sym e, b))) o)) (cases_order p.index q.index))
+    (λ e. ⊎_elim
+    (λ f. inl (same_place p q e f))
+    (λ o. inr (⊎_elim (λ a. inl (inr (e, a))) (λ b. inr (inr (sym e, b))) o))
+    (cases_order p.index q.index))
     (λ o. inr (⊎_elim (λ a. inl (inl a)) (λ b. inr (inl b)) o))
     (cases_order p.address q.address)
 
@@ -72,18 +75,24 @@ pub rising_cons : (p : Place) (ps : List Place) → Rising ps → ((q : Place) �
 rising_cons p [] r all = tt
 rising_cons p (q ∷ ps) r all = (all q (inl refl), r)
 
-pub rising_both : (ps qs : List Place) → Rising ps → Rising qs → ((p q : Place) → IsIn p ps → IsIn q qs → IsBefore p q) → Rising (ps ++ qs)
+pub rising_both : (ps qs : List Place)
+    → Rising ps
+    → Rising qs
+    → ((p q : Place) → IsIn p ps → IsIn q qs → IsBefore p q)
+    → Rising (ps ++ qs)
 rising_both [] qs r s all = s
-rising_both (p ∷ ps) qs r s all = rising_cons p (ps ++ qs) (rising_both ps qs (rising_rest p ps r) s (λ x y h k. all x y (inr h) k)) (λ q h. ⊎_elim (λ a. rising_head p ps r q a) (λ b. all p q (inl refl) b) (in_either q ps qs h)) where
-  in_either : (x : Place) (xs ys : List Place) → IsIn x (xs ++ ys) → IsIn x xs ⊎ IsIn x ys
-  in_either x [] ys h = inr h
-  in_either x (z ∷ xs) ys (inl e) = inl (inl e)
-  in_either x (z ∷ xs) ys (inr h) = ⊎_elim (λ a. inl (inr a)) (λ b. inr b) (in_either x xs ys h)
+rising_both (p ∷ ps) qs r s all =
+    rising_cons p (ps ++ qs) (rising_both ps qs (rising_rest p ps r) s (λ x y h k. all x y (inr h) k))
+    (λ q h. ⊎_elim (λ a. rising_head p ps r q a) (λ b. all p q (inl refl) b) (in_either ps qs q h))
 
 -- ---- lower bounds
 
 -- a member stands at its lower bound
-pub bound_of_member : (ps : List Place) (p : Place) (n : ℕ) → Rising ps → IsLowerBound ps p n → IsIn p ps → slice_get ps n ≡ Some p
+pub bound_of_member : (ps : List Place) (p : Place) (n : ℕ)
+    → Rising ps
+    → IsLowerBound ps p n
+    → IsIn p ps
+    → slice_get ps n ≡ Some p
 bound_of_member ps p n r b h =
     let x = in_at p ps h in
     let P : Place → Type 0 = λ q. IsBefore q p in
@@ -95,12 +104,20 @@ bound_of_member ps p n r b h =
     (λ gt. let inside : n < length ps = omega (arith, x.1.0) in
     let R : Place → Type 0 = λ q. IsBefore (at ps n) q in
     let after : IsBefore (at ps n) p = subst R x.1.1 (at_before ps r n x.0 gt x.1.0) in
-    ⊎_elim (λ a. before_once p (at ps n) a after) (λ e. not_before p (let S : Place → Type 0 = λ q. IsBefore q p in subst S e after)) (b.above n (omega arith) inside))
+    ⊎_elim
+    (λ a. before_once p (at ps n) a after)
+    (λ e. not_before p (let S : Place → Type 0 = λ q. IsBefore q p in subst S e after))
+    (b.above n (omega arith) inside))
     o))
     (cases_order x.0 n)
 
 -- where the place at the lower bound is another one, there is no member
-pub bound_of_none : (ps : List Place) (p : Place) (n : ℕ) → Rising ps → IsLowerBound ps p n → (slice_get ps n ≡ Some p → ⊥) → IsIn p ps → ⊥
+pub bound_of_none : (ps : List Place) (p : Place) (n : ℕ)
+    → Rising ps
+    → IsLowerBound ps p n
+    → (slice_get ps n ≡ Some p → ⊥)
+    → IsIn p ps
+    → ⊥
 bound_of_none ps p n r b other h = other (bound_of_member ps p n r b h)
 
 -- ---- the search by place
@@ -112,18 +129,32 @@ pub record Bounding (ps : List Place) (p : Place) (low high : ℕ) : Type 0 wher
   pub below : (k : ℕ) → k < low → IsBefore (at ps k) p
   pub above : (k : ℕ) → high ≤ k → k < length ps → IsBefore p (at ps k) ⊎ (at ps k ≡ p)
 
-pub bounding_up : (ps : List Place) (p : Place) (low high m : ℕ) → Rising ps → Bounding ps p low high → m < high → IsBefore (at ps m) p → Bounding ps p (m + 1) high
+pub bounding_up : (ps : List Place) (p : Place) (low high m : ℕ)
+    → Rising ps
+    → Bounding ps p low high
+    → m < high
+    → IsBefore (at ps m) p
+    → Bounding ps p (m + 1) high
 bounding_up ps p low high m r b lt less = record {
   inside = b.inside;
   ordered = omega arith;
   below = λ k h. ⊎_elim
       (λ same. let P : ℕ → Type 0 = λ n. IsBefore (at ps n) p in subst P (sym same) less)
-      (λ o. ⊎_elim (λ a. before_trans (at ps k) (at ps m) p (at_before ps r k m a (omega (arith, b.inside))) less) (λ a. absurd (omega arith)) o)
+      (λ o. ⊎_elim
+      (λ a. before_trans (at ps k) (at ps m) p (at_before ps r k m a (omega (arith, b.inside))) less)
+      (λ a. absurd (omega arith))
+      o)
       (cases_order k m);
   above = b.above;
 }
 
-pub bounding_down : (ps : List Place) (p : Place) (low high m : ℕ) → Rising ps → Bounding ps p low high → low ≤ m → m < high → IsBefore p (at ps m) ⊎ (at ps m ≡ p) → Bounding ps p low m
+pub bounding_down : (ps : List Place) (p : Place) (low high m : ℕ)
+    → Rising ps
+    → Bounding ps p low high
+    → low ≤ m
+    → m < high
+    → IsBefore p (at ps m) ⊎ (at ps m ≡ p)
+    → Bounding ps p low m
 bounding_down ps p low high m r b le lt more = record {
   inside = omega (arith, b.inside);
   ordered = le;
@@ -134,7 +165,11 @@ bounding_down ps p low high m r b le lt more = record {
       (cases_order k m);
 } where
   after : (k : ℕ) → IsBefore (at ps m) (at ps k) → IsBefore p (at ps k)
-  after k a = ⊎_elim (λ x. before_trans p (at ps m) (at ps k) x a) (λ e. let P : Place → Type 0 = λ q. IsBefore q (at ps k) in subst P e a) more
+  after k a =
+      ⊎_elim
+      (λ x. before_trans p (at ps m) (at ps k) x a)
+      (λ e. let P : Place → Type 0 = λ q. IsBefore q (at ps k) in subst P e a)
+      more
 
 pub bounding_first : (ps : List Place) (p : Place) → Bounding ps p 0 (length ps)
 bounding_first ps p = record {
@@ -144,7 +179,10 @@ bounding_first ps p = record {
   above = λ k h inside. absurd (omega arith);
 }
 
-pub bounding_last : (ps : List Place) (p : Place) (low high : ℕ) → Bounding ps p low high → high ≤ low → IsLowerBound ps p low
+pub bounding_last : (ps : List Place) (p : Place) (low high : ℕ)
+    → Bounding ps p low high
+    → high ≤ low
+    → IsLowerBound ps p low
 bounding_last ps p low high b le = record {
   inside = omega (arith, b.inside, b.ordered);
   below = b.below;
@@ -152,8 +190,12 @@ bounding_last ps p low high b le = record {
 }
 
 -- by the parts of the order
-pub not_below : (p q : Place) → (p.address < q.address → ⊥) → (p.address ≡ q.address → p.index < q.index → ⊥) → IsBefore q p ⊎ (p ≡ q)
-not_below p q a b = ⊎_elim (λ e. inr e) (λ o. ⊎_elim (λ h. absurd (⊎_elim (λ x. a x) (λ x. b x.0 x.1) h)) (λ h. inl h) o) (ordered p q)
+pub not_below : (p q : Place)
+    → (p.address < q.address → ⊥)
+    → (p.address ≡ q.address → p.index < q.index → ⊥)
+    → IsBefore q p ⊎ (p ≡ q)
+not_below p q a b =
+    ⊎_elim (λ e. inr e) (λ o. ⊎_elim (λ h. absurd (⊎_elim (λ x. a x) (λ x. b x.0 x.1) h)) (λ h. inl h) o) (ordered p q)
 
 pub not_under : (p q : Place) → (IsBefore q p → ⊥) → IsBefore p q ⊎ (q ≡ p)
 not_under p q n = ⊎_elim (λ e. inr (sym e)) (λ o. ⊎_elim (λ h. inl h) (λ h. absurd (n h)) o) (ordered p q)

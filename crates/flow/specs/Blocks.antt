@@ -15,7 +15,8 @@ use Rattle.flow.specs.Slots.{at, Marked}
 -- the place goes to the pending block, which ends where there is an exit
 abbrev pub Passed : List Block → List Place → Place → Option Exit → List Block → List Place → Type 0
 Passed blocks pending p None blocks' pending' = (blocks' ≡ blocks) × (pending' ≡ pending ++ p ∷ [])
-Passed blocks pending p (Some e) blocks' pending' = (blocks' ≡ blocks ++ record { places = pending ++ p ∷ []; exit = e } ∷ []) × (pending' ≡ [])
+Passed blocks pending p (Some e) blocks' pending' =
+    (blocks' ≡ blocks ++ record { places = pending ++ p ∷ []; exit = e } ∷ []) × (pending' ≡ [])
 
 -- the exit where a block ends, or that the run goes on to the next slot
 abbrev pub ExitOf : Listing → List Place → List Place → ℕ → Option Exit → Type 0
@@ -40,6 +41,9 @@ JumpOf ps starts (To s) r = (n : ℕ) × ((r ≡ Some (Jump n)) × (slice_get st
 JumpOf ps starts (Faulty why) r = r ≡ None
 
 abbrev pub TestOf : List Place → List Place → Edge → Edge → Option Exit → Type 0
-TestOf ps starts (To s) (To t) r = (m : ℕ) × ((n : ℕ) × ((r ≡ Some (Test m n)) × ((slice_get starts m ≡ Some (at ps s)) × (slice_get starts n ≡ Some (at ps t)))))
+TestOf ps starts (To s) (To t) r =
+    (m : ℕ)
+    × ((n : ℕ)
+    × ((r ≡ Some (Test m n)) × ((slice_get starts m ≡ Some (at ps s)) × (slice_get starts n ≡ Some (at ps t)))))
 TestOf ps starts (To s) (Faulty why) r = r ≡ None
 TestOf ps starts (Faulty why) f r = r ≡ None

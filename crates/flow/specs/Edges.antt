@@ -1,5 +1,5 @@
 -- What the edges of the code mean: an edge to a slot leads to the place of that number.
-use Rattle.std.specs.Prelude.{◌≡◌, ℕ, ◌<◌, ◌≤◌, ◌⊎◌, List, [], ◌∷◌, ◌++◌, length, Option, Some, None, ℤ, negsuc}
+use Rattle.std.specs.Prelude.{◌≡◌, ℕ, ◌<◌, ◌≤◌, ◌⊎◌, List, [], ◌∷◌, ◌++◌, length, Option, Some, None}
 use Rattle.pcode_model.specs.declared.listing.Place.{Place}
 use Rattle.pcode_model.specs.declared.flow.FlowWhy.{FlowWhy}
 use Rattle.pcode_model.specs.Flow.{IsIn, Way, Leads, Fails, rank}
@@ -8,9 +8,6 @@ use Rattle.flow.specs.declared.edges.Edge.TheVariants.{To, Faulty}
 use Rattle.flow.specs.declared.edges.Leaving.{Leaving}
 use Rattle.flow.specs.declared.edges.Leaving.TheVariants.{Ends, One, Two}
 use Rattle.flow.specs.Slots.{at}
-
-abbrev pub IsNegative : ℤ → Type 0
-IsNegative z = (n : ℕ) × (z ≡ negsuc n)
 
 abbrev pub target_of : Edge → Option ℕ
 target_of (To s) = Some s

@@ -1,16 +1,15 @@
 //! The edges that leave a place.
 
-ghost use Rattle.std.specs.Prelude.{◌≡◌, [], true, MatchOption, pos, ◌+ℤ◌, ◌≤◌};
-ghost use Rattle.bits_core.specs.Value.{signed as signed_of, limit as limit_of};
+ghost use Rattle.std.specs.Prelude.{◌≡◌, [], true};
 ghost use Rattle.pcode_model.specs.declared.listing.Listing.{Listing};
 ghost use Rattle.pcode_model.specs.Places.{place, next_place, next_instruction, relative_place};
 ghost use Rattle.pcode_model.specs.Step.{callee_at, returns as returns_of};
 ghost use Rattle.pcode_model.specs.Flow.{AreApart, Rising, call_turn as call_turn_of, turn_of, turn_at, way_to as way_of, relative_way, branch_way, ways as ways_of, stands};
 ghost use Rattle.flow.specs.Slots.{ArePlaces};
-ghost use Rattle.flow.specs.Edges.{Means, AllMean, IsNegative};
+ghost use Rattle.flow.specs.Edges.{Means, AllMean};
 
 use crate::places::find;
-use instructions::instruction;
+use instructions::{instruction, relative_index};
 use pcode_model::{FlowWhy, Instruction, Listing, Op, Opcode, Place, Turn, Varnode};
 
 /// An edge: to the place of a number, or by a fault nowhere.
@@ -113,7 +112,9 @@ fn way_to(places: &[Place], why: FlowWhy, address: u128, index: usize) -> Edge
 
 fn to_next_instruction(places: &[Place], instruction: &Instruction) -> Edge
     requires { Rising places.now }
-    ensures { (l : Listing) → ArePlaces l places.now → Means places.now result (way_of l FlowWhy.FallsOff (next_instruction instruction.now)) }
+    ensures { (l : Listing)
+        → ArePlaces l places.now
+        → Means places.now result (way_of l FlowWhy.FallsOff (next_instruction instruction.now)) }
 {
     let end = u128::from(instruction.address) + u128::from(instruction.length);
     way_to(places, FlowWhy::FallsOff, end, 0)
@@ -121,7 +122,9 @@ fn to_next_instruction(places: &[Place], instruction: &Instruction) -> Edge
 
 fn to_next(places: &[Place], instruction: &Instruction, index: u32) -> Edge
     requires { Rising places.now }
-    ensures { (l : Listing) → ArePlaces l places.now → Means places.now result (way_of l FlowWhy.FallsOff (next_place instruction.now index)) }
+    ensures { (l : Listing)
+        → ArePlaces l places.now
+        → Means places.now result (way_of l FlowWhy.FallsOff (next_place instruction.now index)) }
 {
     let next = index as usize + 1;
     if next < instruction.ops.len() {
@@ -136,33 +139,11 @@ fn to_next(places: &[Place], instruction: &Instruction, index: u32) -> Edge
     }
 }
 
-fn limit(size: u32) -> u128
-    requires { size ≤ 8 }
-    ensures { result ≡ limit_of size }
-{
-    1u128 << (8 * size)
-}
-
-// The index of a relative branch, whose count is signed at its own size. None where it is negative.
-fn relative_index(index: u32, count: Varnode) -> Option<u128>
-    ensures { MatchOption result (IsNegative (pos index +ℤ signed_of count.size count.offset)) (λ m. pos index +ℤ signed_of count.size count.offset ≡ pos m) }
-{
-    let offset = u128::from(count.offset);
-    let sum = u128::from(index) + offset;
-    if count.size > 8 {
-        return Some(sum);
-    }
-    let limit = limit(count.size);
-    if offset < limit / 2 {
-        Some(sum)
-    } else {
-        sum.checked_sub(limit)
-    }
-}
-
 fn relative(places: &[Place], instruction: &Instruction, index: u32, count: Varnode) -> Edge
     requires { Rising places.now }
-    ensures { (l : Listing) → ArePlaces l places.now → Means places.now result (relative_way l (relative_place instruction.now index count)) }
+    ensures { (l : Listing)
+        → ArePlaces l places.now
+        → Means places.now result (relative_way l (relative_place instruction.now index count)) }
 {
     let ops = instruction.ops.len() as u128;
     match relative_index(index, count) {

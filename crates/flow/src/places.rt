@@ -71,7 +71,8 @@ pub(crate) fn lower_bound(places: &[Place], address: u128, index: usize) -> usiz
 /// The number of the place at the index of the address.
 pub(crate) fn find(places: &[Place], address: u128, index: usize) -> Option<usize>
     requires { Rising places.now }
-    ensures { MatchOption result (IsIn (place address index) places.now → ⊥) (λ s. slice_get places.now s ≡ Some (place address index)) }
+    ensures { MatchOption result (IsIn (place address index) places.now → ⊥)
+        (λ s. slice_get places.now s ≡ Some (place address index)) }
 {
     let slot = lower_bound(places, address, index);
     if slot < places.len() && is_at(places[slot], address, index) {

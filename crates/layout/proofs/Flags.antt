@@ -1,10 +1,9 @@
 -- Flags of the blocks that gotos name.
-use Rattle.std.proofs.Common.{◌≡◌, ℕ, suc, ◌+◌, ◌<◌, Bool, true, false, List, [], ◌∷◌, length, drop, refl, sym, ap, ◌∙◌, Some, arith}
+use Rattle.std.proofs.Common.{◌≡◌, ℕ, suc, ◌+◌, Bool, true, false, List, [], drop, refl, sym, ap, ◌∙◌, Some, arith}
 use Rattle.std.specs.Prelude.{slice_get}
-use Rattle.std.specs.List.{slice_index_or}
 use Rattle.pcode_model.specs.Spaces.{or}
 use Rattle.blockcode.specs.declared.code.Block.{Block}
-use Rattle.blockcode.specs.Laid.{exit_names, blocks_name, flags_from}
+use Rattle.blockcode.specs.Laid.{exit_names, blocks_name}
 use Rattle.blockcode.proofs.Straight.{dropped}
 
 or_false : (a : Bool) → or a false ≡ a
@@ -39,17 +38,3 @@ pub mark_last : (old : Bool) (blocks : List Block) (n b : ℕ) (is : Bool)
     → or old (blocks_name n (drop n blocks) b) ≡ is
     → old ≡ is
 mark_last old blocks n b is none was = sym (or_false old) ∙ sym (ap (λ xs. or old (blocks_name n xs b)) none) ∙ was
-
-pub flags_are : (f : ℕ → Bool) (blocks : List Block) (items : List Bool) (n : ℕ)
-    → length items ≡ length blocks
-    → ((b : ℕ) → b < length blocks → slice_index_or items b false ≡ f (n + b))
-    → items ≡ flags_from f n blocks
-flags_are f [] [] n long h = refl
-flags_are f [] (i ∷ items) n long h = absurd (omega (arith, long))
-flags_are f (x ∷ blocks) [] n long h = absurd (omega (arith, long))
-flags_are f (x ∷ blocks) (i ∷ items) n long h =
-    let z : n + 0 ≡ n = omega arith in
-    let first : i ≡ f n = h 0 (omega arith) ∙ ap f z in
-    let rest = flags_are f blocks items (suc n) (omega (arith, long))
-    (λ b lt. let e : n + suc b ≡ suc n + b = omega arith in h (suc b) (omega (arith, lt)) ∙ ap f e) in
-    ap (λ v. v ∷ items) first ∙ ap (λ xs. f n ∷ xs) rest

@@ -1,13 +1,16 @@
 //! Code of blocks as a C function with labels and gotos.
 //!
-//! The blocks stand in their order. A goto leads to a block only where another one follows, and only a block that a goto
-//! names has a label; labels are numbered in the order of their blocks, so that text and tree have one form. One walk
-//! over the exits finds the named blocks, and one over the blocks, which are taken apart from the first to the last,
-//! moves each statement into the body: nothing is copied.
+//! The blocks stand in their order. A goto leads to a block only where another one follows, or where it is the arm of a
+//! switch, and only a block that a goto names has a label. One walk over the exits finds the named blocks, and one over
+//! the blocks, which are taken apart from the first to the last, moves each statement into the body: nothing is copied.
+//! The body has the code's own numbers for variables, and a block's number for its label; a last step, which all that
+//! makes bodies shares, numbers them along the text.
 #![tactic(auto)]
 
+mod branches;
 mod function;
-mod labels;
+mod head;
 mod lines;
+mod named;
 
-pub use function::laid_out;
+pub use head::{laid_out, plain_head};

@@ -5,7 +5,7 @@ use Rattle.cmeaning.specs.declared.tree.Stmt.{Stmt}
 use Rattle.cmeaning.specs.declared.tree.Stmt.TheVariants as S
 use Rattle.cmeaning.specs.Flat.{Flat, Do, Test, Jump, spans, all_labels, all_steps, piece_of, pieces_of}
 use Rattle.blockcode.specs.declared.code.Exit.{Exit}
-use Rattle.blockcode.specs.Plain.{AreSimple}
+use Rattle.blockcode.specs.CanLay.{AreSimple}
 use Rattle.cmeaning.proofs.Flat.{piece_of_if, piece_of_goto, piece_of_label, piece_of_return}
 
 -- by whether callees return: how many steps, the labels from a position on, and the steps

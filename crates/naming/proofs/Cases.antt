@@ -8,14 +8,13 @@ use Rattle.cmeaning.specs.declared.tree.Stmt.{Stmt, fold-roll-Stmt, roll-Stmt, m
 use Rattle.cmeaning.specs.declared.tree.Stmt.TheOpen.{Stmt-F}
 use Rattle.cmeaning.specs.declared.tree.Stmt.TheVariants as S
 use Rattle.cmeaning.specs.Mentions.{Variable, Callee, LabelLine, in_expr, in_exprs, in_option, in_target, in_stmt, in_body}
-use Rattle.cmeaning.proofs.Mentions.{in_layer}
+use Rattle.cmeaning.proofs.Mentions.{in_layer, in_statement}
 use Rattle.naming.specs.Renamed as R
 use Rattle.naming.specs.Renamed.{Names, expr_by, exprs_by, option_by, target_by, stmt_layer, stmt_by, arm_by, body_by}
 use Rattle.naming.specs.declared.order.Order.{Order}
 use Rattle.naming.specs.First.{order_of, names_of}
 use Rattle.naming.specs.Named.{all_found, local_of, declared_all, named_function}
 use Rattle.naming.specs.Worked as worked
-use Rattle.naming.proofs.Noted.{in_statement}
 
 -- ---- what is mentioned
 

@@ -11,7 +11,7 @@ use Rattle.cmeaning.specs.Do.{same_name}
 use Rattle.cmeaning.specs.Valid.{same_callee_name, are_apart, is_apart_from, is_callee, are_callees}
 use Rattle.naming.specs.Listed.{is_listed}
 use Rattle.naming.specs.Named.{with_found, declared_all}
-use Rattle.naming_laws.proofs.Found.{All, AreDistinct, IsFound, turned}
+use Rattle.naming_laws.proofs.Found.{All, AreDistinct, IsFound, or_left, or_right, turned}
 use Rattle.naming_laws.proofs.Places.{own}
 
 same_decl : (c d : CalleeDecl) → Some c ≡ Some d → c ≡ d
@@ -167,14 +167,6 @@ two_apart (x ∷ cs) a b c d right is_c is_d other =
         apart_turned c d ∙ ap (λ (y : CalleeDecl). are_apart y c) (sym (same_decl x d h)) ∙ apart_of x cs a c apart g
     by_tests false false p q g h next = next g h
 
-or_first : (a b : Bool) → or a b ≡ false → a ≡ false
-or_first true b h = h
-or_first false b h = refl
-
-or_second : (a b : Bool) → or a b ≡ false → b ≡ false
-or_second true b h = absurd (cc)
-or_second false b h = h
-
 module _ (cs : List CalleeDecl) (right : are_callees cs ≡ true) where
   apart_all : (a : ℕ) (c : CalleeDecl) (ns : List ℕ)
       → declared_in cs a ≡ Some c
@@ -185,8 +177,8 @@ module _ (cs : List CalleeDecl) (right : are_callees cs ≡ true) where
   apart_all a c (n ∷ ns) is h new =
       ap (λ (o : Option CalleeDecl). is_apart_from c (with_found o (declared_all cs ns))) h.0.1
       ∙ both (are_apart c h.0.0) (is_apart_from c (declared_all cs ns))
-      (two_apart cs a n c h.0.0 right is h.0.1 (turned a n ∙ or_first (n == a) (is_listed a ns) new))
-      (apart_all a c ns is h.1 (or_second (n == a) (is_listed a ns) new))
+      (two_apart cs a n c h.0.0 right is h.0.1 (turned a n ∙ or_left (n == a) (is_listed a ns) new))
+      (apart_all a c ns is h.1 (or_right (n == a) (is_listed a ns) new))
 
   pub callees_all : (ns : List ℕ) → AreDeclared cs ns → AreDistinct ns → are_callees (declared_all cs ns) ≡ true
   callees_all [] h distinct = refl

@@ -7,11 +7,11 @@ use Rattle.pcode_model.specs.Spaces.{or}
 use Rattle.naming.specs.Listed.{is_listed, with_one, place_in}
 use Rattle.naming.specs.Named.{with_found, all_found}
 
-or_left : (a b : Bool) → or a b ≡ false → a ≡ false
+pub or_left : (a b : Bool) → or a b ≡ false → a ≡ false
 or_left true b h = h
 or_left false b h = refl
 
-or_right : (a b : Bool) → or a b ≡ false → b ≡ false
+pub or_right : (a b : Bool) → or a b ≡ false → b ≡ false
 or_right true b h = absurd (cc)
 or_right false b h = h
 

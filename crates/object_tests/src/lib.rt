@@ -1,4 +1,4 @@
-//! Tests of what no text says: trees, traces, maps of bytes and failing streams that are made by hand.
+//! Tests of what no text says: streams that are made by hand and fail.
 #![tactic(auto)]
 
 #[cfg(test)]

@@ -1,11 +1,8 @@
 mod command;
-mod flat;
-mod memory;
 mod streams;
-mod traces;
-mod trees;
-mod values;
 
+use outside::Fails;
+use std::alloc::Global;
 use std::fmt::Debug;
 use std::process::Abort;
 
@@ -13,4 +10,11 @@ use std::process::Abort;
 // dropped, as it has where `?` returns.
 fn made<T, E: Debug + Drop>(rt: &impl Abort, given: Result<T, E>) -> T {
     given.expect(rt, "memory")
+}
+
+// The call of this number fails.
+fn failing(rt: &impl Abort, alloc: Global, number: u32) -> Fails {
+    let mut fails = Fails::new(alloc);
+    made(rt, fails.push(number));
+    fails
 }

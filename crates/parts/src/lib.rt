@@ -11,12 +11,14 @@
 //! which gives a copy, another name, or an expression of a table. Another walk visits each read (`Visitor`).
 #![tactic(auto)]
 
+pub mod equal;
 pub mod exprs;
 pub mod laws;
 pub mod places;
 pub mod stmts;
 pub mod visits;
 
+pub use equal::same;
 pub use exprs::{copy, with_all};
 pub use places::{Names, Own, Places, Replaced};
 pub use stmts::{changed, copy_stmt, renamed};

@@ -31,9 +31,11 @@ module _ {A : Type 0} where
       → IsPartitionedBy test xs
   parted R test down [] up i j d le lt is = absurd (omega (arith, lt))
   parted R test down (x ∷ xs) up zero zero d le lt is = is
-  parted R test down (x ∷ xs) up zero (suc j) d le lt is = down x (get_or xs j d) (all_at (R x) xs up.0 j d (omega (arith, lt))) is
+  parted R test down (x ∷ xs) up zero (suc j) d le lt is =
+      down x (get_or xs j d) (all_at (R x) xs up.0 j d (omega (arith, lt))) is
   parted R test down (x ∷ xs) up (suc i) zero d le lt is = absurd (omega (arith, le))
-  parted R test down (x ∷ xs) up (suc i) (suc j) d le lt is = parted R test down xs up.1 i j d (omega (arith, le)) (omega (arith, lt)) is
+  parted R test down (x ∷ xs) up (suc i) (suc j) d le lt is =
+      parted R test down xs up.1 i j d (omega (arith, le)) (omega (arith, lt)) is
 
   by_test : (t : Bool) (x : A) (rest : Option A) → t ≡ false → cond t rest (Some x) ≡ Some x
   by_test true x rest e = absurd (cc)
@@ -50,10 +52,13 @@ module _ {A : Type 0} where
       → slice_get xs k ≡ first_past test xs
   point_is test [] zero point le = refl
   point_is test [] (suc k) point le = refl
-  point_is test (x ∷ xs) zero point le = sym (by_test (test x) x (first_past test xs) (point.1 0 x (omega arith) (omega arith)))
+  point_is test (x ∷ xs) zero point le =
+      sym (by_test (test x) x (first_past test xs) (point.1 0 x (omega arith) (omega arith)))
   point_is test (x ∷ xs) (suc k) point le =
-      point_is test xs k
-      ((λ i d low high. point.0 (suc i) d (omega arith) (omega (arith, high))), (λ i d low high. point.1 (suc i) d (omega (arith, low)) (omega (arith, high))))
+      point_is test xs k (
+        (λ i d low high. point.0 (suc i) d (omega arith) (omega (arith, high))),
+        (λ i d low high. point.1 (suc i) d (omega (arith, low)) (omega (arith, high))),
+      )
       (omega (arith, le))
       ∙ sym (past_test (test x) x (first_past test xs) (point.0 0 x (omega arith) (omega arith)))
 
@@ -70,8 +75,13 @@ before_down : (a b c d e f g h k : ℕ)
     → (nat_lt a g || (a == g && (nat_lt b h || (b == h && nat_lt c k)))) ≡ true
 before_down a b c d e f g h k x y = grind (arith, nat_tests, x, y)
 
-pub comes_down : (p : Place) (n : ℕ) (a b : FrameAccess) → ComesBefore a b → comes_before b p n ≡ true → comes_before a p n ≡ true
-comes_down p n a b x y = before_down a.place.address a.place.index a.argument b.place.address b.place.index b.argument p.address p.index n x y
+pub comes_down : (p : Place) (n : ℕ) (a b : FrameAccess)
+    → ComesBefore a b
+    → comes_before b p n ≡ true
+    → comes_before a p n ≡ true
+comes_down p n a b x y =
+    before_down a.place.address a.place.index a.argument b.place.address b.place.index b.argument p.address p.index n x
+    y
 
 -- what comes before a place with a number isn't there
 not_at : (a b c g h k : ℕ)
@@ -95,7 +105,10 @@ no_test true o e = absurd (cc)
 no_test false o e = refl
 
 module _ (size : ℕ) (p : Place) (n : ℕ) where
-  passed : (t : Bool) (a : FrameAccess) (rest : List FrameAccess) → is_at a p n ≡ t → t ≡ false → own_in size (a ∷ rest) p n ≡ own_in size rest p n
+  passed : (t : Bool) (a : FrameAccess) (rest : List FrameAccess)
+      → is_at a p n ≡ t
+      → t ≡ false
+      → own_in size (a ∷ rest) p n ≡ own_in size rest p n
   passed true a rest e f = absurd (cc)
   passed false a rest e f = ap (λ (b : Bool). cond b (Some (wrapped size a.offset)) (own_in size rest p n)) e
 
@@ -106,7 +119,8 @@ module _ (size : ℕ) (p : Place) (n : ℕ) where
   none_later a [] all past = refl
   none_later a (b ∷ rest) all past =
       passed false b rest
-      (later_not_at a.place.address a.place.index a.argument b.place.address b.place.index b.argument p.address p.index n all.0 past)
+      (later_not_at a.place.address a.place.index a.argument b.place.address b.place.index b.argument p.address
+      p.index n all.0 past)
       refl
       ∙ none_later a rest all.1 past
 
@@ -127,7 +141,8 @@ module _ (size : ℕ) (p : Place) (n : ℕ) where
       → own_in size (a ∷ rest) p n ≡ own_of size (found (a ∷ rest)) p n
   own_step true a rest e all more =
       passed false a rest (not_at a.place.address a.place.index a.argument p.address p.index n e) refl
-      ∙ (more ∙ ap (λ (o : Option FrameAccess). own_of size o p n) (sym (past_test (comes_before a p n) a (found rest) e)))
+      ∙ (more
+      ∙ ap (λ (o : Option FrameAccess). own_of size o p n) (sym (past_test (comes_before a p n) a (found rest) e)))
   own_step false a rest e all more =
       here (is_at a p n) a rest refl (none_later a rest all e)
       ∙ ap (λ (o : Option FrameAccess). own_of size o p n) (sym (by_test (comes_before a p n) a (found rest) e))
@@ -137,7 +152,8 @@ module _ (size : ℕ) (p : Place) (n : ℕ) where
   own_found (a ∷ rest) up = own_step (comes_before a p n) a rest refl up.0 (own_found rest up.1)
 
   -- what stands where the accesses that come before them end
-  module _ (xs : List FrameAccess) (up : Rise ComesBefore xs) (k : ℕ) (is : slice_get xs k ≡ first_past (λ a. comes_before a p n) xs) where
+  module _ (xs : List FrameAccess) (up : Rise ComesBefore xs) (k : ℕ)
+      (is : slice_get xs k ≡ first_past (λ a. comes_before a p n) xs) where
     own_at : own_in size xs p n ≡ own_of size (slice_get xs k) p n
     own_at = own_found xs up ∙ ap (λ (o : Option FrameAccess). own_of size o p n) (sym is)
 
@@ -145,12 +161,21 @@ module _ (size : ℕ) (p : Place) (n : ℕ) where
     own_past past = own_at ∙ ap (λ (o : Option FrameAccess). own_of size o p n) (slice_get_past xs k past)
 
     own_there : (a : FrameAccess) → k < length xs → a ≡ get_or xs k a → own_in size xs p n ≡ own_of size (Some a) p n
-    own_there a lt at = own_at ∙ ap (λ (o : Option FrameAccess). own_of size o p n) (slice_get_read xs (length xs) k a refl lt at)
+    own_there a lt at =
+        own_at ∙ ap (λ (o : Option FrameAccess). own_of size o p n) (slice_get_read xs (length xs) k a refl lt at)
 
-    pub own_is : (a : FrameAccess) → k < length xs → a ≡ get_or xs k a → is_at a p n ≡ true → own_in size xs p n ≡ Some (wrapped size a.offset)
+    pub own_is : (a : FrameAccess)
+        → k < length xs
+        → a ≡ get_or xs k a
+        → is_at a p n ≡ true
+        → own_in size xs p n ≡ Some (wrapped size a.offset)
     own_is a lt at same = own_there a lt at ∙ own_test (is_at a p n) (wrapped size a.offset) same
 
-    pub own_isnt : (a : FrameAccess) → k < length xs → a ≡ get_or xs k a → is_at a p n ≡ false → own_in size xs p n ≡ None
+    pub own_isnt : (a : FrameAccess)
+        → k < length xs
+        → a ≡ get_or xs k a
+        → is_at a p n ≡ false
+        → own_in size xs p n ≡ None
     own_isnt a lt at other = own_there a lt at ∙ no_test (is_at a p n) (wrapped size a.offset) other
 
 -- ---- variables
@@ -197,10 +222,14 @@ and_first true t e = e
 and_first false t e = refl
 
 module _ (x : ℤ) where
-  none_above : (v : FrameVariable) (rest : List FrameVariable) → AllByRecursion (EndsBefore v) rest → x <ℤ end_of v → any_holds rest x ≡ false
+  none_above : (v : FrameVariable) (rest : List FrameVariable)
+      → AllByRecursion (EndsBefore v) rest
+      → x <ℤ end_of v
+      → any_holds rest x ≡ false
   none_above v [] all over = refl
   none_above v (w ∷ rest) all over =
-      or_rest (holds w x) (any_holds rest x) (no_high _ _ (le_no w.offset x (let e : end_of v ≤ℤ w.offset = all.0 in omega (arith, ints, e, over))))
+      or_rest (holds w x) (any_holds rest x)
+      (no_high _ _ (le_no w.offset x (let e : end_of v ≤ℤ w.offset = all.0 in omega (arith, ints, e, over))))
       ∙ none_above v rest all.1 over
 
   abbrev past : List FrameVariable → Option FrameVariable
@@ -224,7 +253,8 @@ module _ (x : ℤ) where
   holds_found [] up = refl
   holds_found (v ∷ rest) up = holds_step (ends_by v x) v rest refl up.0 (holds_found rest up.1)
 
-  module _ (vs : List FrameVariable) (up : Rise EndsBefore vs) (k : ℕ) (is : slice_get vs k ≡ first_past (λ v. ends_by v x) vs) where
+  module _ (vs : List FrameVariable) (up : Rise EndsBefore vs) (k : ℕ)
+      (is : slice_get vs k ≡ first_past (λ v. ends_by v x) vs) where
     held_at : any_holds vs x ≡ begins_by (slice_get vs k) x
     held_at = holds_found vs up ∙ ap (λ (o : Option FrameVariable). begins_by o x) (sym is)
 
@@ -232,7 +262,8 @@ module _ (x : ℤ) where
     held_past past = held_at ∙ ap (λ (o : Option FrameVariable). begins_by o x) (slice_get_past vs k past)
 
     pub held_by : (v : FrameVariable) → k < length vs → v ≡ get_or vs k v → any_holds vs x ≡ int_le v.offset x
-    held_by v lt at = held_at ∙ ap (λ (o : Option FrameVariable). begins_by o x) (slice_get_read vs (length vs) k v refl lt at)
+    held_by v lt at =
+        held_at ∙ ap (λ (o : Option FrameVariable). begins_by o x) (slice_get_read vs (length vs) k v refl lt at)
 
 -- ---- both sides of the entry word
 
@@ -289,7 +320,8 @@ module _ (size c : ℕ) (some : 0 < size) where
 
   -- a variable that begins above the entry word
   byte_above : (n k : ℕ) → n < size → n + k ≤ size
-      → nat_lt ((c + size - n % size) % size) k ≡ or (int_le (pos n) x && int_lt x (pos (n + k))) (int_le (pos n) y && int_lt y (pos (n + k)))
+      → nat_lt ((c + size - n % size) % size) k
+      ≡ or (int_le (pos n) x && int_lt x (pos (n + k))) (int_le (pos n) y && int_lt y (pos (n + k)))
   byte_above n k low high = ⊎_elim before from (cases_lt (c % size) n) where
     below_zero : (int_le (pos n) y && int_lt y (pos (n + k))) ≡ false
     below_zero = under (pos n) (pos (n + k)) y (omega (arith, ints, m_low))
@@ -297,24 +329,35 @@ module _ (size c : ℕ) (some : 0 < size) where
     at : (v : ℕ) → (c + (size - n)) % size ≡ v → (c + size - n % size) % size ≡ v
     at v e = ap (λ (z : ℕ). z % size) (above n low) ∙ e
 
-    value : (v : ℕ) (b : Bool) → (c + size - n % size) % size ≡ v → nat_lt v k ≡ b → nat_lt ((c + size - n % size) % size) k ≡ b
+    value : (v : ℕ) (b : Bool)
+        → (c + size - n % size) % size ≡ v
+        → nat_lt v k ≡ b
+        → nat_lt ((c + size - n % size) % size) k ≡ b
     value v b e f = ap (λ (z : ℕ). nat_lt z k) e ∙ f
 
-    before : c % size < n → nat_lt ((c + size - n % size) % size) k ≡ or (int_le (pos n) x && int_lt x (pos (n + k))) (int_le (pos n) y && int_lt y (pos (n + k)))
+    before : c % size < n
+        → nat_lt ((c + size - n % size) % size) k
+        ≡ or (int_le (pos n) x && int_lt x (pos (n + k))) (int_le (pos n) y && int_lt y (pos (n + k)))
     before lt =
         let v : ℕ = c % size + (size - n) in
         none_true _ _ _
-        (value v false (at v (wrap_low (size - n) (omega (arith, lt, low)))) (le-ltb v k (omega (arith, lt, low, high))))
+        (value v false (at v (wrap_low (size - n) (omega (arith, lt, low))))
+        (le-ltb v k (omega (arith, lt, low, high))))
         (under (pos n) (pos (n + k)) x (omega (arith, ints, lt)))
         below_zero
 
-    from : n ≤ c % size → nat_lt ((c + size - n % size) % size) k ≡ or (int_le (pos n) x && int_lt x (pos (n + k))) (int_le (pos n) y && int_lt y (pos (n + k)))
+    from : n ≤ c % size
+        → nat_lt ((c + size - n % size) % size) k
+        ≡ or (int_le (pos n) x && int_lt x (pos (n + k))) (int_le (pos n) y && int_lt y (pos (n + k)))
     from ge =
         let v : ℕ = c % size + (size - n) - size in
-        let e : (c + size - n % size) % size ≡ v = at v (wrap_high (size - n) (omega (arith, ge, low)) (omega (arith, m_low, low))) in
+        let e : (c + size - n % size) % size ≡ v =
+        at v (wrap_high (size - n) (omega (arith, ge, low)) (omega (arith, m_low, low))) in
         ⊎_elim
-        (λ lt. one_true _ _ _ (value v true e (lt-ltb v k (omega (arith, ge, lt, low)))) (inl (inside (pos n) (pos (n + k)) x (omega (arith, ints, ge)) (omega (arith, ints, lt)))))
-        (λ past. none_true _ _ _ (value v false e (le-ltb v k (omega (arith, ge, past, low)))) (over (pos n) (pos (n + k)) x (omega (arith, ints, past))) below_zero)
+        (λ lt. one_true _ _ _ (value v true e (lt-ltb v k (omega (arith, ge, lt, low))))
+        (inl (inside (pos n) (pos (n + k)) x (omega (arith, ints, ge)) (omega (arith, ints, lt)))))
+        (λ past. none_true _ _ _ (value v false e (le-ltb v k (omega (arith, ge, past, low))))
+        (over (pos n) (pos (n + k)) x (omega (arith, ints, past))) below_zero)
         (cases_lt (c % size) (n + k))
 
   -- a variable that begins below the entry word
@@ -325,32 +368,50 @@ module _ (size c : ℕ) (some : 0 < size) where
     at : (v : ℕ) → (c + suc n) % size ≡ v → (c + size - (size - suc (n % size))) % size ≡ v
     at v is = ap (λ (z : ℕ). z % size) (beneath n low) ∙ is
 
-    value : (v : ℕ) (b : Bool) → (c + size - (size - suc (n % size))) % size ≡ v → nat_lt v k ≡ b → nat_lt ((c + size - (size - suc (n % size))) % size) k ≡ b
+    value : (v : ℕ) (b : Bool)
+        → (c + size - (size - suc (n % size))) % size ≡ v
+        → nat_lt v k ≡ b
+        → nat_lt ((c + size - (size - suc (n % size))) % size) k ≡ b
     value v b is f = ap (λ (z : ℕ). nat_lt z k) is ∙ f
 
-    before : c % size + suc n < size → nat_lt ((c + size - (size - suc (n % size))) % size) k ≡ or (int_le (negsuc n) x && int_lt x (negsuc n +ℤ pos k)) (int_le (negsuc n) y && int_lt y (negsuc n +ℤ pos k))
+    before : c % size + suc n < size
+        → nat_lt ((c + size - (size - suc (n % size))) % size) k
+        ≡ or (int_le (negsuc n) x && int_lt x (negsuc n +ℤ pos k))
+        (int_le (negsuc n) y && int_lt y (negsuc n +ℤ pos k))
     before lt =
         let v : ℕ = c % size + suc n in
         let is : (c + size - (size - suc (n % size))) % size ≡ v = at v (wrap_low (suc n) lt) in
         ⊎_elim
-        (λ less. one_true _ _ _ (value v true is (lt-ltb v k less)) (inl (inside (negsuc n) (negsuc n +ℤ pos k) x (omega (arith, ints)) (omega (arith, ints, less)))))
-        (λ past. none_true _ _ _ (value v false is (le-ltb v k past)) (over (negsuc n) (negsuc n +ℤ pos k) x (omega (arith, ints, past))) (under (negsuc n) (negsuc n +ℤ pos k) y (omega (arith, ints, lt))))
+        (λ less. one_true _ _ _ (value v true is (lt-ltb v k less))
+        (inl (inside (negsuc n) (negsuc n +ℤ pos k) x (omega (arith, ints)) (omega (arith, ints, less)))))
+        (λ past. none_true _ _ _ (value v false is (le-ltb v k past))
+        (over (negsuc n) (negsuc n +ℤ pos k) x (omega (arith, ints, past)))
+        (under (negsuc n) (negsuc n +ℤ pos k) y (omega (arith, ints, lt))))
         (cases_lt (c % size + suc n) k)
 
-    from : size ≤ c % size + suc n → nat_lt ((c + size - (size - suc (n % size))) % size) k ≡ or (int_le (negsuc n) x && int_lt x (negsuc n +ℤ pos k)) (int_le (negsuc n) y && int_lt y (negsuc n +ℤ pos k))
+    from : size ≤ c % size + suc n
+        → nat_lt ((c + size - (size - suc (n % size))) % size) k
+        ≡ or (int_le (negsuc n) x && int_lt x (negsuc n +ℤ pos k))
+        (int_le (negsuc n) y && int_lt y (negsuc n +ℤ pos k))
     from ge =
         let v : ℕ = c % size + suc n - size in
-        let is : (c + size - (size - suc (n % size))) % size ≡ v = at v (wrap_high (suc n) ge (omega (arith, m_low, low))) in
+        let is : (c + size - (size - suc (n % size))) % size ≡ v =
+        at v (wrap_high (suc n) ge (omega (arith, m_low, low))) in
         ⊎_elim
-        (λ less. one_true _ _ _ (value v true is (lt-ltb v k (omega (arith, ge, less)))) (inr (inside (negsuc n) (negsuc n +ℤ pos k) y (omega (arith, ints, ge)) (omega (arith, ints, less)))))
-        (λ past. none_true _ _ _ (value v false is (le-ltb v k (omega (arith, ge, past)))) (over (negsuc n) (negsuc n +ℤ pos k) x (omega (arith, ints, past))) (over (negsuc n) (negsuc n +ℤ pos k) y (omega (arith, ints, past))))
+        (λ less.
+        one_true _ _ _ (value v true is (lt-ltb v k (omega (arith, ge, less))))
+        (inr (inside (negsuc n) (negsuc n +ℤ pos k) y (omega (arith, ints, ge)) (omega (arith, ints, less)))))
+        (λ past. none_true _ _ _ (value v false is (le-ltb v k (omega (arith, ge, past))))
+        (over (negsuc n) (negsuc n +ℤ pos k) x (omega (arith, ints, past)))
+        (over (negsuc n) (negsuc n +ℤ pos k) y (omega (arith, ints, past))))
         (cases_lt (c % size + suc n) (k + size))
 
   byte_by : (o : ℤ) (k : ℕ)
       → 0 < k
       → pos 0 ≤ℤ (o +ℤ pos size)
       → (o +ℤ pos k) ≤ℤ pos size
-      → nat_lt ((c + size - wrapped size o) % size) k ≡ or (int_le o x && int_lt x (o +ℤ pos k)) (int_le o y && int_lt y (o +ℤ pos k))
+      → nat_lt ((c + size - wrapped size o) % size) k
+      ≡ or (int_le o x && int_lt x (o +ℤ pos k)) (int_le o y && int_lt y (o +ℤ pos k))
   byte_by (pos n) k more low high = byte_above n k (omega (arith, ints, more, high)) (omega (arith, ints, high))
   byte_by (negsuc n) k more low high = byte_beneath n k (omega (arith, ints, low))
 
@@ -358,7 +419,9 @@ module _ (size c : ℕ) (some : 0 < size) where
   byte_is v near = byte_by v.offset v.size near.some near.low near.high
 
   -- the byte at an offset is one of a variable at that offset below the size, or as far below the entry word
-  pub framed_is : (vs : List FrameVariable) → AllByRecursion (IsNear size) vs → framed_in size vs c ≡ or (any_holds vs (pos (c % size))) (any_holds vs (pos (c % size) -ℤ pos size))
+  pub framed_is : (vs : List FrameVariable)
+      → AllByRecursion (IsNear size) vs
+      → framed_in size vs c ≡ or (any_holds vs (pos (c % size))) (any_holds vs (pos (c % size) -ℤ pos size))
   framed_is [] near = refl
   framed_is (v ∷ rest) near =
       ap (λ (b : Bool). or b (framed_in size rest c)) (byte_is v near.0)

@@ -30,7 +30,8 @@ abbrev pub layout_of : PcodeContext → M.Layout
 layout_of c = record { listing = c.listing.now; frame = frame_in c; stack0 = c.stack0 }
 
 abbrev pub whole_of : Whole → M.Whole
-whole_of w = record { bytes = bytes_of w.bytes; hidden = at_offset w.hidden; spoiled = λ a. is_some (at_offset w.spoiled a) }
+whole_of w =
+    record { bytes = bytes_of w.bytes; hidden = at_offset w.hidden; spoiled = λ a. is_some (at_offset w.spoiled a) }
 
 -- a byte is spoiled from then on
 abbrev pub spoil : ℕ → M.Whole → M.Whole

@@ -20,7 +20,8 @@ Rise stands (x ∷ rest) = AllByRecursion (stands x) rest × Rise stands rest
 abbrev pub comes_before : FrameAccess → Place → ℕ → Bool
 comes_before a p n =
     nat_lt a.place.address p.address
-    || (a.place.address == p.address && (nat_lt a.place.index p.index || (a.place.index == p.index && nat_lt a.argument n)))
+    || (a.place.address == p.address
+    && (nat_lt a.place.index p.index || (a.place.index == p.index && nat_lt a.argument n)))
 
 abbrev pub ComesBefore : FrameAccess → FrameAccess → Type 0
 ComesBefore a b = comes_before a b.place b.argument ≡ true

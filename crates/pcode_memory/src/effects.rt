@@ -29,7 +29,9 @@ pub fn store(
     requires context { IsContext context.now }
     requires shape { HasShape context.now.listing.now space shape }
     requires inside { address ≤ shape.last }
-    ensures { OnOk result (world_of (whole_of memory.new) context.now.answers.now log.new ≡ store (whole (layout_of context.now)) space address bytes (world_of (whole_of memory.old) context.now.answers.now log.old)) }
+    ensures { OnOk result (world_of (whole_of memory.new) context.now.answers.now log.new
+        ≡ store (whole (layout_of context.now)) space address bytes
+        (world_of (whole_of memory.old) context.now.answers.now log.old)) }
 {
     if context.any_framed(shape, space, address, bytes.len()) {
         log.end = Some(End::Outside);
@@ -106,7 +108,10 @@ pub fn take_answer<'a>(
     log: &mut Log,
 ) -> Result<Option<&'a Answer>, Memory>
     requires { IsContext context.now }
-    ensures { IfOk result (λ answer. taken (option_copied answer) (world_of (whole_of memory.new) context.now.answers.now log.new) ≡ take_answer (whole (layout_of context.now)) (world_of (whole_of memory.old) context.now.answers.now log.old)) }
+    ensures { IfOk result
+        (λ answer. taken (option_copied answer) (world_of (whole_of memory.new) context.now.answers.now log.new)
+        ≡ take_answer (whole (layout_of context.now))
+        (world_of (whole_of memory.old) context.now.answers.now log.old)) }
 {
     let Some(answer) = context.answers.get(log.taken) else {
         log.end = Some(End::NoAnswer);

@@ -77,7 +77,8 @@ impl Whole {
         requires context { IsContext context.now }
         requires shape { HasShape context.now.listing.now space shape }
         requires inside { address ≤ shape.last }
-        ensures { IfOk result (λ bytes. got bytes ≡ (whole (layout_of context.now)).read space address count (whole_of self.now)) }
+        ensures { IfOk result
+            (λ bytes. got bytes ≡ (whole (layout_of context.now)).read space address count (whole_of self.now)) }
     {
         if context.any_framed(shape, space, address, count as usize) {
             return Ok(None);
@@ -110,7 +111,9 @@ impl Whole {
     ) -> Result<Vec<u8>, Memory>
         requires context { IsContext context.now }
         requires inside { address ≤ context.now.ram.last }
-        ensures { IfOk result (λ v. v.items ≡ bytes_at (size context.now.ram) (found context.now.listing.now (whole_of self.now)) address count) }
+        ensures { IfOk result (λ v.
+            v.items
+            ≡ bytes_at (size context.now.ram) (found context.now.listing.now (whole_of self.now)) address count) }
     {
         let mut out = Vec::new(context.alloc);
         let mut here = address;
@@ -130,7 +133,8 @@ impl Whole {
     ) -> Result<Option<Bytes>, Memory>
         requires context { IsContext context.now }
         requires inside { address ≤ context.now.ram.last }
-        ensures { IfOk result (λ bytes. (c : ℕ) → got bytes ≡ (whole (layout_of context.now)).read_own address c count (whole_of self.now)) }
+        ensures { IfOk result (λ bytes.
+            (c : ℕ) → got bytes ≡ (whole (layout_of context.now)).read_own address c count (whole_of self.now)) }
     {
         if self.any_spoiled(context.ram, address, count as usize) {
             return Ok(None);
@@ -148,7 +152,8 @@ impl Whole {
         byte: u8,
     ) -> Result<(), Memory>
         requires { IsContext context.now }
-        ensures { OnOk result (whole_of self.new ≡ poke_whole context.now.listing.now space address byte (whole_of self.old)) }
+        ensures { OnOk result
+            (whole_of self.new ≡ poke_whole context.now.listing.now space address byte (whole_of self.old)) }
     {
         self.bytes.put(space, address, byte)?;
         if space == context.setting.first_ram {
@@ -168,7 +173,9 @@ impl Whole {
     ) -> Result<(), Memory>
         requires context { IsContext context.now }
         requires inside { address ≤ shape.last }
-        ensures { OnOk result (whole_of self.new ≡ each_at (size shape) (poke_whole context.now.listing.now space) address bytes.now (whole_of self.old)) }
+        ensures { OnOk result (whole_of self.new
+            ≡ each_at (size shape) (poke_whole context.now.listing.now space) address bytes.now
+            (whole_of self.old)) }
     {
         let mut here = address;
         for b in bytes {
@@ -196,7 +203,9 @@ impl Whole {
     ) -> Result<(), Memory>
         requires context { IsContext context.now }
         requires inside { address ≤ context.now.ram.last }
-        ensures { OnOk result ((c : ℕ) → whole_of self.new ≡ (whole (layout_of context.now)).write_own address c bytes.now (whole_of self.old)) }
+        ensures { OnOk result ((c : ℕ)
+            → whole_of self.new
+            ≡ (whole (layout_of context.now)).write_own address c bytes.now (whole_of self.old)) }
     {
         let mut here = address;
         for b in bytes {

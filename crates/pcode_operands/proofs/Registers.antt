@@ -1,33 +1,24 @@
 -- The spaces and the stack pointer of a well formed listing.
-use Rattle.std.proofs.Common.{◌≡◌, ◌+◌, ◌≤◌, ◌^◌, ℕ, zero, suc, true, false, List, [], ◌∷◌, Option, Some, ap, refl, sym, subst, arith}
+use Rattle.std.proofs.Common.{◌≡◌, ◌+◌, ◌≤◌, ℕ, zero, suc, false, List, [], ◌∷◌, Option, Some, ap, subst, arith}
 use Rattle.std.specs.Prelude.{nat_lt, slice_get, IfSome}
 use Rattle.std.specs.List.{AllByRecursion}
 use Rattle.std.proofs.lemmas.Bool.Decides.{nat_tests}
 use Rattle.pcode_model.specs.declared.listing.Listing.{Listing}
 use Rattle.pcode_model.specs.declared.listing.Space.{Space}
-use Rattle.pcode_model.specs.declared.listing.SpaceKind.{SpaceKind}
-use Rattle.pcode_model.specs.declared.listing.SpaceKind.TheVariants.{Constant, Ram, Register, Unique}
 use Rattle.pcode_model.specs.declared.listing.Varnode.{Varnode}
-use Rattle.pcode_model.specs.Spaces.{first_ram, kind_in, offset_bytes_in, same_kind, size_in, size_of}
+use Rattle.pcode_model.specs.Spaces.{first_ram, kind_in, offset_bytes_in, size_in}
 use Rattle.pcode_model.specs.WellFormed.{AreSpaces, IsDeclared, IsRegister, IsStackPointer, IsWellFormed}
-use Rattle.run_world.proofs.Declared.{kind_at, size_most, ram_not_constant}
+use Rattle.run_world.proofs.Declared.{register_not_constant, size_most}
 use Rattle.pcode_operands.specs.Used.{IsInside, IsStack}
 
-pub ram_size : (l : Listing) → IsWellFormed l → size_of l (first_ram l) ≤ 2 ^ 64
-ram_size l good =
-    size_most l.spaces (first_ram l) good.spaces
-    (ram_not_constant (kind_in (slice_get l.spaces (first_ram l))) (kind_at Ram l.spaces good.complete.ram))
-
-register_not_constant : (k : SpaceKind) → same_kind Register k ≡ true → same_kind Constant k ≡ false
-register_not_constant Constant e = sym e
-register_not_constant Ram e = refl
-register_not_constant Register e = refl
-register_not_constant Unique e = refl
-
+-- a range of registers lies inside its space, which has at most 2 to the 64 bytes
 pub register_inside : (l : Listing) (v : Varnode) → AreSpaces l.spaces → IsRegister l.spaces v → IsInside l v
 register_inside l v good is =
     let inside : nat_lt (size_in (slice_get l.spaces v.space)) (v.offset + v.size) ≡ false = is.inside in
-    record { inside = grind (arith, nat_tests, inside); small = size_most l.spaces v.space good (register_not_constant (kind_in (slice_get l.spaces v.space)) is.kind) }
+    record {
+      inside = grind (arith, nat_tests, inside);
+      small = size_most l.spaces v.space good (register_not_constant (kind_in (slice_get l.spaces v.space)) is.kind);
+    }
 
 declared_few : (ss : List Space) (n : ℕ) → AllByRecursion IsDeclared ss → offset_bytes_in (slice_get ss n) ≤ 8
 declared_few [] n all = omega arith
@@ -47,6 +38,11 @@ stack_is l v good e =
     let is : IsStackPointer l.spaces v = subst P e good.stack in
     let narrow : v.size ≤ 8 = omega (arith, is.wide, offset_few l.spaces (first_ram l) good.spaces) in
     record {
-      local = record { some = is.register.some; few = omega (arith, narrow); inside = register_inside l v good.spaces is.register };
+      local =
+          record {
+            some = is.register.some;
+            few = omega (arith, narrow);
+            inside = register_inside l v good.spaces is.register;
+          };
       narrow = narrow;
     }

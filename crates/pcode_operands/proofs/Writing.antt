@@ -9,7 +9,10 @@ use Rattle.pcode_model.specs.Step.{with_word}
 use Rattle.run_world.specs.declared.shape.Shape.{Shape}
 use Rattle.run_world.specs.Setting.{HasShape, size}
 
-pub write_is : (l : Listing) (v : Varnode) (n : ℕ) (shape : Shape) (m : Bytes) (bs : List ℕ) → HasShape l v.space shape → bs ≡ word_bytes shape.big v.size n → each_at (size shape) (put_in v.space) v.offset bs m ≡ with_word l v n m
+pub write_is : (l : Listing) (v : Varnode) (n : ℕ) (shape : Shape) (m : Bytes) (bs : List ℕ)
+    → HasShape l v.space shape
+    → bs ≡ word_bytes shape.big v.size n
+    → each_at (size shape) (put_in v.space) v.offset bs m ≡ with_word l v n m
 write_is l v n shape m bs has e =
     ap (λ (xs : List ℕ). each_at (size shape) (put_in v.space) v.offset xs m) e
     ∙ ap (λ (z : ℕ). each_at z (put_in v.space) v.offset (word_bytes shape.big v.size n) m) has.size

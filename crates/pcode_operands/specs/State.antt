@@ -12,7 +12,12 @@ use Rattle.pcode_operands.specs.declared.state.State.{State}
 use Rattle.pcode_operands.specs.declared.state.WidePlace.{WidePlace}
 
 abbrev pub state_of : PcodeContext → State → S.State M.Whole
-state_of c s = record { at = place s.at.address s.at.index; local = bytes_of s.local; world = world_of (whole_of s.memory) c.answers.now s.log }
+state_of c s =
+    record {
+      at = place s.at.address s.at.index;
+      local = bytes_of s.local;
+      world = world_of (whole_of s.memory) c.answers.now s.log;
+    }
 
 abbrev pub place_of : WidePlace → Place
 place_of s = place s.address s.index

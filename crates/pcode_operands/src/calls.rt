@@ -53,7 +53,9 @@ fn pass(local: &mut ByteMap, space: u8, keep: &[Varnode], stack: Option<Varnode>
     requires keep { AllByRecursion Ends keep.now }
     requires stack { IfSome stack Ends }
     ensures later { here ≤ result }
-    ensures left { (g : ℕ → ℕ → Option ℕ) → at local.old ≡ forgotten (is_held keep.now stack) space here g → at local.new ≡ forgotten (is_held keep.now stack) space (result + 1) g }
+    ensures left { (g : ℕ → ℕ → Option ℕ)
+        → at local.old ≡ forgotten (is_held keep.now stack) space here g
+        → at local.new ≡ forgotten (is_held keep.now stack) space (result + 1) g }
 {
     match held(keep, stack, here) {
         Some(last) => last,
@@ -90,7 +92,10 @@ fn take_byte(
 ) -> Result<(), Memory>
     requires keep { AllByRecursion Ends keep.now }
     requires stack { IfSome stack Ends }
-    ensures { OnOk result ((g : ℕ → ℕ → Option ℕ) → (f : ℕ → Option ℕ) → at local.old ≡ mixed (is_held keep.now stack) space f g → at local.new ≡ mixed (is_held keep.now stack) space (put f byte.offset (Some byte.value)) g) }
+    ensures { OnOk result ((g : ℕ → ℕ → Option ℕ)
+        → (f : ℕ → Option ℕ)
+        → at local.old ≡ mixed (is_held keep.now stack) space f g
+        → at local.new ≡ mixed (is_held keep.now stack) space (put f byte.offset (Some byte.value)) g) }
 {
     match held(keep, stack, byte.offset) {
         Some(_) => Ok(()),
@@ -111,7 +116,9 @@ fn take_in(
 ) -> Result<(), Memory>
     requires keep { AllByRecursion Ends keep.now }
     requires stack { IfSome stack Ends }
-    ensures { OnOk result ((g : ℕ → ℕ → Option ℕ) → at local.old ≡ mixed (is_held keep.now stack) space (λ o. None) g → at local.new ≡ mixed (is_held keep.now stack) space (with_offsets bytes.now (λ o. None)) g) }
+    ensures { OnOk result ((g : ℕ → ℕ → Option ℕ)
+        → at local.old ≡ mixed (is_held keep.now stack) space (λ o. None) g
+        → at local.new ≡ mixed (is_held keep.now stack) space (with_offsets bytes.now (λ o. None)) g) }
 {
     for b in bytes {
         take_byte(local, space, keep, stack, *b)?;
@@ -129,7 +136,8 @@ fn change_registers(
     requires context { IsContext context.now }
     requires keep { AllByRecursion Ends proto.now.keep }
     requires stack { IfSome context.now.listing.now.stack Ends }
-    ensures { OnOk result (bytes_of local.new ≡ after_callee context.now.listing.now proto.now (answer_of answer.now) (bytes_of local.old)) }
+    ensures { OnOk result (bytes_of local.new
+        ≡ after_callee context.now.listing.now proto.now (answer_of answer.now) (bytes_of local.old)) }
 {
     let space = context.setting.registers;
     let stack = context.listing.stack;
@@ -193,7 +201,8 @@ pub fn after_call(
     requires keep { AllByRecursion Ends proto.now.keep }
     requires gives { IfSome proto.now.gives (IsLocal context.now.listing.now) }
     requires stack { IfSome context.now.listing.now.stack (IsStack context.now.listing.now) }
-    ensures { OnOk result (bytes_of local.new ≡ after_call context.now.listing.now proto.now (answer_of answer.now) (bytes_of local.old)) }
+    ensures { OnOk result (bytes_of local.new
+        ≡ after_call context.now.listing.now proto.now (answer_of answer.now) (bytes_of local.old)) }
 {
     change_registers(context, local, proto, answer)?;
     put_result(context, local, proto.gives, answer.word)?;

@@ -60,7 +60,8 @@ fn bytes_at(
     requires shape { HasShape context.now.listing.now space shape }
     requires inside { address ≤ shape.last }
     requires own { IsSome own → space ≡ first_ram context.now.listing.now }
-    ensures { IfOk result (λ bytes. got bytes ≡ read_at (whole (layout_of context.now)) own space address size (whole_of state.now.memory)) }
+    ensures { IfOk result (λ bytes.
+        got bytes ≡ read_at (whole (layout_of context.now)) own space address size (whole_of state.now.memory)) }
 {
     match own {
         None => state.memory.read(context, shape, space, address, size),
@@ -86,7 +87,9 @@ pub fn word_at(
     requires some { 0 < size }
     requires few { size ≤ 16 }
     requires own { IsSome own → space ≡ first_ram context.now.listing.now }
-    ensures value { IfOk result (λ w. got_word w ≡ as_word context.now.listing.now space (read_at (whole (layout_of context.now)) own space address size (whole_of state.now.memory))) }
+    ensures value { IfOk result (λ w. got_word w
+        ≡ as_word context.now.listing.now space
+        (read_at (whole (layout_of context.now)) own space address size (whole_of state.now.memory))) }
     ensures width { IfOk result (λ w. IfSome w (λ n. n.width.bytes ≡ size)) }
 {
     let shape = Shape::new(context.listing, space);
@@ -105,7 +108,9 @@ pub fn read_varnode(
 ) -> Result<Option<Word>, Memory>
     requires context { IsContext context.now }
     requires used { IsUsed context.now.listing.now v }
-    ensures value { IfOk result (λ w. got_word w ≡ read_varnode (whole (layout_of context.now)) context.now.listing.now (kind_of context.now.listing.now v.space) v (state_of context.now state.now)) }
+    ensures value { IfOk result (λ w. got_word w
+        ≡ read_varnode (whole (layout_of context.now)) context.now.listing.now
+        (kind_of context.now.listing.now v.space) v (state_of context.now state.now)) }
     ensures width { IfOk result (λ w. IfSome w (λ n. n.width.bytes ≡ v.size)) }
 {
     match context.listing.space_kind(v.space) {
@@ -126,7 +131,8 @@ pub fn read_varnode(
 // The address so many bytes above the stack pointer.
 fn stack_address(context: &PcodeContext, state: &State, offset: u32) -> Result<u64, Memory>
     requires { IsContext context.now }
-    ensures { IfOk result (λ a. a ≡ stack_address context.now.listing.now offset context.now.listing.now.stack (bytes_of state.now.local)) }
+    ensures { IfOk result (λ a.
+        a ≡ stack_address context.now.listing.now offset context.now.listing.now.stack (bytes_of state.now.local)) }
 {
     match context.listing.stack {
         None => Ok(context.ram.reduce(u128::from(offset))),
@@ -146,7 +152,9 @@ fn read_argument(
 ) -> Result<Option<Word>, Memory>
     requires context { IsContext context.now }
     requires used { IsArgument context.now.listing.now storage }
-    ensures { IfOk result (λ w. got_word w ≡ read_operand (whole (layout_of context.now)) context.now.listing.now (frame_in context.now) (state_of context.now state.now) (argument number storage)) }
+    ensures { IfOk result (λ w. got_word w
+        ≡ read_operand (whole (layout_of context.now)) context.now.listing.now (frame_in context.now)
+        (state_of context.now state.now) (argument number storage)) }
 {
     match storage {
         Storage::At(v) => read_varnode(context, state, v),
@@ -173,7 +181,9 @@ pub fn read_all(
 ) -> Result<Option<WordList>, Memory>
     requires context { IsContext context.now }
     requires used { AllByRecursion (IsUsed context.now.listing.now) varnodes.now }
-    ensures { IfOk result (λ ws. got_words ws ≡ read_all (whole (layout_of context.now)) context.now.listing.now (frame_in context.now) (state_of context.now state.now) (all_read varnodes.now)) }
+    ensures { IfOk result (λ ws. got_words ws
+        ≡ read_all (whole (layout_of context.now)) context.now.listing.now (frame_in context.now)
+        (state_of context.now state.now) (all_read varnodes.now)) }
 {
     let mut words = WordList::new(context.alloc);
     for v in varnodes {
@@ -194,7 +204,9 @@ pub fn read_arguments(
     requires context { IsContext context.now }
     requires used { AllByRecursion (IsArgument context.now.listing.now) storages.now }
     requires few { length storages.now < 2 ^ 32 }
-    ensures { IfOk result (λ ws. got_words ws ≡ read_all (whole (layout_of context.now)) context.now.listing.now (frame_in context.now) (state_of context.now state.now) (arguments 0 storages.now)) }
+    ensures { IfOk result (λ ws. got_words ws
+        ≡ read_all (whole (layout_of context.now)) context.now.listing.now (frame_in context.now)
+        (state_of context.now state.now) (arguments 0 storages.now)) }
 {
     let mut words = WordList::new(context.alloc);
     for n in 0..storages.len() {

@@ -42,7 +42,9 @@ pub fn write_varnode(
 ) -> Result<(), Memory>
     requires context { IsContext context.now }
     requires used { IsUsed context.now.listing.now v }
-    ensures { OnOk result (state_of context.now state.new ≡ write_varnode (whole (layout_of context.now)) context.now.listing.now (kind_of context.now.listing.now v.space) v word (state_of context.now state.old)) }
+    ensures { OnOk result (state_of context.now state.new
+        ≡ write_varnode (whole (layout_of context.now)) context.now.listing.now
+        (kind_of context.now.listing.now v.space) v word (state_of context.now state.old)) }
 {
     match context.listing.space_kind(v.space) {
         SpaceKind::Constant => Ok(()),
@@ -73,7 +75,9 @@ pub fn write_out(
 ) -> Result<(), Memory>
     requires context { IsContext context.now }
     requires used { IfSome out (IsUsed context.now.listing.now) }
-    ensures { OnOk result (state_of context.now state.new ≡ write_out (whole (layout_of context.now)) context.now.listing.now out word (state_of context.now state.old)) }
+    ensures { OnOk result (state_of context.now state.new
+        ≡ write_out (whole (layout_of context.now)) context.now.listing.now out word
+        (state_of context.now state.old)) }
 {
     match out {
         Some(v) => write_varnode(context, state, v, word),

@@ -51,18 +51,31 @@ not_true h = cc
 other_space : (n : ℕ) → 0 < n → (n == 0) ≡ false
 other_space n h = grind (arith, nat_tests)
 
-no_declared : (ss : List Space) (n : ℕ) → AllByRecursion IsDeclared ss → same_kind Constant (kind_in (slice_get ss n)) ≡ true → size_in (slice_get ss n) ≡ 1
+no_declared : (ss : List Space) (n : ℕ)
+    → AllByRecursion IsDeclared ss
+    → same_kind Constant (kind_in (slice_get ss n)) ≡ true
+    → size_in (slice_get ss n) ≡ 1
 no_declared [] n all is = refl
 no_declared (s ∷ ss) zero all is = absurd (not_true (sym is ∙ all.0.kind))
 no_declared (s ∷ ss) (suc n) all is = no_declared ss n all.1 is
 
 -- a space that isn't declared and isn't the constant one has one byte
-undeclared : (ss : List Space) (n : ℕ) → AreSpaces ss → 0 < n → same_kind Constant (kind_in (slice_get ss n)) ≡ true → size_in (slice_get ss n) ≡ 1
+undeclared : (ss : List Space) (n : ℕ)
+    → AreSpaces ss
+    → 0 < n
+    → same_kind Constant (kind_in (slice_get ss n)) ≡ true
+    → size_in (slice_get ss n) ≡ 1
 undeclared [] n good some is = refl
 undeclared (s ∷ ss) zero good some is = absurd (omega (arith, some))
 undeclared (s ∷ ss) (suc n) good some is = no_declared ss n good.1 is
 
-fits_by : (l : Listing) (v : Varnode) → AreSpaces l.spaces → IsOperand v → leaves_space l v ≡ false → same_kind Constant (kind_of l v.space) ≡ true → (v.space ≡ 0) ⊎ (0 < v.space) → v.offset < 256 ^ v.size
+fits_by : (l : Listing) (v : Varnode)
+    → AreSpaces l.spaces
+    → IsOperand v
+    → leaves_space l v ≡ false
+    → same_kind Constant (kind_of l v.space) ≡ true
+    → (v.space ≡ 0) ⊎ (0 < v.space)
+    → v.offset < 256 ^ v.size
 fits_by l v good is inside constant (inl zero_space) = is.reduced zero_space
 fits_by l v good is inside constant (inr some) =
     let e : (v.space == 0) ≡ false = other_space v.space some in
@@ -73,17 +86,32 @@ fits_by l v good is inside constant (inr some) =
     let least : 256 ^ 0 ≤ 256 ^ v.size = pow-le-pow_right (lit< tt) {i = 0} {j = v.size} (omega arith) in
     omega (arith, first, least)
 
-not_zero_space : (l : Listing) (v : Varnode) → AreSpaces l.spaces → same_kind Constant (kind_of l v.space) ≡ false → (v.space ≡ 0) ⊎ (0 < v.space) → (v.space == 0) ≡ false
-not_zero_space l v good other (inl e) = let P : ℕ → Type 0 = λ n. same_kind Constant (kind_of l n) ≡ false in absurd (not_true (sym (zero_constant l.spaces good) ∙ subst P e other))
+not_zero_space : (l : Listing) (v : Varnode)
+    → AreSpaces l.spaces
+    → same_kind Constant (kind_of l v.space) ≡ false
+    → (v.space ≡ 0) ⊎ (0 < v.space)
+    → (v.space == 0) ≡ false
+not_zero_space l v good other (inl e) =
+    let P : ℕ → Type 0 = λ n. same_kind Constant (kind_of l n) ≡ false in
+    absurd (not_true (sym (zero_constant l.spaces good) ∙ subst P e other))
 not_zero_space l v good other (inr some) = other_space v.space some
 
-inside_by : (l : Listing) (v : Varnode) → AreSpaces l.spaces → leaves_space l v ≡ false → same_kind Constant (kind_of l v.space) ≡ false → IsInside l v
+inside_by : (l : Listing) (v : Varnode)
+    → AreSpaces l.spaces
+    → leaves_space l v ≡ false
+    → same_kind Constant (kind_of l v.space) ≡ false
+    → IsInside l v
 inside_by l v good inside other =
     let e = not_zero_space l v good other (is_zero v.space) in
     let P : Bool → Type 0 = λ b. (not b && nat_lt (size_of l v.space) (v.offset + v.size)) ≡ false in
     record { inside = ltb-false _ _ (subst P e inside); small = size_most l.spaces v.space good other }
 
-pub used_by : (l : Listing) (v : Varnode) → AreSpaces l.spaces → IsOperand v → is_wide v ≡ false → leaves_space l v ≡ false → IsUsed l v
+pub used_by : (l : Listing) (v : Varnode)
+    → AreSpaces l.spaces
+    → IsOperand v
+    → is_wide v ≡ false
+    → leaves_space l v ≡ false
+    → IsUsed l v
 used_by l v good is narrow inside = record {
   some = is.some;
   few = not_wide v.size narrow;
@@ -91,7 +119,12 @@ used_by l v good is narrow inside = record {
   fits = λ constant. fits_by l v good is inside constant (is_zero v.space);
 }
 
-all_used : (l : Listing) (vs : List Varnode) → AreSpaces l.spaces → AllByRecursion IsOperand vs → any_wide vs ≡ false → any_leaves l vs ≡ false → AllByRecursion (IsUsed l) vs
+all_used : (l : Listing) (vs : List Varnode)
+    → AreSpaces l.spaces
+    → AllByRecursion IsOperand vs
+    → any_wide vs ≡ false
+    → any_leaves l vs ≡ false
+    → AllByRecursion (IsUsed l) vs
 all_used l [] good all narrow inside = tt
 all_used l (v ∷ vs) good all narrow inside =
     let p = neither _ _ narrow in
@@ -109,33 +142,48 @@ module _ (l : Listing) (op : Op) (code : Opcode) (kind : op.code ≡ code) (obey
   not_not false h = absurd (not_true h)
 
   pub counted : has_operands (operands_of code) op.out (length op.inputs) ≡ true
-  counted = let P : Opcode → Type 0 = λ c. has_operands (operands_of c) op.out (length op.inputs) ≡ true in subst P kind (not_not _ (keeps Arity (inr (inr (inr (inl refl))))))
+  counted =
+      let P : Opcode → Type 0 = λ c. has_operands (operands_of c) op.out (length op.inputs) ≡ true in
+      subst P kind (not_not _ (keeps Arity (inr (inr (inr (inl refl))))))
 
   pub sized : sizes_fit code (size_out op.out) op.inputs ≡ true
-  sized = let P : Opcode → Type 0 = λ c. sizes_fit c (size_out op.out) op.inputs ≡ true in subst P kind (not_not _ (keeps SizeRule (inr (inr (inr (inr (inr (inr (inr (inl refl))))))))))
+  sized =
+      let P : Opcode → Type 0 = λ c. sizes_fit c (size_out op.out) op.inputs ≡ true in
+      subst P kind (not_not _ (keeps SizeRule (inr (inr (inr (inr (inr (inr (inr (inl refl))))))))))
 
   pub placed : inputs_stand l code op.inputs ≡ true
-  placed = let P : Opcode → Type 0 = λ c. inputs_stand l c op.inputs ≡ true in subst P kind (and_parts _ _ (not_not _ (keeps BadSpace (inr (inr (inr (inr (inl refl)))))))).1
+  placed =
+      let P : Opcode → Type 0 = λ c. inputs_stand l c op.inputs ≡ true in
+      subst P kind (and_parts _ _ (not_not _ (keeps BadSpace (inr (inr (inr (inr (inl refl)))))))).1
 
   narrow : or (any_wide (input_ranges code op.inputs)) (output_wide op.out) ≡ false
-  narrow = let P : Opcode → Type 0 = λ c. or (any_wide (input_ranges c op.inputs)) (output_wide op.out) ≡ false in subst P kind (keeps TooWide (inr (inr (inr (inr (inr (inl refl)))))))
+  narrow =
+      let P : Opcode → Type 0 = λ c. or (any_wide (input_ranges c op.inputs)) (output_wide op.out) ≡ false in
+      subst P kind (keeps TooWide (inr (inr (inr (inr (inr (inl refl)))))))
 
   within : or (any_leaves l (input_ranges code op.inputs)) (output_leaves l op.out) ≡ false
-  within = let P : Opcode → Type 0 = λ c. or (any_leaves l (input_ranges c op.inputs)) (output_leaves l op.out) ≡ false in subst P kind (neither _ _ (keeps OutOfSpace (inr (inr (inr (inr (inr (inr (inl refl))))))))).1
+  within =
+      let P : Opcode → Type 0 = λ c. or (any_leaves l (input_ranges c op.inputs)) (output_leaves l op.out) ≡ false in
+      subst P kind (neither _ _ (keeps OutOfSpace (inr (inr (inr (inr (inr (inr (inl refl))))))))).1
 
   -- the inputs of an op that names no address
   pub inputs_used : AreSpaces l.spaces → names_address code op.inputs ≡ false → AllByRecursion (IsUsed l) op.inputs
   inputs_used good isnt =
       let P : Bool → Type 0 = λ b. any_wide (cond b (past_first op.inputs) op.inputs) ≡ false in
       let Q : Bool → Type 0 = λ b. any_leaves l (cond b (past_first op.inputs) op.inputs) ≡ false in
-      all_used l op.inputs good obeys.formed.inputs (subst P isnt (neither _ _ narrow).0) (subst Q isnt (neither _ _ within).0)
+      all_used l op.inputs good obeys.formed.inputs (subst P isnt (neither _ _ narrow).0)
+      (subst Q isnt (neither _ _ within).0)
 
-  rest_wide : (b : Bool) (vs : List Varnode) → any_wide (cond b (past_first vs) vs) ≡ false → any_wide (past_first vs) ≡ false
+  rest_wide : (b : Bool) (vs : List Varnode)
+      → any_wide (cond b (past_first vs) vs) ≡ false
+      → any_wide (past_first vs) ≡ false
   rest_wide true vs h = h
   rest_wide false [] h = h
   rest_wide false (v ∷ vs) h = (neither _ _ h).1
 
-  rest_leaves : (b : Bool) (vs : List Varnode) → any_leaves l (cond b (past_first vs) vs) ≡ false → any_leaves l (past_first vs) ≡ false
+  rest_leaves : (b : Bool) (vs : List Varnode)
+      → any_leaves l (cond b (past_first vs) vs) ≡ false
+      → any_leaves l (past_first vs) ≡ false
   rest_leaves true vs h = h
   rest_leaves false [] h = h
   rest_leaves false (v ∷ vs) h = (neither _ _ h).1
@@ -146,18 +194,27 @@ module _ (l : Listing) (op : Op) (code : Opcode) (kind : op.code ≡ code) (obey
 
   -- the inputs past the first one
   pub rest_used : AreSpaces l.spaces → AllByRecursion (IsUsed l) (past_first op.inputs)
-  rest_used good = all_used l (past_first op.inputs) good (rest_operands op.inputs obeys.formed.inputs) (rest_wide (names_address code op.inputs) op.inputs (neither _ _ narrow).0) (rest_leaves (names_address code op.inputs) op.inputs (neither _ _ within).0)
+  rest_used good =
+      all_used l (past_first op.inputs) good (rest_operands op.inputs obeys.formed.inputs)
+      (rest_wide (names_address code op.inputs) op.inputs (neither _ _ narrow).0)
+      (rest_leaves (names_address code op.inputs) op.inputs (neither _ _ within).0)
 
   pub out_used : AreSpaces l.spaces → IfSome op.out (IsUsed l)
   out_used good = by op.out obeys.formed.out (neither _ _ narrow).1 (neither _ _ within).1 where
-    by : (o : Option Varnode) → IfSome o IsOperand → output_wide o ≡ false → output_leaves l o ≡ false → IfSome o (IsUsed l)
+    by : (o : Option Varnode)
+        → IfSome o IsOperand
+        → output_wide o ≡ false
+        → output_leaves l o ≡ false
+        → IfSome o (IsUsed l)
     by None is n w = tt
     by (Some v) is n w = used_by l v good is n w
 
 -- ---- how many inputs there are
 
 module _ (op : Op) where
-  pub least : (n m : ℕ) (o : _) → has_operands (record { least = n; most = m; output = o }) op.out (length op.inputs) ≡ true → (n ≤ length op.inputs) × ((length op.inputs ≤ m) × (has_output o op.out ≡ true))
+  pub least : (n m : ℕ) (o : _)
+      → has_operands (record { least = n; most = m; output = o }) op.out (length op.inputs) ≡ true
+      → (n ≤ length op.inputs) × ((length op.inputs ≤ m) × (has_output o op.out ≡ true))
   least n m o h =
       let p = and_parts _ _ h in
       let q = and_parts _ _ p.1 in
@@ -165,20 +222,32 @@ module _ (op : Op) where
       let b : nat_le (length op.inputs) m ≡ true = q.0 in
       (grind (arith, nat_tests, a), (grind (arith, nat_tests, b), q.1))
 
-pub out_sized : (l : Listing) (o : Option Varnode) → IfSome o (IsUsed l) → has_output output.Has o ≡ true → (0 < size_out o) × (size_out o ≤ 16)
+pub out_sized : (l : Listing) (o : Option Varnode)
+    → IfSome o (IsUsed l)
+    → has_output output.Has o ≡ true
+    → (0 < size_out o) × (size_out o ≤ 16)
 out_sized l None used has = absurd (not_true (sym has))
 out_sized l (Some v) used has = (used.some, used.few)
 
-pub first_used : (l : Listing) (vs : List Varnode) → AllByRecursion (IsUsed l) vs → 1 ≤ length vs → IsUsed l (varnode_at vs 0)
+pub first_used : (l : Listing) (vs : List Varnode)
+    → AllByRecursion (IsUsed l) vs
+    → 1 ≤ length vs
+    → IsUsed l (varnode_at vs 0)
 first_used l [] all some = absurd (omega (arith, some))
 first_used l (v ∷ vs) all some = all.0
 
-pub second_used : (l : Listing) (vs : List Varnode) → AllByRecursion (IsUsed l) (past_first vs) → 2 ≤ length vs → IsUsed l (varnode_at vs 1)
+pub second_used : (l : Listing) (vs : List Varnode)
+    → AllByRecursion (IsUsed l) (past_first vs)
+    → 2 ≤ length vs
+    → IsUsed l (varnode_at vs 1)
 second_used l [] all some = absurd (omega (arith, some))
 second_used l (v ∷ []) all some = absurd (omega (arith, some))
 second_used l (v ∷ w ∷ vs) all some = all.0
 
-pub third_used : (l : Listing) (vs : List Varnode) → AllByRecursion (IsUsed l) (past_first vs) → 3 ≤ length vs → IsUsed l (varnode_at vs 2)
+pub third_used : (l : Listing) (vs : List Varnode)
+    → AllByRecursion (IsUsed l) (past_first vs)
+    → 3 ≤ length vs
+    → IsUsed l (varnode_at vs 2)
 third_used l [] all some = absurd (omega (arith, some))
 third_used l (v ∷ []) all some = absurd (omega (arith, some))
 third_used l (v ∷ w ∷ []) all some = absurd (omega (arith, some))
@@ -200,48 +269,85 @@ pub record HasOutput (l : Listing) (op : Op) : Type 0 where
   pub some : 0 < size_out op.out
   pub few : size_out op.out ≤ 16
 
-one_of : (l : Listing) (op : Op) → AreSpaces l.spaces → AllByRecursion (IsUsed l) op.inputs → 1 ≤ length op.inputs → length op.inputs ≤ 1 → HasOne l op
+one_of : (l : Listing) (op : Op)
+    → AreSpaces l.spaces
+    → AllByRecursion (IsUsed l) op.inputs
+    → 1 ≤ length op.inputs
+    → length op.inputs ≤ 1
+    → HasOne l op
 one_of l op good all some few = record { count = omega (arith, some, few); first = first_used l op.inputs all some }
 
-two_of : (l : Listing) (op : Op) → AreSpaces l.spaces → AllByRecursion (IsUsed l) op.inputs → 2 ≤ length op.inputs → length op.inputs ≤ 2 → HasTwo l op
-two_of l op good all some few = record { count = omega (arith, some, few); first = first_used l op.inputs all (omega (arith, some)); second = second_used l op.inputs (rest op.inputs all) some } where
-  rest : (vs : List Varnode) → AllByRecursion (IsUsed l) vs → AllByRecursion (IsUsed l) (past_first vs)
-  rest [] h = h
-  rest (v ∷ vs) h = h.1
+two_of : (l : Listing) (op : Op)
+    → AreSpaces l.spaces
+    → AllByRecursion (IsUsed l) op.inputs
+    → 2 ≤ length op.inputs
+    → length op.inputs ≤ 2
+    → HasTwo l op
+two_of l op good all some few =
+    record {
+      count = omega (arith, some, few);
+      first = first_used l op.inputs all (omega (arith, some));
+      second = second_used l op.inputs (rest op.inputs all) some;
+    } where
+      rest : (vs : List Varnode) → AllByRecursion (IsUsed l) vs → AllByRecursion (IsUsed l) (past_first vs)
+      rest [] h = h
+      rest (v ∷ vs) h = h.1
 
 output_of : (l : Listing) (op : Op) → IfSome op.out (IsUsed l) → has_output output.Has op.out ≡ true → HasOutput l op
 output_of l op used has = let p = out_sized l op.out used has in record { used = used; some = p.0; few = p.1 }
 
 module _ (l : Listing) (op : Op) (obeys : Obeys l op) (good : AreSpaces l.spaces) where
   pub unary_input : (code : Unary) → op.code ≡ O.Unary code → HasOne l op
-  unary_input code kind = let n = least op 1 1 output.Has (counted l op (O.Unary code) kind obeys) in one_of l op good (inputs_used l op (O.Unary code) kind obeys good refl) n.0 n.1.0
+  unary_input code kind =
+      let n = least op 1 1 output.Has (counted l op (O.Unary code) kind obeys) in
+      one_of l op good (inputs_used l op (O.Unary code) kind obeys good refl) n.0 n.1.0
 
   pub unary_output : (code : Unary) → op.code ≡ O.Unary code → HasOutput l op
-  unary_output code kind = let n = least op 1 1 output.Has (counted l op (O.Unary code) kind obeys) in output_of l op (out_used l op (O.Unary code) kind obeys good) n.1.1
+  unary_output code kind =
+      let n = least op 1 1 output.Has (counted l op (O.Unary code) kind obeys) in
+      output_of l op (out_used l op (O.Unary code) kind obeys good) n.1.1
 
-  pub unary_fits : (code : Unary) → op.code ≡ O.Unary code → IsUnarySized code (varnode_at op.inputs 0).size (size_out op.out)
+  pub unary_fits : (code : Unary)
+      → op.code ≡ O.Unary code
+      → IsUnarySized code (varnode_at op.inputs 0).size (size_out op.out)
   unary_fits code kind = unary_is code _ _ (sized l op (O.Unary code) kind obeys)
 
   pub binary_inputs : (code : Binary) → op.code ≡ O.Binary code → HasTwo l op
-  binary_inputs code kind = let n = least op 2 2 output.Has (counted l op (O.Binary code) kind obeys) in two_of l op good (inputs_used l op (O.Binary code) kind obeys good refl) n.0 n.1.0
+  binary_inputs code kind =
+      let n = least op 2 2 output.Has (counted l op (O.Binary code) kind obeys) in
+      two_of l op good (inputs_used l op (O.Binary code) kind obeys good refl) n.0 n.1.0
 
   pub binary_output : (code : Binary) → op.code ≡ O.Binary code → HasOutput l op
-  binary_output code kind = let n = least op 2 2 output.Has (counted l op (O.Binary code) kind obeys) in output_of l op (out_used l op (O.Binary code) kind obeys good) n.1.1
+  binary_output code kind =
+      let n = least op 2 2 output.Has (counted l op (O.Binary code) kind obeys) in
+      output_of l op (out_used l op (O.Binary code) kind obeys good) n.1.1
 
-  pub binary_fits : (code : Binary) → op.code ≡ O.Binary code → IsBinarySized code (varnode_at op.inputs 0).size (varnode_at op.inputs 1).size (size_out op.out)
+  pub binary_fits : (code : Binary)
+      → op.code ≡ O.Binary code
+      → IsBinarySized code (varnode_at op.inputs 0).size (varnode_at op.inputs 1).size (size_out op.out)
   binary_fits code kind = binary_is code _ _ _ (sized l op (O.Binary code) kind obeys)
 
   pub divide_inputs : (code : Divide) → op.code ≡ O.Divide code → HasTwo l op
-  divide_inputs code kind = let n = least op 2 2 output.Has (counted l op (O.Divide code) kind obeys) in two_of l op good (inputs_used l op (O.Divide code) kind obeys good refl) n.0 n.1.0
+  divide_inputs code kind =
+      let n = least op 2 2 output.Has (counted l op (O.Divide code) kind obeys) in
+      two_of l op good (inputs_used l op (O.Divide code) kind obeys good refl) n.0 n.1.0
 
   pub divide_output : (code : Divide) → op.code ≡ O.Divide code → HasOutput l op
-  divide_output code kind = let n = least op 2 2 output.Has (counted l op (O.Divide code) kind obeys) in output_of l op (out_used l op (O.Divide code) kind obeys good) n.1.1
+  divide_output code kind =
+      let n = least op 2 2 output.Has (counted l op (O.Divide code) kind obeys) in
+      output_of l op (out_used l op (O.Divide code) kind obeys good) n.1.1
 
-  pub divide_fits : (code : Divide) → op.code ≡ O.Divide code → ((varnode_at op.inputs 0).size ≡ size_out op.out) × ((varnode_at op.inputs 1).size ≡ size_out op.out)
+  pub divide_fits : (code : Divide)
+      → op.code ≡ O.Divide code
+      → ((varnode_at op.inputs 0).size ≡ size_out op.out) × ((varnode_at op.inputs 1).size ≡ size_out op.out)
   divide_fits code kind = let p = same_three _ _ _ _ (sized l op (O.Divide code) kind obeys) in (p.0, p.1.0)
 
   -- BRANCHIND, CALLIND and RETURN
-  pub only_input : (code : Opcode) → op.code ≡ code → operands_of code ≡ record { least = 1; most = 1; output = output.Lacks } → names_address code op.inputs ≡ false → HasOne l op
+  pub only_input : (code : Opcode)
+      → op.code ≡ code
+      → operands_of code ≡ record { least = 1; most = 1; output = output.Lacks }
+      → names_address code op.inputs ≡ false
+      → HasOne l op
   only_input code kind takes isnt =
       let P : Operands → Type 0 = λ x. has_operands x op.out (length op.inputs) ≡ true in
       let n = least op 1 1 output.Lacks (subst P takes (counted l op code kind obeys)) in
@@ -259,13 +365,16 @@ module _ (l : Listing) (op : Op) (obeys : Obeys l op) (good : AreSpaces l.spaces
       (omega (arith, n.0, n.1.0), second_used l op.inputs (rest_used l op O.Load kind obeys good) n.0)
 
   pub load_output : op.code ≡ O.Load → HasOutput l op
-  load_output kind = let n = least op 2 2 output.Has (counted l op O.Load kind obeys) in output_of l op (out_used l op O.Load kind obeys good) n.1.1
+  load_output kind =
+      let n = least op 2 2 output.Has (counted l op O.Load kind obeys) in
+      output_of l op (out_used l op O.Load kind obeys good) n.1.1
 
   pub load_ram : op.code ≡ O.Load → same_kind Ram (kind_of l (varnode_at op.inputs 0).offset) ≡ true
   load_ram kind = (and_parts _ _ (placed l op O.Load kind obeys)).1
 
   -- and a STORE: a ram space's number, an offset and a word
-  pub store_inputs : op.code ≡ O.Store → (length op.inputs ≡ 3) × (IsUsed l (varnode_at op.inputs 1) × IsUsed l (varnode_at op.inputs 2))
+  pub store_inputs : op.code ≡ O.Store
+      → (length op.inputs ≡ 3) × (IsUsed l (varnode_at op.inputs 1) × IsUsed l (varnode_at op.inputs 2))
   store_inputs kind =
       let n = least op 3 3 output.Lacks (counted l op O.Store kind obeys) in
       let all = rest_used l op O.Store kind obeys good in

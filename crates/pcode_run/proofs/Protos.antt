@@ -41,15 +41,25 @@ argument_used : (l : Listing) (a : Storage) → AreSpaces l.spaces → formed.Is
 argument_used l (At v) good is = storage_used l v good is
 argument_used l (Stack offset size) good is = (is.0, is.1)
 
-arguments_used : (l : Listing) (xs : List Storage) → AreSpaces l.spaces → AllByRecursion (formed.IsArgument l.spaces l.stack) xs → AllByRecursion (IsArgument l) xs
+arguments_used : (l : Listing) (xs : List Storage)
+    → AreSpaces l.spaces
+    → AllByRecursion (formed.IsArgument l.spaces l.stack) xs
+    → AllByRecursion (IsArgument l) xs
 arguments_used l [] good all = tt
 arguments_used l (x ∷ xs) good all = (argument_used l x good all.0, arguments_used l xs good all.1)
 
-result_local : (l : Listing) (o : Option Varnode) → AreSpaces l.spaces → IfSome o (IsStorage l.spaces) → IfSome o (IsLocal l)
+result_local : (l : Listing) (o : Option Varnode)
+    → AreSpaces l.spaces
+    → IfSome o (IsStorage l.spaces)
+    → IfSome o (IsLocal l)
 result_local l None good is = tt
-result_local l (Some v) good is = record { some = is.register.some; few = is.few; inside = register_inside l v good is.register }
+result_local l (Some v) good is =
+    record { some = is.register.some; few = is.few; inside = register_inside l v good is.register }
 
-kept_end : (l : Listing) (vs : List Varnode) → AreSpaces l.spaces → AllByRecursion (IsRegister l.spaces) vs → AllByRecursion Ends vs
+kept_end : (l : Listing) (vs : List Varnode)
+    → AreSpaces l.spaces
+    → AllByRecursion (IsRegister l.spaces) vs
+    → AllByRecursion Ends vs
 kept_end l [] good all = tt
 kept_end l (v ∷ vs) good all =
     let i = register_inside l v good all.0 in
@@ -71,7 +81,10 @@ runs l p good is = record {
   keep = kept_end l p.keep good is.keep;
 }
 
-got : {A : Type 0} (P : A → Type 0) (xs : List A) (n : ℕ) → AllByRecursion P xs → n < length xs → IfSome (slice_get xs n) P
+got : {A : Type 0} (P : A → Type 0) (xs : List A) (n : ℕ)
+    → AllByRecursion P xs
+    → n < length xs
+    → IfSome (slice_get xs n) P
 got P [] n all below = tt
 got P (x ∷ xs) zero all below = all.0
 got P (x ∷ xs) (suc n) all below = got P xs n all.1 (omega (arith, below))
@@ -86,17 +99,28 @@ proto_runs l n good below =
     let s = some_got l.protos n below in
     let P : Option Proto → Type 0 = λ o. IfSome o (IsProto l.spaces l.stack) in
     let Q : Option Proto → Type 0 = λ o. Runs l (proto_in o) in
-    subst Q (sym s.1) (runs l s.0 good.spaces (subst P s.1 (got (IsProto l.spaces l.stack) l.protos n good.protos below)))
+    subst Q (sym s.1)
+    (runs l s.0 good.spaces (subst P s.1 (got (IsProto l.spaces l.stack) l.protos n good.protos below)))
 
-found : (P : Function → Type 0) (g f : Function) (rest : Option Function) (b : Bool) → cond b (Some g) rest ≡ Some f → P g → (rest ≡ Some f → P f) → P f
+found : (P : Function → Type 0) (g f : Function) (rest : Option Function) (b : Bool)
+    → cond b (Some g) rest ≡ Some f
+    → P g
+    → (rest ≡ Some f → P f)
+    → P f
 found P g f rest true e here later = let same : g ≡ f = cc in subst P same here
 found P g f rest false e here later = later e
 
-callee_is : (P : Function → Type 0) (fs : List Function) (a : ℕ) (f : Function) → AllByRecursion P fs → callee_in fs a ≡ Some f → P f
+callee_is : (P : Function → Type 0) (fs : List Function) (a : ℕ) (f : Function)
+    → AllByRecursion P fs
+    → callee_in fs a ≡ Some f
+    → P f
 callee_is P [] a f all is = absurd (cc)
 callee_is P (g ∷ fs) a f all is = found P g f (callee_in fs a) (g.address == a) is all.0 (callee_is P fs a f all.1)
 
-pub callee_proto : (l : Listing) (a : ℕ) (f : Function) → formed.IsWellFormed l → callee_at l a ≡ Some f → f.proto < length l.protos
+pub callee_proto : (l : Listing) (a : ℕ) (f : Function)
+    → formed.IsWellFormed l
+    → callee_at l a ≡ Some f
+    → f.proto < length l.protos
 callee_proto l a f good is = (callee_is (IsFunction l.spaces (length l.protos)) l.callees a f good.callees is).proto
 
 -- the prototype of a callee that isn't declared

@@ -20,23 +20,42 @@ module _ {M : Type 0} (m : Acts M) (l : Listing) (f : Frame) where
   ended s e over = ap (λ (o : Option End). unless_over o s (step_at m l f (standing l s.at) s)) over
 
   -- one step less is left
-  pub turned : (old new : State M) (n i : ℕ) (all : State M) → i < n → old.world.over ≡ None → new ≡ step_at m l f (standing l old.at) old → after (step m l f) (n - i) old ≡ all → after (step m l f) (n - (i + 1)) new ≡ all
+  pub turned : (old new : State M) (n i : ℕ) (all : State M)
+      → i < n
+      → old.world.over ≡ None
+      → new ≡ step_at m l f (standing l old.at) old
+      → after (step m l f) (n - i) old ≡ all
+      → after (step m l f) (n - (i + 1)) new ≡ all
   turned old new n i all more over goes before =
       let left : n - i ≡ suc (n - (i + 1)) = omega (arith, more) in
-      ap (after (step m l f) (n - (i + 1))) (goes ∙ sym (now old over)) ∙ ap (λ k. after (step m l f) k old) (sym left) ∙ before
+      ap (after (step m l f) (n - (i + 1))) (goes ∙ sym (now old over))
+      ∙ ap (λ k. after (step m l f) k old) (sym left)
+      ∙ before
 
-  pub done_all : (s first : State M) (n i : ℕ) → n ≤ i → after (step m l f) (n - i) s ≡ after (step m l f) n first → shown s.world ≡ seen (machine m l f) first n
+  pub done_all : (s first : State M) (n i : ℕ)
+      → n ≤ i
+      → after (step m l f) (n - i) s ≡ after (step m l f) n first
+      → shown s.world ≡ seen (machine m l f) first n
   done_all s first n i none before =
       let left : n - i ≡ 0 = omega (arith, none) in
       ap (λ (z : State M). shown z.world) (sym (ap (λ k. after (step m l f) k s) left) ∙ before)
 
-  pub done_early : (s first : State M) (n i : ℕ) (o : Option worlds.End) → s.world.over ≡ over_of o → IsSome o → after (step m l f) (n - i) s ≡ after (step m l f) n first → shown s.world ≡ seen (machine m l f) first n
+  pub done_early : (s first : State M) (n i : ℕ) (o : Option worlds.End)
+      → s.world.over ≡ over_of o
+      → IsSome o
+      → after (step m l f) (n - i) s ≡ after (step m l f) n first
+      → shown s.world ≡ seen (machine m l f) first n
   done_early s first n i None over some before = absurd (cc)
   done_early s first n i (Some e) over some before =
       ap (λ (z : State M). shown z.world) (sym (stands (step m l f) s (ended s (end_of e) over) (n - i)) ∙ before)
 
 -- a run from the state that the run of a listing begins with
-pub seen_is : (y : Layout) (l k : Listing) (f g : Frame) (e : Entry) (s : State Whole) (n : ℕ) → y ≡ layout l f e → k ≡ l → g ≡ f → s ≡ start l e (first_whole e) → seen (machine (whole y) k g) s n ≡ seen_p l f e n
+pub seen_is : (y : Layout) (l k : Listing) (f g : Frame) (e : Entry) (s : State Whole) (n : ℕ)
+    → y ≡ layout l f e
+    → k ≡ l
+    → g ≡ f
+    → s ≡ start l e (first_whole e)
+    → seen (machine (whole y) k g) s n ≡ seen_p l f e n
 seen_is y l k f g e s n lay list frame first =
     ap (λ (x : Layout). seen (machine (whole x) k g) s n) lay
     ∙ ap (λ (x : Listing). seen (machine (whole (layout l f e)) x g) s n) list

@@ -35,4 +35,9 @@ LiesInRam l f = AllByRecursion (λ a. lies_in_ram l a ≡ true) f.accesses
 
 -- each LOAD and STORE that is a frame variable's access is one of the first ram space
 abbrev pub OwnsFirstRam : Listing → M.Frame → Type 0
-OwnsFirstRam l f = (p : Place) (i : Instruction) (op : Op) → standing l p ≡ Does i op → by_pointer op.code ≡ true → IsSome (f.own p 0) → (varnode_at op.inputs 0).offset ≡ first_ram l
+OwnsFirstRam l f =
+    (p : Place) (i : Instruction) (op : Op)
+    → standing l p ≡ Does i op
+    → by_pointer op.code ≡ true
+    → IsSome (f.own p 0)
+    → (varnode_at op.inputs 0).offset ≡ first_ram l

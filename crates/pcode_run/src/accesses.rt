@@ -53,7 +53,9 @@ fn put_fetched(
 ) -> Result<(), Memory>
     requires context { IsContext context.now }
     requires out { IfSome out (IsUsed context.now.listing.now) }
-    ensures { OnOk result (state_of context.now state.new ≡ fetched (whole (layout_of context.now)) context.now.listing.now out (got_word word) (state_of context.now state.old)) }
+    ensures { OnOk result (state_of context.now state.new
+        ≡ fetched (whole (layout_of context.now)) context.now.listing.now out (got_word word)
+        (state_of context.now state.old)) }
 {
     match word {
         Some(word) => write_out(context, state, out, word.value),
@@ -76,7 +78,8 @@ pub fn load(
     requires kind { op.now.code ≡ O.Load }
     requires obeys { Obeys context.now.listing.now op.now }
     requires owns { OwnsRam context.now op.now (state_of context.now state.old) }
-    ensures { OnOk result (state_of context.now state.new ≡ done context.now instruction.now op.now (state_of context.now state.old)) }
+    ensures { OnOk result
+        (state_of context.now state.new ≡ done context.now instruction.now op.now (state_of context.now state.old)) }
 {
     let space = op.input(0).offset as u8;
     let Some(offset) = read_varnode(context, state, op.input(1))? else {
@@ -104,7 +107,11 @@ fn put_at(
     requires small { size_of context.now.listing.now space ≤ 2 ^ 64 }
     requires inside { address < size_of context.now.listing.now space }
     requires own { IsSome own → space ≡ first_ram context.now.listing.now }
-    ensures { OnOk result (state_of context.now state.new ≡ in_world (put_at (whole (layout_of context.now)) own space address (bytes_in context.now.listing.now space size word) (state_of context.now state.old).world) (state_of context.now state.old)) }
+    ensures { OnOk result (state_of context.now state.new
+        ≡ in_world
+        (put_at (whole (layout_of context.now)) own space address
+        (bytes_in context.now.listing.now space size word) (state_of context.now state.old).world)
+        (state_of context.now state.old)) }
 {
     let shape = Shape::new(context.listing, space);
     let bytes = word_bytes(context.alloc, shape.big, size, word)?;
@@ -134,7 +141,8 @@ pub fn store(
     requires kind { op.now.code ≡ O.Store }
     requires obeys { Obeys context.now.listing.now op.now }
     requires owns { OwnsRam context.now op.now (state_of context.now state.old) }
-    ensures { OnOk result (state_of context.now state.new ≡ done context.now instruction.now op.now (state_of context.now state.old)) }
+    ensures { OnOk result
+        (state_of context.now state.new ≡ done context.now instruction.now op.now (state_of context.now state.old)) }
 {
     let space = op.input(0).offset as u8;
     let value = op.input(2);

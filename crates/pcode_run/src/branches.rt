@@ -35,7 +35,8 @@ pub fn branch(state: &mut State, instruction: &Instruction, op: &Op)
 // Where a CBRANCH leads by the word of its test.
 fn tested_spot(instruction: &Instruction, index: u32, to: Varnode, test: Word) -> Option<WidePlace>
     requires { length instruction.now.ops < 2 ^ 32 }
-    ensures { places_of result ≡ if test.value == 0 then Some (next_place instruction.now index) else branch_place instruction.now index to }
+    ensures { places_of result
+        ≡ if test.value == 0 then Some (next_place instruction.now index) else branch_place instruction.now index to }
 {
     if test.value == 0 {
         Some(next_spot(instruction, index))
@@ -55,7 +56,8 @@ pub fn cbranch(
     requires few { length instruction.now.ops < 2 ^ 32 }
     requires kind { op.now.code ≡ O.CBranch }
     requires obeys { Obeys context.now.listing.now op.now }
-    ensures { OnOk result (state_of context.now state.new ≡ done context.now instruction.now op.now (state_of context.now state.old)) }
+    ensures { OnOk result
+        (state_of context.now state.new ≡ done context.now instruction.now op.now (state_of context.now state.old)) }
 {
     match read_varnode(context, state, op.input(1))? {
         Some(test) => {
@@ -72,7 +74,8 @@ pub fn branch_ind(context: &PcodeContext, state: &mut State, op: &Op) -> Result<
     requires context { IsContext context.now }
     requires kind { op.now.code ≡ O.BranchInd }
     requires obeys { Obeys context.now.listing.now op.now }
-    ensures { OnOk result ((i : Instruction) → state_of context.now state.new ≡ done context.now i op.now (state_of context.now state.old)) }
+    ensures { OnOk result ((i : Instruction)
+        → state_of context.now state.new ≡ done context.now i op.now (state_of context.now state.old)) }
 {
     match read_varnode(context, state, op.input(0))? {
         Some(to) => {
@@ -109,7 +112,8 @@ pub fn do_return(context: &PcodeContext, state: &mut State, op: &Op) -> Result<(
     requires context { IsContext context.now }
     requires kind { op.now.code ≡ O.Return }
     requires obeys { Obeys context.now.listing.now op.now }
-    ensures { OnOk result ((i : Instruction) → state_of context.now state.new ≡ done context.now i op.now (state_of context.now state.old)) }
+    ensures { OnOk result ((i : Instruction)
+        → state_of context.now state.new ≡ done context.now i op.now (state_of context.now state.old)) }
 {
     match read_varnode(context, state, op.input(0))? {
         Some(_) => {

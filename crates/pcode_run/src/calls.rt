@@ -30,7 +30,10 @@ fn take(context: &PcodeContext, state: &mut State, proto: &Proto) -> Result<(), 
     requires context { IsContext context.now }
     requires keep { AllByRecursion Ends proto.now.keep }
     requires gives { IfSome proto.now.gives (IsLocal context.now.listing.now) }
-    ensures { OnOk result (state_of context.now state.new ≡ answered context.now.listing.now proto.now (take_answer (whole (layout_of context.now)) (state_of context.now state.old).world) (state_of context.now state.old)) }
+    ensures { OnOk result (state_of context.now state.new
+        ≡ answered context.now.listing.now proto.now
+        (take_answer (whole (layout_of context.now)) (state_of context.now state.old).world)
+        (state_of context.now state.old)) }
 {
     match take_answer(context, &mut state.memory, &mut state.log)? {
         Some(answer) => after_call(context, &mut state.local, proto, answer),
@@ -51,7 +54,9 @@ fn call_to(
     requires context { IsContext context.now }
     requires keep { AllByRecursion Ends proto.now.keep }
     requires gives { IfSome proto.now.gives (IsLocal context.now.listing.now) }
-    ensures { OnOk result (state_of context.now state.new ≡ apply (whole (layout_of context.now)) context.now.listing.now (place_of next) (Calls target (map value_of args) proto.now returns) (state_of context.now state.old)) }
+    ensures { OnOk result (state_of context.now state.new
+        ≡ apply (whole (layout_of context.now)) context.now.listing.now (place_of next)
+        (Calls target (map value_of args) proto.now returns) (state_of context.now state.old)) }
 {
     state.at = next;
     state.log.events.push(Event::Call { target, args })?;
@@ -74,7 +79,8 @@ pub fn call(
     requires few { length instruction.now.ops < 2 ^ 32 }
     requires kind { op.now.code ≡ O.Call }
     requires obeys { Obeys context.now.listing.now op.now }
-    ensures { OnOk result (state_of context.now state.new ≡ done context.now instruction.now op.now (state_of context.now state.old)) }
+    ensures { OnOk result
+        (state_of context.now state.new ≡ done context.now instruction.now op.now (state_of context.now state.old)) }
 {
     let to = op.input(0).offset;
     let (proto, returns) = called_at(context.listing, to);
@@ -101,7 +107,8 @@ pub fn call_ind(
     requires few { length instruction.now.ops < 2 ^ 32 }
     requires kind { op.now.code ≡ O.CallInd }
     requires obeys { Obeys context.now.listing.now op.now }
-    ensures { OnOk result (state_of context.now state.new ≡ done context.now instruction.now op.now (state_of context.now state.old)) }
+    ensures { OnOk result
+        (state_of context.now state.new ≡ done context.now instruction.now op.now (state_of context.now state.old)) }
 {
     let proto = context.listing.own_proto();
     let Some(to) = read_varnode(context, state, op.input(0))? else {
@@ -129,7 +136,9 @@ fn put_answer(
 ) -> Result<(), Memory>
     requires context { IsContext context.now }
     requires out { IfSome out (IsUsed context.now.listing.now) }
-    ensures { OnOk result (state_of context.now state.new ≡ write_out (whole (layout_of context.now)) context.now.listing.now out (output out word) (state_of context.now state.old)) }
+    ensures { OnOk result (state_of context.now state.new
+        ≡ write_out (whole (layout_of context.now)) context.now.listing.now out (output out word)
+        (state_of context.now state.old)) }
 {
     match out {
         Some(v) => write_out(context, state, out, reduced(word, v.size)),
@@ -148,7 +157,9 @@ fn ask(
 ) -> Result<(), Memory>
     requires context { IsContext context.now }
     requires out { IfSome out (IsUsed context.now.listing.now) }
-    ensures { OnOk result (state_of context.now state.new ≡ apply (whole (layout_of context.now)) context.now.listing.now (place_of next) (Asks index (map value_of args) out) (state_of context.now state.old)) }
+    ensures { OnOk result (state_of context.now state.new
+        ≡ apply (whole (layout_of context.now)) context.now.listing.now (place_of next)
+        (Asks index (map value_of args) out) (state_of context.now state.old)) }
 {
     state.at = next;
     state.log.events.push(Event::Other { index, args })?;
@@ -169,7 +180,8 @@ pub fn call_other(
     requires few { length instruction.now.ops < 2 ^ 32 }
     requires kind { op.now.code ≡ O.CallOther }
     requires obeys { Obeys context.now.listing.now op.now }
-    ensures { OnOk result (state_of context.now state.new ≡ done context.now instruction.now op.now (state_of context.now state.old)) }
+    ensures { OnOk result
+        (state_of context.now state.new ≡ done context.now instruction.now op.now (state_of context.now state.old)) }
 {
     match read_all(context, state, &op.inputs.as_slice()[1..])? {
         Some(args) => {

@@ -12,7 +12,8 @@ use run_world::End;
 
 /// Ends the run.
 pub fn finish(state: &mut State, end: End)
-    ensures { (c : PcodeContext) → state_of c state.new ≡ in_world (ended (end_of end) (state_of c state.old).world) (state_of c state.old) }
+    ensures { (c : PcodeContext)
+        → state_of c state.new ≡ in_world (ended (end_of end) (state_of c state.old).world) (state_of c state.old) }
 {
     state.log.end = Some(end);
 }

@@ -35,7 +35,9 @@ pub fn read_two(
     requires context { IsContext context.now }
     requires first { IsUsed context.now.listing.now first }
     requires second { IsUsed context.now.listing.now second }
-    ensures value { IfOk result (λ r. got_two r ≡ read_all (whole (layout_of context.now)) context.now.listing.now (frame_in context.now) (state_of context.now state.now) (Reads first ∷ Reads second ∷ [])) }
+    ensures value { IfOk result (λ r. got_two r
+        ≡ read_all (whole (layout_of context.now)) context.now.listing.now (frame_in context.now)
+        (state_of context.now state.now) (Reads first ∷ Reads second ∷ [])) }
     ensures widths { IfOk result (λ r. IfSome r (λ p. (p.0.width.bytes ≡ first.size) × (p.1.width.bytes ≡ second.size))) }
 {
     let Some(a) = read_varnode(context, state, first)? else {

@@ -32,7 +32,8 @@ pub fn run_listing(
 ) -> Result<Trace, NoRun>
     requires formed { IsWellFormed listing.now }
     requires ordered { IsOrdered listing.now frame.now }
-    ensures run { IfOk result (λ t. trace_of t ≡ seen_p listing.now (frame_of listing.now frame.now) (entry_of listing.now entry.now) n) }
+    ensures run { IfOk result
+        (λ t. trace_of t ≡ seen_p listing.now (frame_of listing.now frame.now) (entry_of listing.now entry.now) n) }
     ensures refused { IfErr result (IsRefused listing.now frame.now) }
 {
     if let Err(fault) = check_ops(listing) {

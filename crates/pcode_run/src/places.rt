@@ -1,11 +1,10 @@
 //! Where ops lead.
 
-ghost use Rattle.std.specs.Prelude.{◌≡◌, ◌<◌, ◌≤◌, ◌^◌, length, MatchOption, pos, ◌+ℤ◌};
-ghost use Rattle.bits_core.specs.Value.{signed, limit as limit_of};
+ghost use Rattle.std.specs.Prelude.{◌≡◌, ◌<◌, ◌^◌, length};
 ghost use Rattle.pcode_model.specs.Places.{branch_place, next_instruction, next_place, relative_place};
-ghost use Rattle.flow.specs.Edges.{IsNegative};
 ghost use Rattle.pcode_operands.specs.State.{place_of, places_of};
 
+use instructions::relative_index;
 use pcode_model::{Instruction, Varnode};
 use pcode_operands::state::WidePlace;
 
@@ -32,30 +31,6 @@ pub fn next_spot(instruction: &Instruction, index: u32) -> WidePlace
         }
     } else {
         next_instruction(instruction)
-    }
-}
-
-fn limit(size: u32) -> u128
-    requires { size ≤ 8 }
-    ensures { result ≡ limit_of size }
-{
-    1u128 << (8 * size)
-}
-
-// The index of a relative branch, whose count is signed at its own size. None where it is negative.
-fn relative_index(index: u32, count: Varnode) -> Option<u128>
-    ensures { MatchOption result (IsNegative (pos index +ℤ signed count.size count.offset)) (λ m. pos index +ℤ signed count.size count.offset ≡ pos m) }
-{
-    let offset = u128::from(count.offset);
-    let sum = u128::from(index) + offset;
-    if count.size > 8 {
-        return Some(sum);
-    }
-    let limit = limit(count.size);
-    if offset < limit / 2 {
-        Some(sum)
-    } else {
-        sum.checked_sub(limit)
     }
 }
 

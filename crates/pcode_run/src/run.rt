@@ -42,7 +42,11 @@ fn first_memory(alloc: Global, listing: &Listing, entry: &Entry) -> Result<Whole
 fn start(alloc: Global, listing: &Listing, entry: &Entry) -> Result<State, Memory>
     requires { IsWellFormed listing.now }
     ensures local { IfOk result (λ state. bytes_of state.local ≡ (entry_of listing.now entry.now).bytes) }
-    ensures state { IfOk result (λ state. (c : PcodeContext) → c.answers.now ≡ entry.now.answers → state_of c state ≡ start listing.now (entry_of listing.now entry.now) (first_whole (entry_of listing.now entry.now))) }
+    ensures state { IfOk result (λ state.
+        (c : PcodeContext)
+        → c.answers.now ≡ entry.now.answers
+        → state_of c state
+        ≡ start listing.now (entry_of listing.now entry.now) (first_whole (entry_of listing.now entry.now))) }
 {
     let local = ByteMap::first(alloc, listing, entry.state.as_slice())?;
     let memory = first_memory(alloc, listing, entry)?;
@@ -91,7 +95,8 @@ fn context<'a>(
     ensures listing { IfOk result (λ c. c.listing.now ≡ listing.now) }
     ensures frame { IfOk result (λ c. c.frame.now ≡ frame.now) }
     ensures answers { IfOk result (λ c. c.answers.now ≡ entry.now.answers) }
-    ensures layout { IfOk result (λ c. layout_of c ≡ layout listing.now (frame_of listing.now frame.now) (entry_of listing.now entry.now)) }
+    ensures layout { IfOk result
+        (λ c. layout_of c ≡ layout listing.now (frame_of listing.now frame.now) (entry_of listing.now entry.now)) }
 {
     let setting = Setting::new(alloc, listing)?;
     let ram = Shape::new(listing, setting.first_ram);
@@ -112,7 +117,9 @@ fn context<'a>(
 fn run_from(context: &PcodeContext, state: State, n: u32) -> Result<Trace, Memory>
     requires context { IsContext context.now }
     requires owns { OwnsFirstRam context.now.listing.now (frame_in context.now) }
-    ensures { IfOk result (λ t. trace_of t ≡ seen (machine (whole (layout_of context.now)) context.now.listing.now (frame_in context.now)) (state_of context.now state) n) }
+    ensures { IfOk result (λ t. trace_of t
+        ≡ seen (machine (whole (layout_of context.now)) context.now.listing.now (frame_in context.now))
+        (state_of context.now state) n) }
 {
     let mut state = state;
     for _ in 0..n {
@@ -139,7 +146,8 @@ pub fn run_p(
     requires checked { first_bad listing.now ≡ None }
     requires ordered { IsOrdered listing.now frame.now }
     requires owns { LiesInRam listing.now frame.now }
-    ensures { IfOk result (λ t. trace_of t ≡ seen_p listing.now (frame_of listing.now frame.now) (entry_of listing.now entry.now) n) }
+    ensures { IfOk result
+        (λ t. trace_of t ≡ seen_p listing.now (frame_of listing.now frame.now) (entry_of listing.now entry.now) n) }
 {
     let state = start(alloc, listing, entry)?;
     let context = context(alloc, listing, frame, entry, &state.local)?;

@@ -31,7 +31,8 @@ fn carry_out(
     requires few { length instruction.now.ops < 2 ^ 32 }
     requires obeys { Obeys context.now.listing.now op.now }
     requires owns { by_pointer op.now.code ≡ true → OwnsRam context.now op.now (state_of context.now state.old) }
-    ensures { OnOk result (state_of context.now state.new ≡ done context.now instruction.now op.now (state_of context.now state.old)) }
+    ensures { OnOk result
+        (state_of context.now state.new ≡ done context.now instruction.now op.now (state_of context.now state.old)) }
 {
     match &op.code {
         Opcode::Unary(code) => do_unary(context, state, instruction, op, *code),
@@ -62,7 +63,9 @@ fn stand(context: &PcodeContext, state: &mut State, instruction: &Instruction) -
     requires context { IsContext context.now }
     requires here { instruction_at context.now.listing.now state.old.at.address ≡ Some instruction.now }
     requires owns { OwnsFirstRam context.now.listing.now (frame_in context.now) }
-    ensures { OnOk result (state_of context.now state.new ≡ stepped context.now (standing_of (Some instruction.now) state.old.at.index) (state_of context.now state.old)) }
+    ensures { OnOk result (state_of context.now state.new
+        ≡ stepped context.now (standing_of (Some instruction.now) state.old.at.index)
+        (state_of context.now state.old)) }
 {
     if instruction.ops.is_empty() && state.at.index == 0 {
         state.at = next_instruction(instruction);
@@ -81,7 +84,9 @@ fn stand(context: &PcodeContext, state: &mut State, instruction: &Instruction) -
 pub fn step(context: &PcodeContext, state: &mut State) -> Result<(), Memory>
     requires context { IsContext context.now }
     requires owns { OwnsFirstRam context.now.listing.now (frame_in context.now) }
-    ensures { OnOk result (state_of context.now state.new ≡ stepped context.now (standing context.now.listing.now (state_of context.now state.old).at) (state_of context.now state.old)) }
+    ensures { OnOk result (state_of context.now state.new
+        ≡ stepped context.now (standing context.now.listing.now (state_of context.now state.old).at)
+        (state_of context.now state.old)) }
 {
     match instruction(context.listing, state.at.address) {
         Some(instruction) => stand(context, state, instruction),

@@ -33,7 +33,10 @@ fn put_value(
     requires context { IsContext context.now }
     requires few { length instruction.now.ops < 2 ^ 32 }
     requires out { IfSome op.now.out (IsUsed context.now.listing.now) }
-    ensures { OnOk result (state_of context.now state.new ≡ apply (whole (layout_of context.now)) context.now.listing.now (next_place instruction.now state.old.at.index) (Writes op.now.out word) (state_of context.now state.old)) }
+    ensures { OnOk result (state_of context.now state.new
+        ≡ apply (whole (layout_of context.now)) context.now.listing.now
+        (next_place instruction.now state.old.at.index) (Writes op.now.out word)
+        (state_of context.now state.old)) }
 {
     state.at = next_spot(instruction, state.at.index);
     write_out(context, state, op.out, word)
@@ -51,7 +54,8 @@ pub fn do_unary(
     requires few { length instruction.now.ops < 2 ^ 32 }
     requires kind { op.now.code ≡ O.Unary code }
     requires obeys { Obeys context.now.listing.now op.now }
-    ensures { OnOk result (state_of context.now state.new ≡ done context.now instruction.now op.now (state_of context.now state.old)) }
+    ensures { OnOk result
+        (state_of context.now state.new ≡ done context.now instruction.now op.now (state_of context.now state.old)) }
 {
     match read_varnode(context, state, op.input(0))? {
         Some(a) => {
@@ -77,7 +81,8 @@ pub fn do_binary(
     requires few { length instruction.now.ops < 2 ^ 32 }
     requires kind { op.now.code ≡ O.Binary code }
     requires obeys { Obeys context.now.listing.now op.now }
-    ensures { OnOk result (state_of context.now state.new ≡ done context.now instruction.now op.now (state_of context.now state.old)) }
+    ensures { OnOk result
+        (state_of context.now state.new ≡ done context.now instruction.now op.now (state_of context.now state.old)) }
 {
     match read_two(context, state, op.input(0), op.input(1))? {
         Some((a, b)) => {
@@ -105,7 +110,10 @@ fn put_divided(
     requires few { length instruction.now.ops < 2 ^ 32 }
     requires out { IfSome op.now.out (IsUsed context.now.listing.now) }
     requires same { a.width.bytes ≡ b.width.bytes }
-    ensures { OnOk result (state_of context.now state.new ≡ apply (whole (layout_of context.now)) context.now.listing.now (next_place instruction.now state.old.at.index) (divided op.now.out (divide_value code a.width.bytes a.value b.value)) (state_of context.now state.old)) }
+    ensures { OnOk result (state_of context.now state.new
+        ≡ apply (whole (layout_of context.now)) context.now.listing.now
+        (next_place instruction.now state.old.at.index)
+        (divided op.now.out (divide_value code a.width.bytes a.value b.value)) (state_of context.now state.old)) }
 {
     match divide(code, a, b) {
         Ok(word) => put_value(context, state, instruction, op, word.value),
@@ -128,7 +136,8 @@ pub fn do_divide(
     requires few { length instruction.now.ops < 2 ^ 32 }
     requires kind { op.now.code ≡ O.Divide code }
     requires obeys { Obeys context.now.listing.now op.now }
-    ensures { OnOk result (state_of context.now state.new ≡ done context.now instruction.now op.now (state_of context.now state.old)) }
+    ensures { OnOk result
+        (state_of context.now state.new ≡ done context.now instruction.now op.now (state_of context.now state.old)) }
 {
     match read_two(context, state, op.input(0), op.input(1))? {
         Some((a, b)) => put_divided(context, state, instruction, op, code, a, b),

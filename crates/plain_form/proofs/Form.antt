@@ -21,7 +21,7 @@ use Rattle.stackvars.specs.Accessed as listed
 use Rattle.stackvars.specs.Accessed.{AreAccessed, AreEqualOrApart, AreSized}
 use Rattle.range_words.specs.Ranges.{IsInside, IsTable}
 use Rattle.range_words.specs.Ranges as table
-use Rattle.plaincode.specs.Form.{AreNarrow, IsLocalStorage, IsPlainForm}
+use Rattle.plaincode.specs.Form.{AreNarrow, IsLocalStorage, IsLowerable}
 use Rattle.plaincode.specs.Lowered.{range_at, range_of, ranges_of}
 use Rattle.plain_form.proofs.Formed.{IsFormed}
 use Rattle.plain_form.proofs.Accessed.{accessed_apart, accessed_inside}
@@ -99,6 +99,7 @@ mapped l (x ∷ xs) (suc n) v h = mapped l xs n v h
 
 -- ---- atoms in order are different ranges
 
+-- the order of storages is transitive
 pub before_trans : (r s t : ParamStorage) → StandsBefore r s → StandsBefore s t → StandsBefore r t
 before_trans (P.Register a) (P.Register b) (P.Register c) p q = omega (arith, p, q)
 before_trans (P.Register a) (P.Register b) (P.Unique c) p q = tt
@@ -245,7 +246,7 @@ pub plain_form : (l : Listing)
     → length blocks ≤ 2048
     → (atoms : List Atom)
     → AreAccessed l atoms
-    → IsPlainForm l [] blocks atoms
+    → IsLowerable l [] blocks atoms
 plain_form l good sup formed blocks flow fine few atoms are = record {
   flow = flow;
   few = omega arith;

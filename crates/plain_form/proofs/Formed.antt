@@ -1,5 +1,5 @@
--- What the laws ask of a listing besides that it is supported. Every listing has it that was read and whose ops obey their
--- rules.
+-- What the laws ask of a listing besides that it is supported. Every listing has it that was read and whose ops obey
+-- their rules.
 use Rattle.std.proofs.Common.{◌≡◌, ◌<◌, ◌≤◌, ◌+◌, ◌^◌, true}
 use Rattle.pcode_model.specs.declared.listing.Instruction.{Instruction}
 use Rattle.pcode_model.specs.declared.listing.Listing.{Listing}

@@ -27,7 +27,7 @@ use Rattle.pcode_model.specs.Step.{all_but_first, all_read, operands, proto_of, 
 use Rattle.pcode_model.specs.Atoms.{Accesses, further_ranges, one_range, op_ranges, ranges_in, ranges_read}
 use Rattle.pcode_model.specs.Rules.{any_wide, breaks, first_bad, has_operands, has_output, input_ranges, is_too_wide, names_address, operands_of, output_wide, past_first, rules, sizes_fit}
 use Rattle.supported.specs.Ranges.{code_ranges, is_local, is_local_kind, named_ranges, result_range, storage_ranges}
-use Rattle.supported.specs.Supported.{IsSupported, is_ram, is_supported_binary, is_supported_code, none_in_ram, output_off_ram, read_inputs, rest_of}
+use Rattle.supported.specs.Supported.{IsSupported, is_ram, is_supported_binary, is_supported_code, none_in_ram, output_off_ram, read_inputs}
 use Rattle.plaincode.specs.Form.{HasNode, IsOperand, IsOperandBy, IsOutput, IsOutputBy, IsPlain, IsPlainOp, IsResult}
 use Rattle.pcode_laws.proofs.Rules.{breaks_none, neither}
 use Rattle.pcode_laws.proofs.Sizes.{binary_is, unary_is}
@@ -63,17 +63,15 @@ off_ram l (x ∷ vs) h v (inl e) = let P : Varnode → Type 0 = λ y. not (is_ra
     subst P (sym e) (and_parts _ _ h).0
 off_ram l (x ∷ vs) h v (inr is) = off_ram l vs (and_parts _ _ h).1 v is
 
-in_rest : (vs : List Varnode) (v : Varnode) → IsIn v (rest_of vs) → IsIn v (past_first vs)
-in_rest [] v h = h
-in_rest (x ∷ vs) v h = h
-
-rest_in : (vs : List Varnode) (v : Varnode) → IsIn v (rest_of vs) → IsIn v vs
+rest_in : (vs : List Varnode) (v : Varnode) → IsIn v (past_first vs) → IsIn v vs
 rest_in [] v h = absurd h
 rest_in (x ∷ vs) v h = inr h
 
 -- what is read isn't a destination
-chosen : (b : Bool) (vs : List Varnode) (v : Varnode) → IsIn v (rest_of vs) → IsIn v (if b then past_first vs else vs)
-chosen true vs v h = in_rest vs v h
+chosen : (b : Bool) (vs : List Varnode) (v : Varnode)
+    → IsIn v (past_first vs)
+    → IsIn v (if b then past_first vs else vs)
+chosen true vs v h = h
 chosen false vs v h = rest_in vs v h
 
 looked_at : (code : Opcode) (vs : List Varnode)
@@ -125,7 +123,7 @@ in_all [] v h = absurd h
 in_all (x ∷ vs) v (inl e) = inl e
 in_all (x ∷ vs) v (inr h) = inr (in_all vs v h)
 
-in_some : (vs : List Varnode) (v : Varnode) → IsIn v (rest_of vs) → IsIn v (ranges_read (all_but_first vs))
+in_some : (vs : List Varnode) (v : Varnode) → IsIn v (past_first vs) → IsIn v (ranges_read (all_but_first vs))
 in_some [] v h = absurd h
 in_some (x ∷ vs) v h = in_all vs v h
 
@@ -254,7 +252,7 @@ module _ (l : Listing) (ranges : List Varnode) where
   test_form : (out : Option Varnode) (vs : List Varnode)
       → has_operands (operands_of O.CBranch) out (length vs) ≡ true
       → sizes_fit O.CBranch (size_out out) vs ≡ true
-      → ((v : Varnode) → IsIn v (rest_of vs) → IsOperand l ranges v)
+      → ((v : Varnode) → IsIn v (past_first vs) → IsOperand l ranges v)
       → IsPlainOp l ranges O.CBranch out vs
   test_form (Some z) vs ar sz ins = let h : has_output output.Lacks (Some z) ≡ true = third _ _ _ ar in absurd (cc)
   test_form None [] ar sz ins = let h : 0 ≡ 2 = two_inputs 0 true ar in absurd (cc)
@@ -316,7 +314,11 @@ local_kind l ranges v Register h is = is
 local_kind l ranges v Unique h is = is
 
 -- By the op check the output has at most 16 bytes.
-pub output_narrow : (out : Option Varnode) → output_wide out ≡ false → (v : Varnode) → IsIn v (one_range out) → v.size ≤ 16
+pub output_narrow : (out : Option Varnode)
+    → output_wide out ≡ false
+    → (v : Varnode)
+    → IsIn v (one_range out)
+    → v.size ≤ 16
 output_narrow None h v is = absurd is
 output_narrow (Some z) h v (inl e) = let P : Varnode → Type 0 = λ y. y.size ≤ 16 in subst P (sym e) (not_wide z.size h)
 output_narrow (Some z) h v (inr is) = absurd is
@@ -397,7 +399,8 @@ module _ (l : Listing) (good : first_bad l ≡ None) (sup : IsSupported l) (form
       let P : Opcode → Type 0 = λ c. IsIn v (further_ranges l None c op.inputs) in
       let Q : Option Varnode → Type 0 = λ o. IsIn v (one_range o) in
       subst P (sym is) (subst Q (sym e) (inl refl)) in
-      let accessed = behind (ranges_read (operands l op.code op.inputs)) _ v (behind (one_range op.out) _ v further) in (
+      let accessed =
+      behind (ranges_read (operands l op.code op.inputs)) _ v (behind (one_range op.out) _ v further) in (
         (inside.some, inside.narrow),
         local_kind l ranges v (kind_of l v.space) inside.local
             (variable v inside.local accessed),

@@ -1,6 +1,6 @@
 -- What stands at a place is an op of an instruction of the code, and what holds of each op holds of it.
-use Rattle.std.proofs.Common.{◌≡◌, ◌⊎◌, ℕ, zero, suc, Bool, true, false, List, [], ◌∷◌, Option, Some, None, refl, inl, inr, sym, subst, ap}
-use Rattle.std.specs.Prelude.{◌==◌, if◌then◌else◌, slice_get}
+use Rattle.std.proofs.Common.{◌≡◌, ℕ, zero, suc, true, List, [], ◌∷◌, Option, Some, None, refl, inl, inr, sym, subst, ap}
+use Rattle.std.specs.Prelude.{slice_get}
 use Rattle.std.proofs.lemmas.Bool.{and_parts}
 use Rattle.pcode_model.specs.declared.listing.Op.{Op}
 use Rattle.pcode_model.specs.declared.listing.Place.{Place}
@@ -8,12 +8,9 @@ use Rattle.pcode_model.specs.declared.listing.Instruction.{Instruction}
 use Rattle.pcode_model.specs.declared.listing.Listing.{Listing}
 use Rattle.pcode_model.specs.Flow.{IsIn}
 use Rattle.pcode_model.specs.Places.{Does, instruction_in, op_in, standing, standing_in, standing_of}
+use Rattle.instructions.proofs.Apart.{found_in}
+use Rattle.instructions.proofs.Members.{member_at}
 use Rattle.supported.specs.Supported.{are_supported_ops, is_supported_code_of, is_supported_op}
-
-got_in : {A : Type 0} (xs : List A) (n : ℕ) (x : A) → slice_get xs n ≡ Some x → IsIn x xs
-got_in [] n x h = absurd (cc)
-got_in (y ∷ ys) zero x h = let e : y ≡ x = cc in inl (sym e)
-got_in (y ∷ ys) (suc n) x h = inr (got_in ys n x h)
 
 -- the op that stands here is one of these instructions'
 pub record StandsIn (code : List Instruction) (i : Instruction) (op : Op) : Type 0 where
@@ -29,18 +26,7 @@ by_ops : (i : Instruction) (ops : List Op) (n : ℕ) (j : Instruction) (op : Op)
     → (i ≡ j) × IsIn op ops
 by_ops i [] zero j op h = absurd (cc)
 by_ops i [] (suc n) j op h = absurd (cc)
-by_ops i (x ∷ ops) n j op h = let b = by_op i (slice_get (x ∷ ops) n) j op h in (b.0, got_in (x ∷ ops) n op b.1)
-
-found : (b : Bool) (i : Instruction) (rest : Option Instruction) (j : Instruction)
-    → (if b then Some i else rest) ≡ Some j
-    → (i ≡ j) ⊎ (rest ≡ Some j)
-found true i rest j h = inl (cc)
-found false i rest j h = inr h
-
-in_code : (code : List Instruction) (a : ℕ) (i : Instruction) → instruction_in code a ≡ Some i → IsIn i code
-in_code [] a i h = absurd (cc)
-in_code (x ∷ code) a i h = elim (found (x.address == a) x (instruction_in code a) i h)
-    [ inl e ↦ inl (sym e) | inr more ↦ inr (in_code code a i more) ]
+by_ops i (x ∷ ops) n j op h = let b = by_op i (slice_get (x ∷ ops) n) j op h in (b.0, member_at (x ∷ ops) n op b.1)
 
 of_option : (code : List Instruction) (o : Option Instruction) (n : ℕ) (j : Instruction) (op : Op)
     → ((i : Instruction) → o ≡ Some i → IsIn i code)
@@ -55,7 +41,7 @@ of_option code (Some i) n j op found h =
 
 pub stands_in : (l : Listing) (p : Place) (i : Instruction) (op : Op) → standing l p ≡ Does i op → StandsIn l.code i op
 stands_in l p i op h = of_option l.code (instruction_in l.code p.address) p.index i op
-    (λ j e. in_code l.code p.address j e) h
+    (λ j e. (found_in l.code p.address j e).0) h
 
 -- ---- what the tests say of an op
 

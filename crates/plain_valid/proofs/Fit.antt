@@ -1,6 +1,6 @@
 -- The C function of the plain lowering fits its listing: the storages of its parameters lie in their spaces, and no statement
 -- names a space.
-use Rattle.std.proofs.Common.{◌≡◌, ℕ, suc, ◌<◌, ◌≤◌, Bool, true, false, List, [], ◌∷◌, ◌++◌, map, Option, Some, None, refl, sym, ap, ◌∙◌, arith}
+use Rattle.std.proofs.Common.{◌≡◌, ℕ, suc, ◌≤◌, ◌^◌, Bool, true, false, List, [], ◌∷◌, ◌++◌, length, map, Option, Some, None, refl, sym, ap, ◌∙◌, arith}
 use Rattle.std.specs.Prelude.{◌==◌, ◌&&◌, cond, slice_get}
 use Rattle.std.proofs.lemmas.Bool.{and_parts}
 use Rattle.std.proofs.lemmas.Bool.Decides.{nat_tests}
@@ -16,21 +16,26 @@ use Rattle.pcode_model.specs.declared.storage.ParamStorage.TheVariants as P
 use Rattle.pcode_model.specs.declared.tables.TableAt.{TableAt}
 use Rattle.pcode_model.specs.Places.{Standing, Nothing, Passes, Does, standing}
 use Rattle.range_words.specs.Ranges.{IsInside}
-use Rattle.cmeaning.specs.declared.tree.Arm.{Arm}
+use Rattle.cmeaning.specs.declared.tree.Arm.{Arm as Branch}
 use Rattle.cmeaning.specs.declared.tree.Expr.{Expr}
 use Rattle.cmeaning.specs.declared.tree.Stmt.{Stmt, roll-Stmt, fold-roll-Stmt, map-Stmt}
+use Rattle.cmeaning.specs.declared.tree.Stmt.TheFolds.{fold_out-Arm}
 use Rattle.cmeaning.specs.declared.tree.Stmt.TheOpen.{Stmt-F}
 use Rattle.cmeaning.specs.declared.tree.Stmt.TheVariants as S
-use Rattle.cmeaning.specs.Do.{widths_in}
-use Rattle.cmeaning.specs.Fits.{Fits, arm_fits, arm_step, body_fits, fits_step, params_fit, stmt_fits, storage_fits}
+use Rattle.naming.specs.Run.{widths_of}
+use Rattle.naming_laws.proofs.Fit.{named_fits}
+use Rattle.cmeaning.specs.Fits.{Fits, all_true, arm_fits, arm_step, body_fits, fits_step, params_fit, stmt_fits, storage_fits}
 use Rattle.blockcode.specs.declared.code.Block.{Block}
 use Rattle.blockcode.specs.declared.code.Code.{Code}
 use Rattle.blockcode.specs.declared.code.Exit.{Exit}
 use Rattle.blockcode.specs.declared.code.Exit.TheVariants as X
-use Rattle.blockcode.specs.Laid.{exit_lines, goto, goto_line, label_at, label_line, labels_of, laid_body, laid_from, params_of}
-use Rattle.plaincode.specs.Nodes.{nearest}
-use Rattle.plaincode.specs.Lowered.{assigns, block_of, body_of, lowered, op_statements, plain_function, range_at, range_of, ranges_of, statements, statements_in, variable_for}
-use Rattle.plaincode.specs.Form.{AreNarrow, IsLocalStorage, IsPlainForm}
+use Rattle.blockcode.specs.declared.code.Arm.{Arm}
+use Rattle.blockcode.specs.Laid.{branch_to, branches, exit_lines, goto, is_named, label_line, laid_body, laid_from, targets}
+use Rattle.layout.specs.Function.{params_of}
+use Rattle.plain_valid.specs.Function.{plain_function, plain_head}
+use Rattle.plain_valid.proofs.Valid.{plain_covered}
+use Rattle.plaincode.specs.Lowered.{assigns, block_of, body_of, lowered, op_statements, range_at, range_of, ranges_of, statements, statements_in, variable_for}
+use Rattle.plaincode.specs.Form.{AreNarrow, IsLocalStorage, IsLowerable}
 use Rattle.plaincode.proofs.Nodes.{nearest_is}
 
 module _ (l : Listing) (ws : ℕ → ℕ) where
@@ -39,8 +44,8 @@ module _ (l : Listing) (ws : ℕ → ℕ) where
   abbrev Fit : List Stmt → Type 0
   Fit ss = body_fits l ws ss ≡ true
 
-  fits_layer : (s : Stmt) (y : Stmt-F Stmt Arm) → roll-Stmt y ≡ s
-      → stmt_fits l ws s ≡ fits_step l ws (map-Stmt Stmt Arm Bool Bool (stmt_fits l ws) (arm_fits l ws) y)
+  fits_layer : (s : Stmt) (y : Stmt-F Stmt Branch) → roll-Stmt y ≡ s
+      → stmt_fits l ws s ≡ fits_step l ws (map-Stmt Stmt Branch Bool Bool (stmt_fits l ws) (arm_fits l ws) y)
   unfolding stmt_fits arm_fits
   fits_layer s y is = ap (stmt_fits l ws) (sym is) ∙ fold-roll-Stmt Bool Bool (fits_step l ws) arm_step y
 
@@ -53,19 +58,29 @@ module _ (l : Listing) (ws : ℕ → ℕ) where
       let both = and_parts (stmt_fits l ws x) (body_fits l ws xs) h in
       ap (λ b. b && body_fits l ws (xs ++ ys)) both.0 ∙ append_fits xs ys both.1 g
 
-  label_fits : (o : Option ℕ) → Fit (label_line o)
-  label_fits None = refl
-  label_fits (Some n) = one_fits (S.Label n) (fits_layer (S.Label n) (Stmt-F.Label n) (S.rolls-Label n))
+  label_fits : (b : Bool) (n : ℕ) → Fit (label_line b n)
+  label_fits false n = refl
+  label_fits true n = one_fits (S.Label n) (fits_layer (S.Label n) (Stmt-F.Label n) (S.rolls-Label n))
 
-  goto_fits : (o : Option ℕ) → Fit (goto_line o)
-  goto_fits None = refl
-  goto_fits (Some n) = one_fits (S.Goto n) (fits_layer (S.Goto n) (Stmt-F.Goto n) (S.rolls-Goto n))
+  goto_fits : (n : ℕ) → Fit (S.Goto n ∷ [])
+  goto_fits n = one_fits (S.Goto n) (fits_layer (S.Goto n) (Stmt-F.Goto n) (S.rolls-Goto n))
 
-  jump_fits : (labels : List (Option ℕ)) (next to : ℕ) → Fit (goto labels next to)
-  jump_fits labels next to = by (to == next) where
-    by : (same : Bool) → Fit (cond same [] (goto_line (label_at labels to)))
+  jump_fits : (next to : ℕ) → Fit (goto next to)
+  jump_fits next to = by (to == next) where
+    by : (same : Bool) → Fit (cond same [] (S.Goto to ∷ []))
     by true = refl
-    by false = goto_fits (label_at labels to)
+    by false = goto_fits to
+
+  arm_fits_is : (a : Branch) → arm_fits l ws a ≡ body_fits l ws a.body
+  unfolding stmt_fits arm_fits
+  arm_fits_is a = fold_out-Arm Bool Bool (fits_step l ws) arm_step a
+
+  branches_fit : (arms : List Arm) (ts : List ℕ) → all_true (map (arm_fits l ws) (map (branch_to arms) ts)) ≡ true
+  branches_fit arms [] = refl
+  branches_fit arms (t ∷ ts) =
+      ap (λ b. b && all_true (map (arm_fits l ws) (map (branch_to arms) ts)))
+      (arm_fits_is (branch_to arms t) ∙ goto_fits t)
+      ∙ branches_fit arms ts
 
   if_fits : (c : Expr) (body : List Stmt) → Fit body → Fit (S.If c body ∷ [])
   if_fits c body h = one_fits (S.If c body) (fits_layer (S.If c body) (Stmt-F.If c body) (S.rolls-If c body) ∙ h)
@@ -73,35 +88,36 @@ module _ (l : Listing) (ws : ℕ → ℕ) where
   return_fits : (e : Option Expr) → Fit (S.Return e ∷ [])
   return_fits e = one_fits (S.Return e) (fits_layer (S.Return e) (Stmt-F.Return e) (S.rolls-Return e))
 
-  exit_fits : (labels : List (Option ℕ)) (next : ℕ) (e : Exit) → Fit (exit_lines labels next e)
-  exit_fits labels next (X.Return e) = return_fits e
-  exit_fits labels next (X.Jump to) = jump_fits labels next to
-  exit_fits labels next (X.Test c taken other) =
-      append_fits (S.If c (goto_line (label_at labels taken)) ∷ []) (goto labels next other)
-      (if_fits c (goto_line (label_at labels taken)) (goto_fits (label_at labels taken))) (jump_fits labels next other)
-  exit_fits labels next (X.Switch e arms) = refl
-  exit_fits labels next X.Stop = refl
+  exit_fits : (next : ℕ) (e : Exit) → Fit (exit_lines next e)
+  exit_fits next (X.Return e) = return_fits e
+  exit_fits next (X.Jump to) = jump_fits next to
+  exit_fits next (X.Test c taken other) =
+      append_fits (S.If c (S.Goto taken ∷ []) ∷ []) (goto next other) (if_fits c (S.Goto taken ∷ []) (goto_fits taken))
+      (jump_fits next other)
+  exit_fits next (X.Switch e arms) = one_fits (S.Switch e (branches arms))
+      (fits_layer (S.Switch e (branches arms)) (Stmt-F.Switch e (branches arms)) (S.rolls-Switch e (branches arms))
+      ∙ branches_fit arms (targets arms))
+  exit_fits next X.Stop = refl
 
   abbrev BlocksFit : List Block → Type 0
   BlocksFit [] = Unit {0}
   BlocksFit (x ∷ xs) = Fit x.body × BlocksFit xs
 
-  blocks_fit : (labels : List (Option ℕ)) (n : ℕ) (blocks : List Block)
+  blocks_fit : (named : ℕ → Bool) (n : ℕ) (blocks : List Block)
       → BlocksFit blocks
-      → Fit (laid_from labels n blocks)
-  blocks_fit labels n [] h = refl
-  blocks_fit labels n (x ∷ xs) h =
-      let ex = exit_lines labels (suc n) x.exit in
-      let rest = laid_from labels (suc n) xs in
-      append_fits (label_line (label_at labels n)) (x.body ++ (ex ++ rest)) (label_fits (label_at labels n))
+      → Fit (laid_from named n blocks)
+  blocks_fit named n [] h = refl
+  blocks_fit named n (x ∷ xs) h =
+      let ex = exit_lines (suc n) x.exit in
+      let rest = laid_from named (suc n) xs in
+      append_fits (label_line (named n) n) (x.body ++ (ex ++ rest)) (label_fits (named n) n)
       (append_fits x.body (ex ++ rest) h.0
-      (append_fits ex rest (exit_fits labels (suc n) x.exit) (blocks_fit labels (suc n) xs h.1)))
+      (append_fits ex rest (exit_fits (suc n) x.exit) (blocks_fit named (suc n) xs h.1)))
 
   -- the lines of a code fit where its statements do
   laid_fits : (k : Code) → BlocksFit k.blocks → Fit (laid_body k)
-  laid_fits k h =
-      append_fits (goto (labels_of k) 0 k.entry) (laid_from (labels_of k) 0 k.blocks)
-      (jump_fits (labels_of k) 0 k.entry) (blocks_fit (labels_of k) 0 k.blocks h)
+  laid_fits k h = append_fits (goto 0 k.entry) (laid_from (is_named k) 0 k.blocks) (jump_fits 0 k.entry)
+      (blocks_fit (is_named k) 0 k.blocks h)
 
   -- ---- statements
 
@@ -152,11 +168,11 @@ in_spaces l (a ∷ atoms) narrow inside =
 
 -- The C function of the plain lowering fits the listing.
 pub plain_fits : (l : Listing) (t : List TableAt) (blocks : List flow_block.Block) (atoms : List Atom)
-    → IsPlainForm l t blocks atoms → Fits l (plain_function l blocks atoms)
-plain_fits l t blocks atoms form =
-    let ranges = ranges_of l atoms in
-    record {
-      params = in_spaces l atoms form.narrow form.table.inside;
-      body = laid_fits l (widths_in (plain_function l blocks atoms)) (lowered l blocks atoms)
-          (blocks_of_fit l (widths_in (plain_function l blocks atoms)) ranges blocks);
-    }
+    → IsLowerable l t blocks atoms
+    → length atoms ≤ 2 ^ 32
+    → Fits l (plain_function l blocks atoms)
+plain_fits l t blocks atoms form few =
+    let k = lowered l blocks atoms in
+    let h = plain_head l k in
+    named_fits l h (laid_body k) (plain_covered l t blocks atoms form few) (in_spaces l atoms form.narrow form.table.inside)
+    (laid_fits l (widths_of h) k (blocks_of_fit l (widths_of h) (ranges_of l atoms) blocks))

@@ -1,6 +1,5 @@
 pub mod Shapes
 pub mod Statements
-pub mod Lines
 pub mod Lowering
 pub mod Long
 pub mod Valid

@@ -1,5 +1,5 @@
 -- The C function of the plain lowering is a valid tree.
-use Rattle.std.proofs.Common.{◌≡◌, ℕ, zero, suc, ◌≤◌, ◌^◌, true, false, List, [], ◌∷◌, length, map, Option, Some, refl, sym, ap, ◌∙◌, arith}
+use Rattle.std.proofs.Common.{◌≡◌, ℕ, zero, suc, ◌+◌, ◌≤◌, ◌^◌, true, false, List, [], ◌∷◌, length, map, Option, Some, refl, sym, ap, ◌∙◌, arith}
 use Rattle.std.specs.Prelude.{Bool, IsTrue, ℤ, slice_get, ◌&&◌, ◌<ℤ◌}
 use Rattle.std.specs.Int.Signed.{lt_z}
 use Rattle.std.proofs.lemmas.Option.{slice_get_within}
@@ -19,15 +19,21 @@ use Rattle.cmeaning.specs.declared.tree.Local as tree
 use Rattle.cmeaning.specs.Do.{variable_width}
 use Rattle.cmeaning.specs.Valid.{is_name, is_storage, is_before, precedes_all, are_params, IsValid}
 use Rattle.cmeaning.proofs.Order.{before_chain}
-use Rattle.blockcode.specs.Laid.{params_of, locals_of}
+use Rattle.naming.specs.declared.head.Head.{Head}
+use Rattle.naming_laws.specs.Covered.{IsCovered}
+use Rattle.blockcode.specs.Laid.{laid_body}
+use Rattle.layout_laws.specs.Suits.{AllSuit, Declares}
+use Rattle.layout_laws.proofs.Covered.{laid_covered}
+use Rattle.layout_laws.proofs.Obeys.{laid_valid}
+use Rattle.layout.specs.Function.{params_of, locals_of}
 use Rattle.plaincode.specs.Nodes.{width_by}
-use Rattle.plaincode.specs.Lowered.{range_of, ranges_of, variable_of, variable_for, lowered, result_width, plain_function}
-use Rattle.plaincode.specs.Form.{AreNarrow, IsPlainForm}
+use Rattle.plaincode.specs.Lowered.{range_of, ranges_of, variable_of, variable_for, lowered}
+use Rattle.plaincode.specs.Form.{AreNarrow, IsLowerable}
 use Rattle.plaincode.proofs.Nodes.{nearest_is}
 use Rattle.plaincode.proofs.Operands.{found}
-use Rattle.plaincode.proofs.Laying.{map_length}
+use Rattle.plaincode.proofs.Laying.{can_lay}
+use Rattle.plain_valid.specs.Function.{plain_function, plain_head}
 use Rattle.plain_valid.specs.Long.{IsLong, AreLong}
-use Rattle.plain_valid.proofs.Lines.{laid_valid}
 use Rattle.plain_valid.proofs.Lowering.{Setting, blocks_suit}
 use Rattle.plaincode.proofs.Keeps.{range_size}
 
@@ -113,45 +119,68 @@ width_at l (a ∷ atoms) zero v o all e =
     nearest_is a.size (all.0.1).0 (all.0.1).1 ∙ sym (range_size l a.storage a.size) ∙ ap (λ (w : Varnode). w.size) r
 width_at l (a ∷ atoms) (suc n) v o all e = width_at l atoms n v o all.1 e
 
-setting : (l : Listing) (blocks : List flow_block.Block) (atoms : List Atom)
-    → AreNarrow atoms
-    → length atoms ≤ 2 ^ 32
-    → Setting l (ranges_of l atoms) (plain_function l blocks atoms)
-setting l blocks atoms narrow few =
-    let ranges = ranges_of l atoms in
-    record {
-      few = omega (arith, few, params_length atoms);
-      parameters = λ v h.
-          let e = found ranges v h in
-          record {
-            within = omega (
-              arith,
-              slice_get_within ranges (variable_of ranges v) v e,
-              ranges_length l atoms,
-              params_length atoms,
-            );
-            width = width_at l atoms (variable_of ranges v) v _ narrow e;
-          };
-      gives = refl;
-    }
+module _ (l : Listing) (blocks : List flow_block.Block) (atoms : List Atom) where
+  abbrev head : Head
+  head = plain_head l (lowered l blocks atoms)
 
--- ---- the whole
+  setting : AreNarrow atoms → length atoms ≤ 2 ^ 32 → Setting l (ranges_of l atoms) head
+  setting narrow few =
+      let ranges = ranges_of l atoms in
+      record {
+        few = omega (arith, few, params_length atoms);
+        parameters = λ v h.
+            let e = found ranges v h in
+            record {
+              within = omega (
+                arith,
+                slice_get_within ranges (variable_of ranges v) v e,
+                ranges_length l atoms,
+                params_length atoms,
+              );
+              width = width_at l atoms (variable_of ranges v) v _ narrow e;
+            };
+        gives = refl;
+      }
+
+  few_variables : length atoms ≤ 2 ^ 32 → length head.params + length head.locals ≤ 2 ^ 32
+  few_variables few = omega (arith, few, params_length atoms, ap length (no_locals atoms))
+
+  -- the head declares the code's variables
+  pub plain_declares : Declares (lowered l blocks atoms).variables head.params head.locals
+  plain_declares = each atoms where
+    each : (xs : List Atom)
+        → Declares (map variable_for xs) (params_of (map variable_for xs)) (locals_of (map variable_for xs))
+    each [] = tt
+    each (x ∷ xs) = ((refl, refl), each xs)
+
+  -- ---- the whole
+
+  module _ (t : List TableAt) (form : IsLowerable l t blocks atoms) (few : length atoms ≤ 2 ^ 32) where
+    suit : AllSuit head (lowered l blocks atoms).blocks
+    suit = blocks_suit l (ranges_of l atoms) head t (starts_of blocks) (setting form.narrow few) blocks
+        (λ q h. form.plain q ((form.flow.each q).0 h)) form.flow.run
+
+    covered : IsCovered head (laid_body (lowered l blocks atoms))
+    covered = laid_covered head (lowered l blocks atoms) (few_variables few)
+        (can_lay (λ a. true) l t blocks atoms form).numbers.few suit
+
+-- The head of the plain lowering covers its body.
+pub plain_covered : (l : Listing) (t : List TableAt) (blocks : List flow_block.Block) (atoms : List Atom)
+    → IsLowerable l t blocks atoms
+    → length atoms ≤ 2 ^ 32
+    → IsCovered (plain_head l (lowered l blocks atoms)) (laid_body (lowered l blocks atoms))
+plain_covered l t blocks atoms form few = covered l blocks atoms t form few
 
 -- Where the atoms stand in their order, at numbers of 64 bits, are no more than numbers of 32 bits, and the name has the
 -- form of one.
 pub plain_valid : (l : Listing) (t : List TableAt) (blocks : List flow_block.Block) (atoms : List Atom)
-    → IsPlainForm l t blocks atoms
+    → IsLowerable l t blocks atoms
     → InOrder atoms
     → AreLong atoms
     → length atoms ≤ 2 ^ 32
     → IsTrue (is_name l.func.name)
     → IsValid (plain_function l blocks atoms)
 plain_valid l t blocks atoms form order long few named =
-    let f = plain_function l blocks atoms in
-    let ranges = ranges_of l atoms in
-    let set = setting l blocks atoms form.narrow few in
-    laid_valid l.func.name (result_width l) (lowered l blocks atoms) named (params_right atoms long order)
-    (no_locals atoms)
-    (omega (arith, form.few, map_length l ranges blocks))
-    (λ labels. blocks_suit l ranges f labels t (starts_of blocks) set blocks
-    (λ q h. form.plain q ((form.flow.each q).0 h)) form.flow.run)
+    laid_valid (plain_head l (lowered l blocks atoms)) (lowered l blocks atoms)
+    (can_lay (λ a. true) l t blocks atoms form).numbers (suit l blocks atoms t form few)
+    (few_variables l blocks atoms few) named (params_right atoms long order) refl

@@ -14,23 +14,23 @@ use Rattle.pcode_model.specs.declared.atoms.Atom.{Atom}
 use Rattle.pcode_model.specs.declared.flow.Exit as flow_exit
 use Rattle.pcode_model.specs.declared.flow.Exit.TheVariants as F
 use Rattle.pcode_model.specs.declared.flow.Block as flow_block
+use Rattle.pcode_model.specs.Spaces.{or}
 use Rattle.pcode_model.specs.Places.{Standing, Nothing, Passes, Does, standing}
 use Rattle.pcode_model.specs.Step.{first_place}
 use Rattle.pcode_model.specs.Flow.{IsIn, IsFlow, turn_of, turn_in, next_in, IsStart, JumpsTo, TestsTo, LeavesBy, RunsBlock, AllRun, starts_of, places_of, first_in, Entry}
 use Rattle.cmeaning.specs.declared.tree.Expr.{Expr}
 use Rattle.cmeaning.specs.declared.tree.Stmt.{Stmt}
 use Rattle.cmeaning.specs.Do.{callee_of}
-use Rattle.cmeaning.specs.Flat.{returns_by}
 use Rattle.cmeaning.proofs.Do.{callee_of_assign}
 use Rattle.cmeaning.proofs.Flat.{piece_of_assign}
 use Rattle.blockcode.specs.declared.code.Exit.{Exit}
 use Rattle.blockcode.specs.declared.code.Exit.TheVariants as X
 use Rattle.blockcode.specs.declared.code.Block.{Block}
 use Rattle.blockcode.specs.Numbers.{ExitBelow, ExitsBelow}
-use Rattle.blockcode.specs.Plain.{AllSimple, AreParams, AreSimple, CanLay, IsDirect, IsSimple}
-use Rattle.plaincode.specs.Lowered.{ranges_of, variable_for, variable_of, assigns, op_statements, statements_in, statements, body_of, exit_by, exit_of, block_of, same_place, place_number, lowered}
-use Rattle.plaincode.specs.Form.{IsPlainOp, IsPlain, IsPlainForm}
-use Rattle.plaincode.proofs.Members.{behind}
+use Rattle.blockcode.specs.CanLay.{AllSimple, AreSimple, CanLay, CanLeave, IsSimple, any_switch, has_switch, is_switch}
+use Rattle.plaincode.specs.Lowered.{ranges_of, variable_of, assigns, op_statements, statements_in, statements, body_of, condition_in, exit_by, exit_of, block_of, same_place, place_number, lowered}
+use Rattle.plaincode.specs.Form.{IsPlainOp, IsPlain, IsLowerable}
+use Rattle.instructions.proofs.Members.{behind}
 use Rattle.plaincode.proofs.Follows.{in_block}
 
 -- ---- statements are assignments
@@ -87,21 +87,21 @@ start_below starts to n h = slice_get_within starts n h.0 h.1.1
 
 -- what is asked of an exit
 abbrev Fits : ℕ → Exit → Type 0
-Fits n e = IsDirect e × ExitBelow n e
+Fits n e = ((ss : List Stmt) → CanLeave ss e) × ExitBelow n e
 
 module _ (l : Listing) (ranges : List Varnode) where
   jump_fits : (here : Standing) (starts : List Place) (to : Option Place) (e : flow_exit.Exit)
       → JumpsTo starts to e
       → Fits (length starts) (exit_by l ranges here e)
   jump_fits here starts to F.Return h = absurd h
-  jump_fits here starts to (F.Jump n) h = (tt, start_below starts to n h)
+  jump_fits here starts to (F.Jump n) h = (λ ss. tt, start_below starts to n h)
   jump_fits here starts to (F.Test m n) h = absurd h
   jump_fits here starts to (F.Switch t ns) h = absurd h
   jump_fits here starts to F.Stop h = absurd h
 
   test_if : (n : ℕ) (c : Expr) (a b : ℕ) (same : Bool) → a < n → b < n → Fits n (cond same (X.Jump a) (X.Test c a b))
-  test_if n c a b true la lb = (tt, la)
-  test_if n c a b false la lb = (tt, (la, lb))
+  test_if n c a b true la lb = (λ ss. tt, la)
+  test_if n c a b false la lb = (λ ss. tt, (la, lb))
 
   test_fits : (here : Standing) (starts : List Place) (to next : Option Place) (e : flow_exit.Exit)
       → TestsTo starts to next e
@@ -115,7 +115,7 @@ module _ (l : Listing) (ranges : List Varnode) where
 
   return_fits : (here : Standing) (n : ℕ) (e : flow_exit.Exit) → e ≡ F.Return → Fits n (exit_by l ranges here e)
   return_fits here n e h = let P : flow_exit.Exit → Type 0 = λ x. Fits n (exit_by l ranges here x) in
-      subst P (sym h) (tt, tt)
+      subst P (sym h) (λ ss. tt, tt)
 
   op_fits : (t : List TableAt) (starts : List Place) (p : Place) (i : Instruction) (here : Standing) (code : Opcode)
       (out : Option Varnode) (vs : List Varnode) (e : flow_exit.Exit)
@@ -217,17 +217,13 @@ pub entry_found : (l : Listing) (t : List TableAt) (blocks : List flow_block.Blo
 entry_found l t blocks flow = number_found (starts_of blocks) (first_place l)
     ((flow.starts.each (first_place l)).1 Entry)
 
--- ---- the rest
+-- ---- the whole
 
-are_params : (atoms : List Atom) → AreParams (map variable_for atoms)
-are_params [] = tt
-are_params (a ∷ atoms) = (tt, are_params atoms)
-
--- The code can be laid out.
-pub can_lay : (l : Listing) (t : List TableAt) (blocks : List flow_block.Block) (atoms : List Atom)
-    → IsPlainForm l t blocks atoms
-    → CanLay (lowered l blocks atoms)
-can_lay l t blocks atoms form =
+-- The code can be laid out, whichever callees are said to return: it calls none.
+pub can_lay : (returns : ℕ → Bool) (l : Listing) (t : List TableAt) (blocks : List flow_block.Block) (atoms : List Atom)
+    → IsLowerable l t blocks atoms
+    → CanLay returns (lowered l blocks atoms)
+can_lay returns l t blocks atoms form =
     let ranges = ranges_of l atoms in
     let starts = starts_of blocks in
     let many : length starts ≡ length blocks = as_many l t starts blocks form.flow.run in
@@ -248,7 +244,35 @@ can_lay l t blocks atoms form =
         );
         exits = exits_below (length (map (block_of l ranges) blocks)) (map (block_of l ranges) blocks) below;
       };
-      simple = blocks_simple l ranges (returns_by []) blocks;
-      direct = λ n x e. (fits n x e).0;
-      params = are_params atoms;
+      simple = blocks_simple l ranges returns blocks;
+      leaves = λ n x e. (fits n x e).0 x.body;
     }
+
+-- ---- no switch yet
+
+module _ (l : Listing) (ranges : List Varnode) where
+  no_switch_by : (here : Standing) (e : flow_exit.Exit) → is_switch (exit_by l ranges here e) ≡ false
+  no_switch_by here F.Return = refl
+  no_switch_by here (F.Jump n) = refl
+  no_switch_by here (F.Test m n) = by (condition_in l ranges here) (m == n) where
+    by : (c : Expr) (same : Bool) → is_switch (cond same (X.Jump m) (X.Test c m n)) ≡ false
+    by c true = refl
+    by c false = refl
+  no_switch_by here (F.Switch t ns) = refl
+  no_switch_by here F.Stop = refl
+
+  no_switch_of : (ps : List Place) (e : flow_exit.Exit) → is_switch (exit_of l ranges ps e) ≡ false
+  no_switch_of [] e = refl
+  no_switch_of (p ∷ []) e = no_switch_by (standing l p) e
+  no_switch_of (p ∷ q ∷ ps) e = no_switch_of (q ∷ ps) e
+
+  none_switches : (blocks : List flow_block.Block) → any_switch (map (block_of l ranges) blocks) ≡ false
+  none_switches [] = refl
+  none_switches (b ∷ blocks) =
+      ap (λ t. or t (any_switch (map (block_of l ranges) blocks))) (no_switch_of b.places b.exit)
+      ∙ none_switches blocks
+
+-- The code has no switch.
+pub no_switch : (l : Listing) (blocks : List flow_block.Block) (atoms : List Atom)
+    → has_switch (lowered l blocks atoms) ≡ false
+no_switch l blocks atoms = none_switches l (ranges_of l atoms) blocks

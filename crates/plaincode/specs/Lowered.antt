@@ -22,13 +22,11 @@ use Rattle.cmeaning.specs.declared.tree.Expr.{Expr}
 use Rattle.cmeaning.specs.declared.tree.Expr.TheVariants as E
 use Rattle.cmeaning.specs.declared.tree.Stmt.{Stmt}
 use Rattle.cmeaning.specs.declared.tree.Stmt.TheVariants as S
-use Rattle.cmeaning.specs.declared.tree.CFunction.{CFunction}
 use Rattle.blockcode.specs.declared.code.Variable.{Variable}
 use Rattle.blockcode.specs.declared.code.Exit.{Exit}
 use Rattle.blockcode.specs.declared.code.Exit.TheVariants as X
 use Rattle.blockcode.specs.declared.code.Block.{Block}
 use Rattle.blockcode.specs.declared.code.Code.{Code}
-use Rattle.blockcode.specs.Laid.{laid_out}
 use Rattle.plaincode.specs.Nodes.{width_by, constant, unary_node, binary_node}
 
 -- ---- variables
@@ -139,7 +137,7 @@ lowered l blocks atoms = record {
   entry = place_number (starts_of blocks) (first_place l);
 }
 
--- ---- the function
+-- ---- the result
 
 abbrev pub width_of_result : Option Varnode → Option Width
 width_of_result None = None
@@ -148,7 +146,3 @@ width_of_result (Some v) = Some (width_by v.size)
 -- the function's result has the width that its prototype says
 abbrev pub result_width : Listing → Option Width
 result_width l = width_of_result (proto_of l None).gives
-
--- the C function of the plain lowering
-abbrev pub plain_function : Listing → List flow_block.Block → List Atom → CFunction
-plain_function l blocks atoms = laid_out l.func.name (result_width l) (lowered l blocks atoms)

@@ -1,5 +1,5 @@
 -- Blocks and where they begin.
-use Rattle.std.proofs.Common.{◌≡◌, ◌≤◌, ◌+◌, ℕ, List, [], ◌∷◌, length, length-append, refl, arith}
+use Rattle.std.proofs.Common.{◌≡◌, ◌≤◌, List, [], ◌∷◌, length, length-append, refl, arith}
 use Rattle.pcode_model.specs.declared.flow.Block.{Block}
 use Rattle.pcode_model.specs.declared.flow.Exit.{Exit}
 use Rattle.pcode_model.specs.declared.listing.Listing.{Listing}

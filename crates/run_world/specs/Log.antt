@@ -9,7 +9,13 @@ use Rattle.run_world.specs.declared.log.Log.{Log}
 
 -- the world of a memory, of a list of answers of which the log has taken the first ones, and of the log
 abbrev pub world_of : {M : Type 0} → M → List Answer → Log → World M
-world_of m answers log = record { memory = m; answers = map answer_of (drop log.taken answers); events = map event_of log.events; over = over_of log.end }
+world_of m answers log =
+    record {
+      memory = m;
+      answers = map answer_of (drop log.taken answers);
+      events = map event_of log.events;
+      over = over_of log.end;
+    }
 
 -- what came of a change of memory: the memory after it, or the end that it met
 abbrev pub made : {A M : Type 0} → Result A End → M → Result M T.End

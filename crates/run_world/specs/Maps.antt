@@ -20,7 +20,8 @@ bytes_of m s o = or_else (at m s o) 0
 
 -- the bytes with the first k bytes of a list in a space from an offset on
 abbrev pub over : ℕ → ℕ → ℕ → List ℕ → (ℕ → ℕ → Option ℕ) → ℕ → ℕ → Option ℕ
-over space offset k bytes f s o = if space == s && (nat_le offset o && nat_lt o (offset + k)) then slice_get bytes (o - offset) else f s o
+over space offset k bytes f s o =
+    if space == s && (nat_le offset o && nat_lt o (offset + k)) then slice_get bytes (o - offset) else f s o
 
 -- the least offset past this one at which the space has a byte
 abbrev pub IsNextAfter : ByteMap → ℕ → ℕ → Option ℕ → Type 0

@@ -45,7 +45,8 @@ abbrev pub registers_of : Answer → ℕ → ℕ
 registers_of a o = or_else (with_offsets a.registers (λ p. None) o) 0
 
 abbrev pub answer_of : Answer → W.Answer
-answer_of a = record { word = a.word; registers = registers_of a; memory = map written a.memory; hidden = map hidden a.hidden }
+answer_of a =
+    record { word = a.word; registers = registers_of a; memory = map written a.memory; hidden = map hidden a.hidden }
 
 -- ---- entries
 
@@ -54,7 +55,9 @@ abbrev pub first_bytes : Listing → List Byte → Bytes
 first_bytes l bs s o = or_else (with_bytes bs (fixed_byte l) s o) 0
 
 abbrev pub entry_of : Listing → Entry → W.Entry
-entry_of l e = record { bytes = first_bytes l e.state; hidden = with_offsets e.hidden (λ o. None); answers = map answer_of e.answers }
+entry_of l e =
+    record
+    { bytes = first_bytes l e.state; hidden = with_offsets e.hidden (λ o. None); answers = map answer_of e.answers }
 
 -- ---- traces
 

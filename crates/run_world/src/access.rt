@@ -51,7 +51,8 @@ impl ByteMap {
         bytes: &[u8],
     ) -> Result<(), Memory>
         requires { offset ≤ shape.last }
-        ensures { OnOk result (bytes_of self.new ≡ each_at (size shape) (put_in space) offset bytes.now (bytes_of self.old)) }
+        ensures { OnOk result
+            (bytes_of self.new ≡ each_at (size shape) (put_in space) offset bytes.now (bytes_of self.old)) }
     {
         let mut here = offset;
         for b in bytes {

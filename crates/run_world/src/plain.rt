@@ -35,7 +35,9 @@ pub fn store(
     requires setting { IsSetting listing.now setting.now }
     requires shape { HasShape listing.now space shape }
     requires inside { address ≤ shape.last }
-    ensures { OnOk result ((answers : List Answer) → world_of (bytes_of memory.new) answers log.new ≡ store (plain listing.now) space address bytes (world_of (bytes_of memory.old) answers log.old)) }
+    ensures { OnOk result ((answers : List Answer)
+        → world_of (bytes_of memory.new) answers log.new
+        ≡ store (plain listing.now) space address bytes (world_of (bytes_of memory.old) answers log.old)) }
 {
     if setting.fixed.meets(shape, space, address, bytes.len()) {
         log.end = Some(End::ReadOnlyWrite);
@@ -82,7 +84,8 @@ pub fn take_answer<'a>(
     answers: &'a [Answer],
 ) -> Result<Option<&'a Answer>, Memory>
     requires { IsSetting listing.now setting.now }
-    ensures { IfOk result (λ answer. taken (option_copied answer) (world_of (bytes_of memory.new) answers.now log.new) ≡ take_answer (plain listing.now) (world_of (bytes_of memory.old) answers.now log.old)) }
+    ensures { IfOk result (λ answer. taken (option_copied answer) (world_of (bytes_of memory.new) answers.now log.new)
+        ≡ take_answer (plain listing.now) (world_of (bytes_of memory.old) answers.now log.old)) }
 {
     let Some(answer) = answers.get(log.taken) else {
         log.end = Some(End::NoAnswer);

@@ -28,7 +28,8 @@ pub struct Setting {
 // Puts the bytes of a read-only range in.
 fn put_fixed(map: &mut ByteMap, fixed: &Fixed) -> Result<(), Memory>
     requires { fixed.now.offset + length fixed.now.bytes ≤ 2 ^ 64 }
-    ensures { OnOk result (at map.new ≡ over fixed.now.space fixed.now.offset (length fixed.now.bytes) fixed.now.bytes (at map.old)) }
+    ensures { OnOk result
+        (at map.new ≡ over fixed.now.space fixed.now.offset (length fixed.now.bytes) fixed.now.bytes (at map.old)) }
 {
     let bytes = fixed.bytes.as_slice();
     for i in 0..bytes.len() {

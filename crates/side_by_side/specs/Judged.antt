@@ -8,7 +8,7 @@ use Rattle.cmeaning.specs.declared.tree.CFunction.{CFunction}
 use Rattle.cmeaning.specs.Agree.{AgreesWith}
 use Rattle.cmeaning.specs.Fits.{Fits}
 use Rattle.cmeaning.specs.Step.{seen_c}
-use Rattle.cread.specs.Answer.{IsTreeOf}
+use Rattle.exact_c.specs.Tree.{IsTreeOf}
 use Rattle.run_world.specs.declared.entry.Entry.{Entry}
 use Rattle.run_world.specs.Meaning.{entry_of}
 use Rattle.tracetext.specs.Text.{trace_text}

@@ -1,7 +1,7 @@
 //! The inputs in their order: the listing, the C text, the entry.
 
 ghost use Rattle.std.specs.Prelude.{◌≡◌, ◌≤◌, length, IfErr, IfOk};
-ghost use Rattle.cread.specs.Answer.{IsTreeOf};
+ghost use Rattle.exact_c.specs.Tree.{IsTreeOf};
 ghost use Rattle.pcode_model.specs.WellFormed.{IsWellFormed};
 ghost use Rattle.run_verdict.specs.Runs.{Runs};
 ghost use Rattle.entrytext.specs.Lies.{LiesIn};

@@ -3,3 +3,5 @@ pub mod Rows
 pub mod Lists
 pub mod Places
 pub mod Forms
+pub mod Tests
+pub mod Sum

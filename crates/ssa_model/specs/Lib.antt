@@ -3,6 +3,7 @@ pub mod Outline
 pub mod Paths
 pub mod Formed
 pub mod Lines
+pub mod Run
 pub mod Text
 pub mod Examples
 pub mod Worked

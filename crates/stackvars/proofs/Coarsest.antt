@@ -61,13 +61,15 @@ same_storage (P.Stack m) (P.Register n) a o = absurd (registers_stacked (sym a))
 same_storage (P.Stack m) (P.Unique n) a o = absurd (uniques_stacked (sym a))
 same_storage (P.Stack m) (P.Stack n) a o = ap P.Stack o
 
-same_atom : (a b : Atom) → a.storage ≡ b.storage → a.size ≡ b.size → a ≡ b
+pub same_atom : (a b : Atom) → a.storage ≡ b.storage → a.size ≡ b.size → a ≡ b
 same_atom a b s k =
     let left : ParamStorage → Atom = λ x. model.range x a.size in
     let right : ℕ → Atom = λ n. model.range b.storage n in
     ap left s ∙ ap right k
 
-plus_zero : (s : ParamStorage) (k : ℕ) (v : Varnode) (l : Listing) → range_at l s k ≡ Some v → offset_of s +ℤ pos 0 ≡ offset_of s
+plus_zero : (s : ParamStorage) (k : ℕ) (v : Varnode) (l : Listing)
+    → range_at l s k ≡ Some v
+    → offset_of s +ℤ pos 0 ≡ offset_of s
 plus_zero (P.Register o) k v l e = ap pos (omega arith)
 plus_zero (P.Unique o) k v l e = ap pos (omega arith)
 plus_zero (P.Stack o) k v l e = absurd (cc)
@@ -94,14 +96,18 @@ record IsOf (l : Listing) (r : Range) (v : Varnode) : Type 0 where
   range : range_of l r ≡ Some v
   accessed : Accesses l [] v
 
-accessed_as : (l : Listing) (s : ParamStorage) (k : ℕ) (v : Varnode) → IsOf l (model.range s k) v → IsAccessed l [] no_variables (model.range s k)
+accessed_as : (l : Listing) (s : ParamStorage) (k : ℕ) (v : Varnode)
+    → IsOf l (model.range s k) v
+    → IsAccessed l [] no_variables (model.range s k)
 accessed_as l (P.Register o) k v is = subst (λ x. Accesses l [] x) (sym (same_Some _ v is.range)) is.accessed
 accessed_as l (P.Unique o) k v is = subst (λ x. Accesses l [] x) (sym (same_Some _ v is.range)) is.accessed
 accessed_as l (P.Stack o) k v is = absurd (none (is.range)) where
   none : None ≡ Some v → ⊥
   none e = cc
 
-accessed_of : (l : Listing) (s : ParamStorage) (k : ℕ) → IsAccessed l [] no_variables (model.range s k) → (v : Varnode) × IsOf l (model.range s k) v
+accessed_of : (l : Listing) (s : ParamStorage) (k : ℕ)
+    → IsAccessed l [] no_variables (model.range s k)
+    → (v : Varnode) × IsOf l (model.range s k) v
 accessed_of l (P.Register o) k acc = (model.varnode (register_space l) o k, record { range = refl; accessed = acc })
 accessed_of l (P.Unique o) k acc = (model.varnode (unique_space l) o k, record { range = refl; accessed = acc })
 accessed_of l (P.Stack o) k acc = absurd acc.1.0
@@ -121,11 +127,15 @@ module _ (l : Listing) (u : IsUncut l) where
       → IsIn (range (register_space l) o k) (storage_ranges args)
   argument [] o k homes is = absurd is
   argument (At v ∷ rest) o k homes (inl e) = inl (is_at v (homes v (inl refl)) e) where
-    is_at : (v : Varnode) → v.space ≡ register_space l → model.range (P.Register o) k ≡ model.range (P.Register v.offset) v.size → range (register_space l) o k ≡ v
+    is_at : (v : Varnode)
+        → v.space ≡ register_space l
+        → model.range (P.Register o) k ≡ model.range (P.Register v.offset) v.size
+        → range (register_space l) o k ≡ v
     is_at v s e =
         let f : o ≡ v.offset = same_register o v.offset (storage_is _ _ e) in
         let g : k ≡ v.size = ap (λ (x : Atom). x.size) e in
-        ap (λ (n : ℕ). range n o k) (sym s) ∙ (ap (λ (n : ℕ). range v.space n k) f ∙ ap (λ (n : ℕ). range v.space v.offset n) g)
+        ap (λ (n : ℕ). range n o k) (sym s)
+        ∙ (ap (λ (n : ℕ). range v.space n k) f ∙ ap (λ (n : ℕ). range v.space v.offset n) g)
   argument (At v ∷ rest) o k homes (inr is) = inr (argument rest o k (λ w h. homes w (inr h)) is)
   argument (Stack offset size ∷ rest) o k homes (inl e) = absurd (register_stack o (pos offset) (storage_is _ _ e))
   argument (Stack offset size ∷ rest) o k homes (inr is) = argument rest o k homes is
@@ -147,7 +157,10 @@ module _ (l : Listing) (u : IsUncut l) where
   cut_apart (P.Register o) k v w e (inl h) acc = u.apart v w (subst (λ x. Accesses l [] x) (same_Some _ v e) h) acc
   cut_apart (P.Unique o) k v w e (inl h) acc = u.apart v w (subst (λ x. Accesses l [] x) (same_Some _ v e) h) acc
   cut_apart (P.Register o) k v w e (inr (inl h)) acc =
-      u.arguments v w (subst (λ x. IsIn x (storage_ranges (proto_of l None).args)) (same_Some _ v e) (argument (proto_of l None).args o k u.registers h)) acc
+      u.arguments v w
+      (subst (λ x. IsIn x (storage_ranges (proto_of l None).args)) (same_Some _ v e)
+      (argument (proto_of l None).args o k u.registers h))
+      acc
   cut_apart (P.Unique o) k v w e (inr (inl h)) acc = absurd (no_unique (proto_of l None).args o k h)
   cut_apart (P.Register o) k v w e (inr (inr h)) acc = absurd (no_kept l.protos u.keeps _ h)
   cut_apart (P.Unique o) k v w e (inr (inr h)) acc = absurd (no_kept l.protos u.keeps _ h)
@@ -192,13 +205,15 @@ module _ (l : Listing) (u : IsUncut l) where
       let v : Varnode = range (register_space l) p k in
       let f : o ≡ w.offset = ap (λ (x : Varnode). x.offset) same in
       let g : j ≡ w.size = ap (λ (x : Varnode). x.size) same in
-      end_outside v w (o + d) (cut_apart (P.Register p) k v w refl cuts acc) (ap (λ (x : Varnode). x.space) same) (end_at o p d k end.1) (omega arith) (omega arith)
+      end_outside v w (o + d) (cut_apart (P.Register p) k v w refl cuts acc) (ap (λ (x : Varnode). x.space) same)
+      (end_at o p d k end.1) (omega arith) (omega arith)
   uncut_by (P.Unique o) (P.Unique p) j k w e acc d some less cuts end =
       let same = same_Some _ w e in
       let v : Varnode = range (unique_space l) p k in
       let f : o ≡ w.offset = ap (λ (x : Varnode). x.offset) same in
       let g : j ≡ w.size = ap (λ (x : Varnode). x.size) same in
-      end_outside v w (o + d) (cut_apart (P.Unique p) k v w refl cuts acc) (ap (λ (x : Varnode). x.space) same) (end_at o p d k end.1) (omega arith) (omega arith)
+      end_outside v w (o + d) (cut_apart (P.Unique p) k v w refl cuts acc) (ap (λ (x : Varnode). x.space) same)
+      (end_at o p d k end.1) (omega arith) (omega arith)
   uncut_by (P.Register o) (P.Unique p) j k w e acc d some less cuts end = registers_uniques (sym end.0)
   uncut_by (P.Register o) (P.Stack p) j k w e acc d some less cuts end = registers_stacked (sym end.0)
   uncut_by (P.Unique o) (P.Register p) j k w e acc d some less cuts end = registers_uniques end.0
@@ -213,7 +228,8 @@ module _ (l : Listing) (u : IsUncut l) where
       → d < r.size
       → IsCut l [] no_variables (area_of r.storage) (offset_of r.storage +ℤ pos d)
       → ⊥
-  uncut r w is d some less cut = uncut_by r.storage cut.0.storage r.size cut.0.size w is.range is.accessed d some less cut.1.0 cut.1.1
+  uncut r w is d some less cut =
+      uncut_by r.storage cut.0.storage r.size cut.0.size w is.range is.accessed d some less cut.1.0 cut.1.1
 
   -- ---- an access is an atom
 
@@ -254,7 +270,11 @@ module _ (l : Listing) (u : IsUncut l) where
       (subst (λ (x : Area). IsCut l [] no_variables x (offset_of r.storage +ℤ pos d)) a
       (subst (λ (x : ℤ). IsCut l [] no_variables area x) e cut))
 
-  plus_plus : (s : ParamStorage) (k : ℕ) (v : Varnode) → range_at l s k ≡ Some v → (o : ℤ) (d n : ℕ) → o ≡ offset_of s +ℤ pos d → o +ℤ pos n ≡ offset_of s +ℤ pos (d + n)
+  plus_plus : (s : ParamStorage) (k : ℕ) (v : Varnode)
+      → range_at l s k ≡ Some v
+      → (o : ℤ) (d n : ℕ)
+      → o ≡ offset_of s +ℤ pos d
+      → o +ℤ pos n ≡ offset_of s +ℤ pos (d + n)
   plus_plus (P.Register p) k v e o d n is = ap (λ (x : ℤ). x +ℤ pos n) is ∙ ap pos (omega arith)
   plus_plus (P.Unique p) k v e o d n is = ap (λ (x : ℤ). x +ℤ pos n) is ∙ ap pos (omega arith)
   plus_plus (P.Stack p) k v e o d n is = absurd (cc)
@@ -270,9 +290,11 @@ module _ (l : Listing) (u : IsUncut l) where
       let first : d ≡ 0 = zero_or_more d (λ more. cut_at r w _ _ d is area o p.begins more (omega arith)) in
       let last : d + a.size ≡ r.size =
       whole_size (d + a.size) r.size fits
-      (λ less. cut_at r w _ _ (d + a.size) is area (plus_plus r.storage r.size w is.range _ d a.size o) p.ends (omega arith) less)
+      (λ less. cut_at r w _ _ (d + a.size) is area (plus_plus r.storage r.size w is.range _ d a.size o) p.ends
+      (omega arith) less)
       in
-      let at : offset_of a.storage ≡ offset_of r.storage = o ∙ (ap (λ (n : ℕ). offset_of r.storage +ℤ pos n) first ∙ plus_zero r.storage r.size w l is.range) in
+      let at : offset_of a.storage ≡ offset_of r.storage =
+      o ∙ (ap (λ (n : ℕ). offset_of r.storage +ℤ pos n) first ∙ plus_zero r.storage r.size w l is.range) in
       same_atom a r (same_storage a.storage r.storage area at) (omega arith)
 
   owns : (a : Atom) → IsAtom l [] no_variables a → (v : Varnode) × IsOf l a v
@@ -282,15 +304,27 @@ module _ (l : Listing) (u : IsUncut l) where
 
   -- ---- an atom has its range alone
 
-  same_range : (s o j t p k : ℕ) (v : Varnode) → Some (range s o j) ≡ Some v → Some (range t p k) ≡ Some v → range s o j ≡ range t p k
+  same_range : (s o j t p k : ℕ) (v : Varnode)
+      → Some (range s o j) ≡ Some v
+      → Some (range t p k) ≡ Some v
+      → range s o j ≡ range t p k
   same_range s o j t p k v e f = same_Some _ v e ∙ sym (same_Some _ v f)
 
-  same_parts : (s t : ParamStorage) (j k : ℕ) (v : Varnode) → range_at l s j ≡ Some v → range_at l t k ≡ Some v → (s ≡ t) × (j ≡ k)
-  same_parts (P.Register o) (P.Register p) j k v e f = let r = same_range _ o j _ p k v e f in (ap P.Register (ap (λ (x : Varnode). x.offset) r), ap (λ (x : Varnode). x.size) r)
-  same_parts (P.Register o) (P.Unique p) j k v e f = absurd (u.spaces (ap (λ (x : Varnode). x.space) (same_range _ o j _ p k v e f)))
+  same_parts : (s t : ParamStorage) (j k : ℕ) (v : Varnode)
+      → range_at l s j ≡ Some v
+      → range_at l t k ≡ Some v
+      → (s ≡ t) × (j ≡ k)
+  same_parts (P.Register o) (P.Register p) j k v e f =
+      let r = same_range _ o j _ p k v e f in
+      (ap P.Register (ap (λ (x : Varnode). x.offset) r), ap (λ (x : Varnode). x.size) r)
+  same_parts (P.Register o) (P.Unique p) j k v e f =
+      absurd (u.spaces (ap (λ (x : Varnode). x.space) (same_range _ o j _ p k v e f)))
   same_parts (P.Register o) (P.Stack p) j k v e f = absurd (cc)
-  same_parts (P.Unique o) (P.Register p) j k v e f = absurd (u.spaces (sym (ap (λ (x : Varnode). x.space) (same_range _ o j _ p k v e f))))
-  same_parts (P.Unique o) (P.Unique p) j k v e f = let r = same_range _ o j _ p k v e f in (ap P.Unique (ap (λ (x : Varnode). x.offset) r), ap (λ (x : Varnode). x.size) r)
+  same_parts (P.Unique o) (P.Register p) j k v e f =
+      absurd (u.spaces (sym (ap (λ (x : Varnode). x.space) (same_range _ o j _ p k v e f))))
+  same_parts (P.Unique o) (P.Unique p) j k v e f =
+      let r = same_range _ o j _ p k v e f in
+      (ap P.Unique (ap (λ (x : Varnode). x.offset) r), ap (λ (x : Varnode). x.size) r)
   same_parts (P.Unique o) (P.Stack p) j k v e f = absurd (cc)
   same_parts (P.Stack o) t j k v e f = absurd (cc)
 

@@ -16,29 +16,11 @@ use Rattle.pcode_model.specs.declared.atoms.Atom.{Atom}
 use Rattle.pcode_model.specs.Spaces.{register_space, unique_space}
 use Rattle.pcode_model.specs.Flow.{IsFlow, IsIn, places_of}
 use Rattle.pcode_model.specs.Atoms.{Accesses, IsLocal, ranges_at}
+use Rattle.instructions.proofs.Members.{behind, in_either, in_front, of_member}
 use Rattle.stackvars.specs.Accessed.{range, range_at, range_of}
 use Rattle.stackvars.specs.Collected.{atom_at, atom_of, atoms_at, atoms_in, atoms_of, storage_of}
 
 -- ---- members of lists
-
-in_front : {A : Type 0} (x : A) (xs ys : List A) → IsIn x xs → IsIn x (xs ++ ys)
-in_front x [] ys h = absurd h
-in_front x (z ∷ xs) ys (inl e) = inl e
-in_front x (z ∷ xs) ys (inr h) = inr (in_front x xs ys h)
-
-in_back : {A : Type 0} (x : A) (xs ys : List A) → IsIn x ys → IsIn x (xs ++ ys)
-in_back x [] ys h = h
-in_back x (z ∷ xs) ys h = inr (in_back x xs ys h)
-
-in_either : {A : Type 0} (x : A) (xs ys : List A) → IsIn x (xs ++ ys) → IsIn x xs ⊎ IsIn x ys
-in_either x [] ys h = inr h
-in_either x (z ∷ xs) ys (inl e) = inl (inl e)
-in_either x (z ∷ xs) ys (inr h) = ⊎_elim (λ a. inl (inr a)) (λ b. inr b) (in_either x xs ys h)
-
-from_recursion : {A : Type 0} (Q : A → Type 0) (xs : List A) → AllByRecursion Q xs → (a : A) → IsIn a xs → Q a
-from_recursion Q [] all a is = absurd is
-from_recursion Q (x ∷ xs) all a (inl e) = subst Q (sym e) all.0
-from_recursion Q (x ∷ xs) all a (inr is) = from_recursion Q xs all.1 a is
 
 to_recursion : {A : Type 0} (Q : A → Type 0) (xs : List A) → ((a : A) → IsIn a xs → Q a) → AllByRecursion Q xs
 to_recursion Q [] h = tt
@@ -48,7 +30,7 @@ pub permuted : {A : Type 0} (xs ys : List A) → IsPermutation xs ys → (a : A)
 permuted {A} xs ys moved a is =
     let Q : A → Type 0 = λ x. IsIn x ys in
     let all : All Q ys = All-from_recursion Q ys (to_recursion Q ys (λ x h. h)) in
-    from_recursion Q xs (recursion_from_All Q xs (All-permutation Q ys xs (IsPermutation-sym xs ys moved) all)) a is
+    of_member Q a xs (recursion_from_All Q xs (All-permutation Q ys xs (IsPermutation-sym xs ys moved) all)) is
 
 -- ---- one range
 
@@ -56,7 +38,8 @@ permuted {A} xs ys moved a is =
 abbrev IsStored : Listing → Varnode → Type 0
 IsStored l v =
     ((v.space ≡ register_space l) × (storage_of l v ≡ Some (P.Register v.offset)))
-    ⊎ (((v.space ≡ unique_space l) × (storage_of l v ≡ Some (P.Unique v.offset))) ⊎ ((IsLocal l v.space → ⊥) × (storage_of l v ≡ None)))
+    ⊎ (((v.space ≡ unique_space l) × (storage_of l v ≡ Some (P.Unique v.offset)))
+    ⊎ ((IsLocal l v.space → ⊥) × (storage_of l v ≡ None)))
 
 is_stored : (l : Listing) (v : Varnode) → IsStored l v
 is_stored l v =
@@ -64,10 +47,20 @@ is_stored l v =
     let u : Option ParamStorage = Some (P.Unique v.offset) in
     let n : Option ParamStorage = None in
     ⊎_elim
-    (λ e. let t : (v.space == register_space l) ≡ true = eq-eqb v.space (register_space l) e in inl (e, ap (λ (b : Bool). cond b r (cond (v.space == unique_space l) u n)) t))
+    (λ e.
+    let t : (v.space == register_space l) ≡ true = eq-eqb v.space (register_space l) e in
+    inl (e, ap (λ (b : Bool). cond b r (cond (v.space == unique_space l) u n)) t))
     (λ ne. let t : (v.space == register_space l) ≡ false = ne_eqb v.space (register_space l) ne in ⊎_elim
-    (λ f. let s : (v.space == unique_space l) ≡ true = eq-eqb v.space (unique_space l) f in inr (inl (f, ap (λ (b : Bool). cond b r (cond (v.space == unique_space l) u n)) t ∙ ap (λ (b : Bool). cond b u n) s)))
-    (λ nf. let s : (v.space == unique_space l) ≡ false = ne_eqb v.space (unique_space l) nf in inr (inr (λ is. ⊎_elim ne nf is, ap (λ (b : Bool). cond b r (cond (v.space == unique_space l) u n)) t ∙ ap (λ (b : Bool). cond b u n) s)))
+    (λ f.
+    let s : (v.space == unique_space l) ≡ true = eq-eqb v.space (unique_space l) f in
+    inr (inl
+    (f, ap (λ (b : Bool). cond b r (cond (v.space == unique_space l) u n)) t ∙ ap (λ (b : Bool). cond b u n) s)))
+    (λ nf.
+    let s : (v.space == unique_space l) ≡ false = ne_eqb v.space (unique_space l) nf in
+    inr (inr (
+      λ is. ⊎_elim ne nf is,
+      ap (λ (b : Bool). cond b r (cond (v.space == unique_space l) u n)) t ∙ ap (λ (b : Bool). cond b u n) s,
+    )))
     (cases_eq v.space (unique_space l)))
     (cases_eq v.space (register_space l))
 
@@ -77,15 +70,23 @@ pub record Stands (l : Listing) (v : Varnode) (a : Atom) : Type 0 where
   pub range : range_of l a ≡ Some v
   pub alone : atom_of l v ≡ a ∷ []
 
-register_range : (l : Listing) (v : Varnode) → v.space ≡ register_space l → range_at l (P.Register v.offset) v.size ≡ Some v
+register_range : (l : Listing) (v : Varnode)
+    → v.space ≡ register_space l
+    → range_at l (P.Register v.offset) v.size ≡ Some v
 register_range l v e = ap (λ (s : ℕ). Some (range s v.offset v.size)) (sym e)
 
 unique_range : (l : Listing) (v : Varnode) → v.space ≡ unique_space l → range_at l (P.Unique v.offset) v.size ≡ Some v
 unique_range l v e = ap (λ (s : ℕ). Some (range s v.offset v.size)) (sym e)
 
-only : (l : Listing) (v : Varnode) (a : Atom) (s : ParamStorage) → storage_of l v ≡ Some s → IsIn a (atom_of l v) → IsLocal l v.space → range_at l s v.size ≡ Some v → Stands l v a
+only : (l : Listing) (v : Varnode) (a : Atom) (s : ParamStorage)
+    → storage_of l v ≡ Some s
+    → IsIn a (atom_of l v)
+    → IsLocal l v.space
+    → range_at l s v.size ≡ Some v
+    → Stands l v a
 only l v a s e h is r =
-    let k : IsIn a (record { storage = s; size = v.size } ∷ []) = subst (λ (o : Option ParamStorage). IsIn a (atom_at o v.size)) e h in
+    let k : IsIn a (record { storage = s; size = v.size } ∷ []) =
+    subst (λ (o : Option ParamStorage). IsIn a (atom_at o v.size)) e h in
     ⊎_elim
     (λ same. record {
       is_local = is;
@@ -111,10 +112,15 @@ pub record Listed (l : Listing) (xs : List Atom) (v : Varnode) : Type 0 where
   pub member : IsIn atom xs
   pub range : range_of l atom ≡ Some v
 
-sole : (l : Listing) (v : Varnode) (s : ParamStorage) → storage_of l v ≡ Some s → range_at l s v.size ≡ Some v → Listed l (atom_of l v) v
+sole : (l : Listing) (v : Varnode) (s : ParamStorage)
+    → storage_of l v ≡ Some s
+    → range_at l s v.size ≡ Some v
+    → Listed l (atom_of l v) v
 sole l v s e r = record {
   atom = record { storage = s; size = v.size };
-  member = subst (λ (o : Option ParamStorage). IsIn (record { storage = s; size = v.size }) (atom_at o v.size)) (sym e) (inl refl);
+  member =
+      subst (λ (o : Option ParamStorage). IsIn (record { storage = s; size = v.size }) (atom_at o v.size)) (sym e)
+      (inl refl);
   range = r;
 }
 
@@ -142,17 +148,17 @@ one_of l (v ∷ vs) a h =
     ⊎_elim
     (λ k. record { of = v; member = inl refl; stands = atom_stands l v a k })
     (λ k. let r = one_of l vs a k in record { of = r.of; member = inr r.member; stands = r.stands })
-    (in_either a (atom_of l v) (atoms_of l vs) h)
+    (in_either (atom_of l v) (atoms_of l vs) a h)
 
 listed_of : (l : Listing) (vs : List Varnode) (v : Varnode) → IsIn v vs → IsLocal l v.space → Listed l (atoms_of l vs) v
 listed_of l [] v h is = absurd h
 listed_of l (x ∷ vs) v (inl e) is =
     let r = atom_listed l v is in
     let f : IsIn r.atom (atom_of l x) = subst (λ (y : Varnode). IsIn r.atom (atom_of l y)) e r.member in
-    record { atom = r.atom; member = in_front r.atom (atom_of l x) (atoms_of l vs) f; range = r.range }
+    record { atom = r.atom; member = in_front (atom_of l x) (atoms_of l vs) r.atom f; range = r.range }
 listed_of l (x ∷ vs) v (inr h) is =
     let r = listed_of l vs v h is in
-    record { atom = r.atom; member = in_back r.atom (atom_of l x) (atoms_of l vs) r.member; range = r.range }
+    record { atom = r.atom; member = behind (atom_of l x) (atoms_of l vs) r.atom r.member; range = r.range }
 
 record OneAt (l : Listing) (ps : List Place) (a : Atom) : Type 0 where
   place : Place
@@ -165,27 +171,41 @@ one_at l (p ∷ ps) a h =
     ⊎_elim
     (λ k. record { place = p; member = inl refl; range = one_of l (ranges_at l [] p) a k })
     (λ k. let r = one_at l ps a k in record { place = r.place; member = inr r.member; range = r.range })
-    (in_either a (atoms_of l (ranges_at l [] p)) (atoms_at l ps) h)
+    (in_either (atoms_of l (ranges_at l [] p)) (atoms_at l ps) a h)
 
-listed_at : (l : Listing) (ps : List Place) (p : Place) (v : Varnode) → IsIn p ps → IsIn v (ranges_at l [] p) → IsLocal l v.space → Listed l (atoms_at l ps) v
+listed_at : (l : Listing) (ps : List Place) (p : Place) (v : Varnode)
+    → IsIn p ps
+    → IsIn v (ranges_at l [] p)
+    → IsLocal l v.space
+    → Listed l (atoms_at l ps) v
 listed_at l [] p v h k is = absurd h
 listed_at l (q ∷ ps) p v (inl e) k is =
     let r = listed_of l (ranges_at l [] p) v k is in
-    let f : IsIn r.atom (atoms_of l (ranges_at l [] q)) = subst (λ (y : Place). IsIn r.atom (atoms_of l (ranges_at l [] y))) e r.member in
-    record { atom = r.atom; member = in_front r.atom (atoms_of l (ranges_at l [] q)) (atoms_at l ps) f; range = r.range }
+    let f : IsIn r.atom (atoms_of l (ranges_at l [] q)) =
+    subst (λ (y : Place). IsIn r.atom (atoms_of l (ranges_at l [] y))) e r.member in
+    record
+    { atom = r.atom; member = in_front (atoms_of l (ranges_at l [] q)) (atoms_at l ps) r.atom f; range = r.range }
 listed_at l (q ∷ ps) p v (inr h) k is =
     let r = listed_at l ps p v h k is in
-    record { atom = r.atom; member = in_back r.atom (atoms_of l (ranges_at l [] q)) (atoms_at l ps) r.member; range = r.range }
+    record {
+      atom = r.atom;
+      member = behind (atoms_of l (ranges_at l [] q)) (atoms_at l ps) r.atom r.member;
+      range = r.range;
+    }
 
 -- ---- the blocks
 
 atoms_at_both : (l : Listing) (ps qs : List Place) → atoms_at l (ps ++ qs) ≡ atoms_at l ps ++ atoms_at l qs
 atoms_at_both l [] qs = refl
-atoms_at_both l (p ∷ ps) qs = ap (λ (xs : List Atom). atoms_of l (ranges_at l [] p) ++ xs) (atoms_at_both l ps qs) ∙ sym (append_assoc (atoms_of l (ranges_at l [] p)) (atoms_at l ps) (atoms_at l qs))
+atoms_at_both l (p ∷ ps) qs =
+    ap (λ (xs : List Atom). atoms_of l (ranges_at l [] p) ++ xs) (atoms_at_both l ps qs)
+    ∙ sym (append_assoc (atoms_of l (ranges_at l [] p)) (atoms_at l ps) (atoms_at l qs))
 
 blocks_places : (l : Listing) (bs : List Block) → atoms_in l bs ≡ atoms_at l (places_of bs)
 blocks_places l [] = refl
-blocks_places l (b ∷ bs) = ap (λ (xs : List Atom). atoms_at l b.places ++ xs) (blocks_places l bs) ∙ sym (atoms_at_both l b.places (places_of bs))
+blocks_places l (b ∷ bs) =
+    ap (λ (xs : List Atom). atoms_at l b.places ++ xs) (blocks_places l bs)
+    ∙ sym (atoms_at_both l b.places (places_of bs))
 
 -- each atom of the list has an accessed range
 abbrev pub AreAccesses : Listing → List Atom → Type 0
@@ -196,8 +216,18 @@ HasAccesses l xs = (v : Varnode) → Accesses l [] v → (a : Atom) × (IsIn a x
 
 pub collected_accessed : (l : Listing) (bs : List Block) → IsFlow l [] bs → AreAccesses l (atoms_in l bs)
 collected_accessed l bs flow a h =
-    let r = one_at l (places_of bs) a (subst (λ (xs : List Atom). IsIn a xs) (blocks_places l bs) h) in
-    (r.range.of, (r.range.stands.range, record { at = r.place; reached = (flow.each r.place).0 r.member; range = r.range.member; is_local = r.range.stands.is_local }))
+    let r = one_at l (places_of bs) a (subst (λ (xs : List Atom). IsIn a xs) (blocks_places l bs) h) in (
+      r.range.of,
+      (
+        r.range.stands.range,
+        record {
+          at = r.place;
+          reached = (flow.each r.place).0 r.member;
+          range = r.range.member;
+          is_local = r.range.stands.is_local;
+        },
+      ),
+    )
 
 pub collected_all : (l : Listing) (bs : List Block) → IsFlow l [] bs → HasAccesses l (atoms_in l bs)
 collected_all l bs flow v h =
@@ -208,13 +238,18 @@ collected_all l bs flow v h =
 abbrev pub AreOnce : Listing → List Atom → Type 0
 AreOnce l xs = (a b : Atom) → IsIn a xs → IsIn b xs → range_of l a ≡ range_of l b → a ≡ b
 
-one_of_range : (l : Listing) (a b : Atom) (v w : Varnode) → Stands l v a → Stands l w b → range_of l a ≡ range_of l b → a ≡ b
-one_of_range l a b v w p q e = heads (sym p.alone ∙ (ap (λ (x : Varnode). atom_of l x) (some_is (sym p.range ∙ (e ∙ q.range))) ∙ q.alone)) where
-  some_is : Some v ≡ Some w → v ≡ w
-  some_is h = cc
+one_of_range : (l : Listing) (a b : Atom) (v w : Varnode)
+    → Stands l v a
+    → Stands l w b
+    → range_of l a ≡ range_of l b
+    → a ≡ b
+one_of_range l a b v w p q e =
+    heads (sym p.alone ∙ (ap (λ (x : Varnode). atom_of l x) (some_is (sym p.range ∙ (e ∙ q.range))) ∙ q.alone)) where
+      some_is : Some v ≡ Some w → v ≡ w
+      some_is h = cc
 
-  heads : a ∷ [] ≡ b ∷ [] → a ≡ b
-  heads h = cc
+      heads : a ∷ [] ≡ b ∷ [] → a ≡ b
+      heads h = cc
 
 pub collected_once : (l : Listing) (bs : List Block) → AreOnce l (atoms_in l bs)
 collected_once l bs a b h k e =

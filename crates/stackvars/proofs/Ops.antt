@@ -14,7 +14,9 @@ use Rattle.pcode_model.specs.Places.{instruction_in, op_in, standing, standing_i
 use Rattle.pcode_model.specs.Step.{all_but_first, all_read, operands}
 use Rattle.pcode_model.specs.Atoms.{further_ranges, one_range, op_ranges, ranges_read}
 use Rattle.supported.specs.Supported.{are_supported_ops, is_supported_code, is_supported_code_of, is_supported_op}
-use Rattle.stackvars.specs.Collected.{atom_of, atoms_of, op_of, past_first, read_inputs}
+use Rattle.pcode_model.specs.Rules.{past_first}
+use Rattle.instructions.specs.Standing.{op_of}
+use Rattle.stackvars.specs.Collected.{atom_of, atoms_of, read_inputs}
 
 read_all : (vs : List Varnode) → ranges_read (all_read vs) ≡ vs
 read_all [] = refl
@@ -24,7 +26,9 @@ read_past : (vs : List Varnode) → ranges_read (all_but_first vs) ≡ past_firs
 read_past [] = refl
 read_past (v ∷ vs) = read_all vs
 
-reads : (l : Listing) (code : Opcode) (vs : List Varnode) → is_supported_code code ≡ true → ranges_read (operands l code vs) ≡ read_inputs code vs
+reads : (l : Listing) (code : Opcode) (vs : List Varnode)
+    → is_supported_code code ≡ true
+    → ranges_read (operands l code vs) ≡ read_inputs code vs
 reads l (O.Unary op) vs h = read_all vs
 reads l (O.Binary op) vs h = read_all vs
 reads l (O.Divide op) vs h = absurd (cc)
@@ -44,11 +48,15 @@ reads l (O.LeftOut op) vs h = absurd (cc)
 
 pub atoms_of_both : (l : Listing) (vs ws : List Varnode) → atoms_of l (vs ++ ws) ≡ atoms_of l vs ++ atoms_of l ws
 atoms_of_both l [] ws = refl
-atoms_of_both l (v ∷ vs) ws = ap (λ (xs : List Atom). atom_of l v ++ xs) (atoms_of_both l vs ws) ∙ sym (append_assoc (atom_of l v) (atoms_of l vs) (atoms_of l ws))
+atoms_of_both l (v ∷ vs) ws =
+    ap (λ (xs : List Atom). atom_of l v ++ xs) (atoms_of_both l vs ws)
+    ∙ sym (append_assoc (atom_of l v) (atoms_of l vs) (atoms_of l ws))
 
 -- the atoms of an op, pushed part by part
 pub op_pushed : (l : Listing) (op : Op) → is_supported_op l op ≡ true → (out : List Atom)
-    → ((out ++ atoms_of l (read_inputs op.code op.inputs)) ++ atoms_of l (one_range op.out)) ++ atoms_of l (further_ranges l None op.code op.inputs) ≡ out ++ atoms_of l (op_ranges l None op)
+    → ((out ++ atoms_of l (read_inputs op.code op.inputs)) ++ atoms_of l (one_range op.out))
+    ++ atoms_of l (further_ranges l None op.code op.inputs)
+    ≡ out ++ atoms_of l (op_ranges l None op)
 op_pushed l op h out =
     let a : List Varnode = read_inputs op.code op.inputs in
     let b : List Varnode = one_range op.out in
@@ -64,11 +72,15 @@ op_pushed l op h out =
 
 -- ---- the op at a place
 
-supported_slice : (l : Listing) (ops : List Op) (n : ℕ) (op : Op) → are_supported_ops l ops ≡ true → slice_get ops n ≡ Some op → is_supported_op l op ≡ true
+supported_slice : (l : Listing) (ops : List Op) (n : ℕ) (op : Op)
+    → are_supported_ops l ops ≡ true
+    → slice_get ops n ≡ Some op
+    → is_supported_op l op ≡ true
 supported_slice l [] n op h e = absurd (cc)
-supported_slice l (x ∷ ops) zero op h e = subst (λ (y : Op). is_supported_op l y ≡ true) (same e) (and_parts _ _ h).0 where
-  same : Some x ≡ Some op → x ≡ op
-  same k = cc
+supported_slice l (x ∷ ops) zero op h e =
+    subst (λ (y : Op). is_supported_op l y ≡ true) (same e) (and_parts _ _ h).0 where
+      same : Some x ≡ Some op → x ≡ op
+      same k = cc
 supported_slice l (x ∷ ops) (suc n) op h e = supported_slice l ops n op (and_parts _ _ h).1 e
 
 pub op_in_is : (i : Instruction) (x : Option Op) → op_of (op_in i x) ≡ x
@@ -80,13 +92,20 @@ standing_op i [] zero = refl
 standing_op i [] (suc n) = refl
 standing_op i (op ∷ ops) n = op_in_is i (slice_get (op ∷ ops) n)
 
-supported_in : (l : Listing) (code : List Instruction) (a n : ℕ) (op : Op) → is_supported_code_of l code ≡ true → op_of (standing_of (instruction_in code a) n) ≡ Some op → is_supported_op l op ≡ true
+supported_in : (l : Listing) (code : List Instruction) (a n : ℕ) (op : Op)
+    → is_supported_code_of l code ≡ true
+    → op_of (standing_of (instruction_in code a) n) ≡ Some op
+    → is_supported_op l op ≡ true
 supported_in l [] a n op h e = absurd (cc)
 supported_in l (i ∷ rest) a n op h e =
-    (elim (i.address == a) as (λ b. op_of (standing_of (cond b (Some i) (instruction_in rest a)) n) ≡ Some op → is_supported_op l op ≡ true) [
+    (elim (i.address == a) as
+    (λ b. op_of (standing_of (cond b (Some i) (instruction_in rest a)) n) ≡ Some op → is_supported_op l op ≡ true) [
       | true ↦ λ k. supported_slice l i.ops n op (and_parts _ _ h).0 (sym (standing_op i i.ops n) ∙ k)
       | false ↦ λ k. supported_in l rest a n op (and_parts _ _ h).1 k
     ]) e
 
-pub supported_at : (l : Listing) (p : Place) (op : Op) → is_supported_code_of l l.code ≡ true → Some op ≡ op_of (standing l p) → is_supported_op l op ≡ true
+pub supported_at : (l : Listing) (p : Place) (op : Op)
+    → is_supported_code_of l l.code ≡ true
+    → Some op ≡ op_of (standing l p)
+    → is_supported_op l op ≡ true
 supported_at l p op h e = supported_in l l.code p.address p.index op h (sym e)

@@ -1,6 +1,5 @@
 -- The atoms of the ranges that ops access, op by op, and a list of atoms without its repeats.
 use Rattle.std.specs.Prelude.{ℕ, ◌+◌, ◌^◌, ◌==◌, Bool, false, if◌then◌else◌, List, [], ◌∷◌, ◌++◌, Option, Some, None}
-use Rattle.pcode_model.specs.declared.listing.Op.{Op}
 use Rattle.pcode_model.specs.declared.listing.Place.{Place}
 use Rattle.pcode_model.specs.declared.opcode.Opcode.{Opcode}
 use Rattle.pcode_model.specs.declared.opcode.Opcode.TheVariants as O
@@ -11,12 +10,14 @@ use Rattle.pcode_model.specs.declared.storage.ParamStorage.TheVariants as P
 use Rattle.pcode_model.specs.declared.atoms.Atom.{Atom}
 use Rattle.pcode_model.specs.declared.flow.Block.{Block}
 use Rattle.pcode_model.specs.Spaces.{register_space, unique_space}
-use Rattle.pcode_model.specs.Places.{Standing, Nothing, Passes, Does}
+use Rattle.pcode_model.specs.Rules.{past_first}
 use Rattle.pcode_model.specs.Atoms.{ranges_at}
 
 -- where a register or unique range stands
 abbrev pub storage_of : Listing → Varnode → Option ParamStorage
-storage_of l v = if v.space == register_space l then Some (P.Register v.offset) else (if v.space == unique_space l then Some (P.Unique v.offset) else None)
+storage_of l v =
+    if v.space == register_space l then Some (P.Register v.offset) else
+    (if v.space == unique_space l then Some (P.Unique v.offset) else None)
 
 abbrev pub atom_at : Option ParamStorage → ℕ → List Atom
 atom_at None k = []
@@ -37,15 +38,6 @@ atoms_at l (p ∷ ps) = atoms_of l (ranges_at l [] p) ++ atoms_at l ps
 abbrev pub atoms_in : Listing → List Block → List Atom
 atoms_in l [] = []
 atoms_in l (b ∷ bs) = atoms_at l b.places ++ atoms_in l bs
-
-abbrev pub op_of : Standing → Option Op
-op_of Nothing = None
-op_of (Passes i) = None
-op_of (Does i op) = Some op
-
-abbrev pub past_first : List Varnode → List Varnode
-past_first [] = []
-past_first (v ∷ vs) = vs
 
 -- the inputs that an op of the built kinds reads: not the destination of a branch
 abbrev pub read_inputs : Opcode → List Varnode → List Varnode
@@ -69,4 +61,5 @@ is_last (Some m) n = m == n
 -- the atoms whose rank isn't that of the one before
 abbrev pub without_repeats : Option ℕ → List Atom → List Atom
 without_repeats last [] = []
-without_repeats last (a ∷ rest) = if is_last last (rank a) then without_repeats (Some (rank a)) rest else a ∷ without_repeats (Some (rank a)) rest
+without_repeats last (a ∷ rest) =
+    if is_last last (rank a) then without_repeats (Some (rank a)) rest else a ∷ without_repeats (Some (rank a)) rest

@@ -31,4 +31,5 @@ pub record IsUncut (l : Listing) : Type 0 where
 
 -- in such a listing the ranges that are accessed are the atoms, where the frame has no variables
 abbrev pub AccessedAreAtoms : Type 0
-AccessedAreAtoms = (l : Listing) (atoms : List Atom) → IsUncut l → ListsAccessed l atoms → AreAtoms l [] no_variables atoms
+AccessedAreAtoms =
+    (l : Listing) (atoms : List Atom) → IsUncut l → ListsAccessed l atoms → AreAtoms l [] no_variables atoms

@@ -1,15 +1,12 @@
 // The atoms of the ranges that ops access.
 ghost use Rattle.std.specs.Prelude.{◌≡◌, ◌++◌, [], None, IfOk, OnOk, true};
-ghost use Rattle.std.specs.Option.{option_copied};
-ghost use Rattle.pcode_model.specs.Places.{standing};
-ghost use Rattle.pcode_model.specs.Step.{proto_of};
 ghost use Rattle.pcode_model.specs.Flow.{AreApart};
 ghost use Rattle.pcode_model.specs.Atoms.{further_ranges, one_range, op_ranges, ranges_at};
 ghost use Rattle.supported.specs.Supported.{is_supported_code_of, is_supported_op};
-ghost use Rattle.stackvars.specs.Collected.{atom_of, atoms_at, atoms_in, atoms_of, op_of, past_first, read_inputs, storage_of};
+ghost use Rattle.stackvars.specs.Collected.{atom_of, atoms_at, atoms_in, atoms_of, read_inputs, storage_of};
 
 use bits_core::Memory;
-use instructions::instruction;
+use instructions::{op_at, result_range};
 use pcode_model::ranges::number_of;
 use pcode_model::{Atom, Block, Listing, Op, Opcode, ParamStorage, Place, SpaceKind, Varnode};
 use std::alloc::Global;
@@ -60,38 +57,20 @@ fn push_optional(
     }
 }
 
-fn past_first(inputs: &[Varnode]) -> &[Varnode]
-    ensures { result.now ≡ past_first inputs.now }
-{
-    match inputs {
-        [] => inputs,
-        [_, rest @ ..] => rest,
-    }
-}
-
 fn push_inputs(out: &mut Vec<Atom>, listing: &Listing, op: &Op) -> Result<(), Memory>
     ensures { OnOk result (out.new.items ≡ out.old.items ++ atoms_of listing.now (read_inputs op.now.code op.now.inputs)) }
 {
-    let inputs = op.inputs.as_slice();
     match &op.code {
         Opcode::Branch => Ok(()),
-        Opcode::CBranch => push_ranges(out, listing, past_first(inputs)),
-        _ => push_ranges(out, listing, inputs),
-    }
-}
-
-fn result_range(listing: &Listing) -> Option<Varnode>
-    ensures { result ≡ (proto_of listing.now None).gives }
-{
-    match listing.protos.get(listing.func.proto as usize) {
-        Some(proto) => proto.gives,
-        None => None,
+        Opcode::CBranch => push_ranges(out, listing, op.past_first()),
+        _ => push_ranges(out, listing, op.inputs.as_slice()),
     }
 }
 
 fn push_result(out: &mut Vec<Atom>, listing: &Listing, op: &Op) -> Result<(), Memory>
     requires { is_supported_op listing.now op.now ≡ true }
-    ensures { OnOk result (out.new.items ≡ out.old.items ++ atoms_of listing.now (further_ranges listing.now None op.now.code op.now.inputs)) }
+    ensures { OnOk result (out.new.items
+        ≡ out.old.items ++ atoms_of listing.now (further_ranges listing.now None op.now.code op.now.inputs)) }
 {
     match &op.code {
         Opcode::Return => push_optional(out, listing, result_range(listing)),
@@ -106,16 +85,6 @@ fn push_op(out: &mut Vec<Atom>, listing: &Listing, op: &Op) -> Result<(), Memory
     push_inputs(out, listing, op)?;
     push_optional(out, listing, op.out)?;
     push_result(out, listing, op)
-}
-
-fn op_at(listing: &Listing, place: Place) -> Option<&Op>
-    requires { AreApart listing.now.code }
-    ensures { option_copied result ≡ op_of (standing listing.now place) }
-{
-    match instruction(listing, u128::from(place.address)) {
-        Some(instruction) => instruction.ops.get(place.index as usize),
-        None => None,
-    }
 }
 
 fn push_place(out: &mut Vec<Atom>, listing: &Listing, place: Place) -> Result<(), Memory>

@@ -40,10 +40,16 @@ onward a b c (inr p) (inl q) = subst (λ (x : Varnode). IsFollowed a x) q (inr p
 onward a b c (inr p) (inr q) = inr (omega arith)
 
 -- the first of a chain is followed by each other range
-first_followed : (a : Varnode) (vs : List Varnode) → is_chain (a ∷ vs) ≡ true → (b : Varnode) → IsIn b vs → IsFollowed a b
+first_followed : (a : Varnode) (vs : List Varnode)
+    → is_chain (a ∷ vs) ≡ true
+    → (b : Varnode)
+    → IsIn b vs
+    → IsFollowed a b
 first_followed a [] h b is = absurd is
-first_followed a (c ∷ rest) h b (inl e) = subst (λ (x : Varnode). IsFollowed a x) (sym e) (followed a c (and_parts _ _ h).0)
-first_followed a (c ∷ rest) h b (inr is) = onward a c b (followed a c (and_parts _ _ h).0) (first_followed c rest (and_parts _ _ h).1 b is)
+first_followed a (c ∷ rest) h b (inl e) =
+    subst (λ (x : Varnode). IsFollowed a x) (sym e) (followed a c (and_parts _ _ h).0)
+first_followed a (c ∷ rest) h b (inr is) =
+    onward a c b (followed a c (and_parts _ _ h).0) (first_followed c rest (and_parts _ _ h).1 b is)
 
 tail_chain : (a : Varnode) (vs : List Varnode) → is_chain (a ∷ vs) ≡ true → is_chain vs ≡ true
 tail_chain a [] h = refl
@@ -66,8 +72,10 @@ apart_back a b (inr h) = inr (flipped a b (spaces a b h))
 pub apart_from_chain : (vs : List Varnode) → is_chain vs ≡ true → EqualOrApart vs
 apart_from_chain [] h a b p q = absurd p
 apart_from_chain (v ∷ vs) h a b (inl p) (inl q) = inl (p ∙ sym q)
-apart_from_chain (v ∷ vs) h a b (inl p) (inr q) = subst (λ (x : Varnode). (x ≡ b) ⊎ AreApart x b) (sym p) (apart_of v b (first_followed v vs h b q))
-apart_from_chain (v ∷ vs) h a b (inr p) (inl q) = subst (λ (x : Varnode). (a ≡ x) ⊎ AreApart a x) (sym q) (apart_back v a (first_followed v vs h a p))
+apart_from_chain (v ∷ vs) h a b (inl p) (inr q) =
+    subst (λ (x : Varnode). (x ≡ b) ⊎ AreApart x b) (sym p) (apart_of v b (first_followed v vs h b q))
+apart_from_chain (v ∷ vs) h a b (inr p) (inl q) =
+    subst (λ (x : Varnode). (a ≡ x) ⊎ AreApart a x) (sym q) (apart_back v a (first_followed v vs h a p))
 apart_from_chain (v ∷ vs) h a b (inr p) (inr q) = apart_from_chain vs (tail_chain v vs h) a b p q
 
 -- ---- the other way
@@ -84,28 +92,59 @@ is_within : (m n : ℕ) → m ≤ n → nat_le m n ≡ true
 is_within m n h = grind (arith, nat_tests)
 
 -- of two spaces the one that begins later lies past the other
-past : (s t o k p : ℕ) → (s ≡ t → ⊥) → o + k ≤ 2 ^ 64 → s * 2 ^ 97 + o ≤ t * 2 ^ 97 + p → p ≤ 2 ^ 64 → (s * 2 ^ 97 + o) + k ≤ t * 2 ^ 97 + p
+past : (s t o k p : ℕ)
+    → (s ≡ t → ⊥)
+    → o + k ≤ 2 ^ 64
+    → s * 2 ^ 97 + o ≤ t * 2 ^ 97 + p
+    → p ≤ 2 ^ 64
+    → (s * 2 ^ 97 + o) + k ≤ t * 2 ^ 97 + p
 past s t o k p ne h le pp = grind arith
 
 eq_or_not : (m n : ℕ) → (m ≡ n) ⊎ (m ≡ n → ⊥)
-eq_or_not m n = (elim (m == n) as (λ b. (m == n) ≡ b → (m ≡ n) ⊎ (m ≡ n → ⊥)) [ true ↦ λ h. inl (eqb-true m n h) | false ↦ λ h. inr (λ e. absurd (grind (arith, nat_tests))) ]) refl
+eq_or_not m n =
+    (elim (m == n) as (λ b. (m == n) ≡ b → (m ≡ n) ⊎ (m ≡ n → ⊥))
+    [ true ↦ λ h. inl (eqb-true m n h) | false ↦ λ h. inr (λ e. absurd (grind (arith, nat_tests))) ])
+    refl
 
-before : (a b : Varnode) → 0 < b.size → begin_of a ≤ begin_of b → a.space ≡ b.space → (a.offset + a.size ≤ b.offset) ⊎ (b.offset + b.size ≤ a.offset) → end_of a ≤ begin_of b
-before a b some le e (inl p) = let s : a.space * 2 ^ 97 ≡ b.space * 2 ^ 97 = ap (λ x. x * 2 ^ 97) e in omega (arith, s, p)
-before a b some le e (inr q) = let s : a.space * 2 ^ 97 ≡ b.space * 2 ^ 97 = ap (λ x. x * 2 ^ 97) e in absurd (omega (arith, s, q, some, le))
+before : (a b : Varnode)
+    → 0 < b.size
+    → begin_of a ≤ begin_of b
+    → a.space ≡ b.space
+    → (a.offset + a.size ≤ b.offset) ⊎ (b.offset + b.size ≤ a.offset)
+    → end_of a ≤ begin_of b
+before a b some le e (inl p) =
+    let s : a.space * 2 ^ 97 ≡ b.space * 2 ^ 97 = ap (λ x. x * 2 ^ 97) e in
+    omega (arith, s, p)
+before a b some le e (inr q) =
+    let s : a.space * 2 ^ 97 ≡ b.space * 2 ^ 97 = ap (λ x. x * 2 ^ 97) e in
+    absurd (omega (arith, s, q, some, le))
 
 -- a range that begins no later and shares no byte ends before the other
-in_order : (a b : Varnode) → 0 < b.size → a.offset + a.size ≤ 2 ^ 64 → b.offset + b.size ≤ 2 ^ 64 → begin_of a ≤ begin_of b → AreApart a b → end_of a ≤ begin_of b
+in_order : (a b : Varnode)
+    → 0 < b.size
+    → a.offset + a.size ≤ 2 ^ 64
+    → b.offset + b.size ≤ 2 ^ 64
+    → begin_of a ≤ begin_of b
+    → AreApart a b
+    → end_of a ≤ begin_of b
 in_order a b some ta tb le h = elim (eq_or_not a.space b.space) [
   | inl e ↦ before a b some le e (h e)
   | inr ne ↦ past a.space b.space a.offset a.size b.offset ne ta le (omega (arith, tb))
 ]
 
 may_follow_true : (a b : Varnode) → IsFollowed a b → may_follow a b ≡ true
-may_follow_true a b (inl e) = either_true (same a b) (nat_le (end_of a) (begin_of b)) (inl (subst (λ (x : Varnode). same a x ≡ true) e (same_refl a)))
+may_follow_true a b (inl e) =
+    either_true (same a b) (nat_le (end_of a) (begin_of b))
+    (inl (subst (λ (x : Varnode). same a x ≡ true) e (same_refl a)))
 may_follow_true a b (inr h) = either_true (same a b) (nat_le (end_of a) (begin_of b)) (inr (is_within _ _ h))
 
-chain_step : (a b : Varnode) → 0 < b.size → a.offset + a.size ≤ 2 ^ 64 → b.offset + b.size ≤ 2 ^ 64 → begin_of a ≤ begin_of b → (a ≡ b) ⊎ AreApart a b → may_follow a b ≡ true
+chain_step : (a b : Varnode)
+    → 0 < b.size
+    → a.offset + a.size ≤ 2 ^ 64
+    → b.offset + b.size ≤ 2 ^ 64
+    → begin_of a ≤ begin_of b
+    → (a ≡ b) ⊎ AreApart a b
+    → may_follow a b ≡ true
 chain_step a b some ta tb le (inl e) = may_follow_true a b (inl e)
 chain_step a b some ta tb le (inr h) = may_follow_true a b (inr (in_order a b some ta tb le h))
 
@@ -115,7 +154,11 @@ sorted_tail v vs up = IsNonDecreasingBy-drop begin_of 1 (v ∷ vs) up
 sorted_head : (a b : Varnode) (vs : List Varnode) → IsNonDecreasingBy begin_of (a ∷ b ∷ vs) → begin_of a ≤ begin_of b
 sorted_head a b vs up = up 0 1 a (omega arith) (omega arith)
 
-pub chain_from_apart : (vs : List Varnode) → AllInSpace vs → IsNonDecreasingBy begin_of vs → EqualOrApart vs → is_chain vs ≡ true
+pub chain_from_apart : (vs : List Varnode)
+    → AllInSpace vs
+    → IsNonDecreasingBy begin_of vs
+    → EqualOrApart vs
+    → is_chain vs ≡ true
 chain_from_apart [] fit up h = refl
 chain_from_apart (a ∷ []) fit up h = refl
 chain_from_apart (a ∷ b ∷ rest) fit up h =

@@ -10,6 +10,7 @@ use Rattle.pcode_model.specs.declared.listing.Op.{Op}
 use Rattle.pcode_model.specs.declared.listing.Instruction.{Instruction}
 use Rattle.pcode_model.specs.declared.listing.Proto.{Proto}
 use Rattle.pcode_model.specs.declared.listing.Listing.{Listing}
+use Rattle.pcode_model.specs.Rules.{past_first}
 use Rattle.pcode_model.specs.Spaces.{kind_of, same_kind}
 use Rattle.supported.specs.Ranges.{named_ranges, EqualOrApart}
 
@@ -38,19 +39,16 @@ abbrev pub output_off_ram : Listing → Option Varnode → Bool
 output_off_ram l None = true
 output_off_ram l (Some v) = not (is_ram l v)
 
-abbrev pub rest_of : List Varnode → List Varnode
-rest_of [] = []
-rest_of (v ∷ vs) = vs
-
 -- the inputs that aren't the destination of a branch
 abbrev pub read_inputs : Opcode → List Varnode → List Varnode
-read_inputs O.Branch vs = rest_of vs
-read_inputs O.CBranch vs = rest_of vs
+read_inputs O.Branch vs = past_first vs
+read_inputs O.CBranch vs = past_first vs
 read_inputs code vs = vs
 
 -- the operation is built, and no varnode that it reads or writes is in ram
 abbrev pub is_supported_op : Listing → Op → Bool
-is_supported_op l op = is_supported_code op.code && (none_in_ram l (read_inputs op.code op.inputs) && output_off_ram l op.out)
+is_supported_op l op =
+    is_supported_code op.code && (none_in_ram l (read_inputs op.code op.inputs) && output_off_ram l op.out)
 
 abbrev pub are_supported_ops : Listing → List Op → Bool
 are_supported_ops l [] = true

@@ -3,7 +3,7 @@ ghost use Rattle.std.specs.Prelude.{◌≡◌, ◌↔◌, [], IfOk, IsTrue, None
 ghost use Rattle.supported.specs.Ranges.{AllInSpace, named_ranges};
 ghost use Rattle.supported.specs.Supported.{IsSupported, are_supported_ops, is_ram, is_supported_binary, is_supported_code, is_supported_code_of, is_supported_op, keeps_nothing, none_in_ram, output_off_ram, read_inputs};
 
-use crate::ranges::{are_equal_or_apart, space_kind};
+use crate::ranges::are_equal_or_apart;
 use bits_core::Binary;
 use pcode_model::{Instruction, Listing, Op, Opcode, Proto, SpaceKind, Varnode};
 use std::alloc::{AllocError, Global};
@@ -31,7 +31,7 @@ fn is_supported_code(code: &Opcode) -> bool
 fn is_ram(listing: &Listing, varnode: &Varnode) -> bool
     ensures { result ≡ is_ram listing.now varnode.now }
 {
-    match space_kind(listing, varnode.space) {
+    match listing.space_kind(varnode.space) {
         SpaceKind::Ram => true,
         SpaceKind::Constant | SpaceKind::Register | SpaceKind::Unique => false,
     }
@@ -57,15 +57,12 @@ fn output_off_ram(listing: &Listing, out: Option<Varnode>) -> bool
     }
 }
 
-fn read_inputs<'a>(code: &Opcode, inputs: &'a [Varnode]) -> &'a [Varnode]
-    ensures { result.now ≡ read_inputs code.now inputs.now }
+fn read_inputs(op: &Op) -> &[Varnode]
+    ensures { result.now ≡ read_inputs op.now.code op.now.inputs }
 {
-    match code {
-        Opcode::Branch | Opcode::CBranch => match inputs {
-            [] => inputs,
-            [_, rest @ ..] => rest,
-        },
-        _ => inputs,
+    match &op.code {
+        Opcode::Branch | Opcode::CBranch => op.past_first(),
+        _ => op.inputs.as_slice(),
     }
 }
 
@@ -73,7 +70,7 @@ fn is_supported_op(listing: &Listing, op: &Op) -> bool
     ensures { result ≡ is_supported_op listing.now op.now }
 {
     is_supported_code(&op.code)
-        && none_in_ram(listing, read_inputs(&op.code, op.inputs.as_slice()))
+        && none_in_ram(listing, read_inputs(op))
         && output_off_ram(listing, op.out)
 }
 

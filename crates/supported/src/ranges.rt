@@ -1,20 +1,9 @@
 // The ranges of a listing, and whether any two of them are equal or apart.
 ghost use Rattle.std.specs.Prelude.{◌≡◌, ◌<◌, ◌^◌, ◌++◌, ◌↔◌, IfOk, IsTrue, OnOk};
-ghost use Rattle.pcode_model.specs.Spaces.{kind_of};
 ghost use Rattle.supported.specs.Ranges.{AllInSpace, EqualOrApart, begin_of, code_ranges, is_chain, is_local, is_local_kind, local_of, may_follow, named_ranges, op_ranges, ops_ranges, result_range, storage_ranges};
 
 use pcode_model::{Instruction, Listing, Op, SpaceKind, Storage, Varnode};
 use std::alloc::{AllocError, Global};
-
-/// The kind of the space of this number.
-pub fn space_kind(listing: &Listing, space: u8) -> SpaceKind
-    ensures { result ≡ kind_of listing.now space }
-{
-    match listing.spaces.get(space as usize) {
-        Some(space) => space.kind,
-        None => SpaceKind::Constant,
-    }
-}
 
 /// Whether a kind is that of the register space or of the unique space.
 fn is_local_kind(kind: SpaceKind) -> bool
@@ -30,7 +19,7 @@ fn is_local_kind(kind: SpaceKind) -> bool
 fn stands_locally(listing: &Listing, varnode: &Varnode) -> bool
     ensures { result ≡ is_local listing.now varnode.now }
 {
-    is_local_kind(space_kind(listing, varnode.space))
+    is_local_kind(listing.space_kind(varnode.space))
 }
 
 fn push_local(

@@ -1,7 +1,7 @@
 //! The top call over streams in memory that fail.
 
-use super::made;
-use outside::{Bytes, Fails, Files, MemShelf, MemSink, MemSource, Words};
+use super::{failing, made};
+use outside::{Bytes, Fails, File, Files, MemShelf, MemSink, MemSource, Words};
 use pipeline::decompile_words;
 use std::alloc::Global;
 use std::process::Abort;
@@ -23,6 +23,9 @@ const ITS_C: &[u8] = b"void f_f(u64 in_register_288)
 }
 ";
 
+/// The number of a call that isn't made.
+const NEVER: u32 = 9999;
+
 /// What the objects of a call hold in the end.
 #[derive(Drop)]
 struct Ended {
@@ -35,15 +38,19 @@ fn bytes(rt: &impl Abort, alloc: Global, list: &[u8]) -> Bytes {
     made(rt, Bytes::copy_of(alloc, list))
 }
 
-/// The call of this number fails.
-fn failing(rt: &impl Abort, alloc: Global, number: u32) -> Fails {
-    let mut fails = Fails::new(alloc);
-    made(rt, fails.push(number));
-    fails
+fn sink(rt: &impl Abort, alloc: Global, room: u32, write: u32) -> MemSink {
+    made(rt, MemSink::new(alloc, room, failing(rt, alloc, write)))
 }
 
-fn sink(rt: &impl Abort, alloc: Global, room: u32) -> MemSink {
-    made(rt, MemSink::new(alloc, room, Fails::new(alloc)))
+/// A shelf with the one file `a.txt`.
+fn shelf(rt: &impl Abort, alloc: Global) -> MemShelf {
+    let mut files = Files::new(alloc);
+    let file = File {
+        name: made(rt, String::from_str(alloc, "a.txt")),
+        bytes: bytes(rt, alloc, LISTING),
+    };
+    made(rt, files.push(file));
+    MemShelf::new(files, Fails::new(alloc))
 }
 
 /// Runs the command.
@@ -55,7 +62,7 @@ fn told(
     mut out: MemSink,
     mut err: MemSink,
 ) -> Ended {
-    let mut shelf = MemShelf::new(Files::new(alloc), Fails::new(alloc));
+    let mut shelf = shelf(rt, alloc);
     let status = decompile_words(alloc, words, &mut input, &mut shelf, &mut out, &mut err);
     Ended {
         status,
@@ -64,7 +71,7 @@ fn told(
     }
 }
 
-/// A comment of so many bytes, its line feed included, and then the listing.
+/// A comment of so many bytes, its line feed left away, and then the listing.
 fn after_a_comment(rt: &impl Abort, alloc: Global, length: usize) -> Bytes {
     let filler = made(rt, vec![in alloc; b'#'; length]);
     let mut text = made(rt, Bytes::copy_of(alloc, &filler));
@@ -73,114 +80,176 @@ fn after_a_comment(rt: &impl Abort, alloc: Global, length: usize) -> Bytes {
     text
 }
 
-// Reads of at most 4,096 bytes: the first is all comment, the third finds the end, and a fourth isn't made.
+/// The greatest number of bytes of an input.
+const MOST: usize = 4_194_304;
+
+// The bytes of a comment, the read that fails, and what comes of it. Reads are of at most 4,096 bytes: of a comment of so
+// many the first is all comment, the third finds the end, and a fourth isn't made.
 #[test]
-fn a_read_that_fails_is_told(rt: HostRuntime) {
+fn a_read_that_fails_and_an_input_too_long_are_told(rt: HostRuntime) {
     let alloc = rt.alloc();
     let words = Words::new(alloc);
-    for number in 0..4 {
-        let text = after_a_comment(&rt, alloc, 4096);
-        let input = MemSource::new(text, failing(&rt, alloc, number));
-        let (out, err) = (sink(&rt, alloc, 65536), sink(&rt, alloc, 99));
-        let ended = told(&rt, alloc, &words, input, out, err);
-        if number < 3 {
-            assert_eq!(rt; ended.status, 3, "read {number}");
-            assert!(rt; ended.out.as_slice().is_empty(), "read {number}");
-            assert!(rt; ended.err.as_slice() == b"pcode2c: read fault\n".as_slice());
-        } else {
-            assert_eq!(rt; ended.status, 0, "read {number}");
-            assert!(rt; ended.out.as_slice() == ITS_C);
-        }
-    }
-}
-
-fn of_listing(rt: &impl Abort, alloc: Global, out: MemSink) -> Ended {
-    let words = Words::new(alloc);
-    let input = MemSource::new(bytes(rt, alloc, LISTING), Fails::new(alloc));
-    let err = sink(rt, alloc, 99);
-    told(rt, alloc, &words, input, out, err)
-}
-
-// The text is written by one call where there is room, and else up to the room.
-#[test]
-fn a_write_to_out_that_fails_is_told(rt: HostRuntime) {
-    let alloc = rt.alloc();
-    for number in 0..2 {
-        let out = made(&rt, MemSink::new(alloc, 65536, failing(&rt, alloc, number)));
-        let ended = of_listing(&rt, alloc, out);
-        assert_eq!(rt; ended.status == 4, number == 0, "write {number}");
-        assert_eq!(rt;
-            ended.out.as_slice().is_empty(),
-            number == 0,
-            "write {number}"
-        );
-        assert!(rt; ended.err.as_slice().is_empty(), "write {number}");
-    }
-    for room in 0..100u32 {
-        let ended = of_listing(&rt, alloc, sink(&rt, alloc, room));
-        let most = ITS_C.len().min(room as usize);
-        assert_eq!(rt; ended.status == 0, most == ITS_C.len(), "room {room}");
-        assert_eq!(rt; ended.status == 4, most < ITS_C.len(), "room {room}");
-        assert!(rt; ended.out.as_slice() == &ITS_C[..most], "room {room}");
-        assert!(rt; ended.err.as_slice().is_empty(), "room {room}");
-    }
-}
-
-// The words, the input, the read that fails, the status and the line, and `err` with each room up to the line.
-#[test]
-fn a_write_to_err_that_fails_is_told(rt: HostRuntime) {
-    let alloc = rt.alloc();
-    let rows: [(&[&str], &[u8], u32, u8, &[u8]); 4] = [
-        (&["x"], LISTING, 9, 2, b"pcode2c: bad arguments\n"),
-        (&["--stage", "c"], b"", 9, 2, b"pcode2c: bad arguments\n"),
-        (&[], LISTING, 0, 3, b"pcode2c: read fault\n"),
-        (&[], b"pcode 1\n", 9, 1, b"pcode2c: line 2: syntax\n"),
+    let rest = LISTING.len() + 1;
+    let fault: &[u8] = b"pcode2c: read fault\n";
+    let rows: [(usize, u32, u8, &[u8], &[u8]); 6] = [
+        (4096, 0, 3, b"", fault),
+        (4096, 1, 3, b"", fault),
+        (4096, 2, 3, b"", fault),
+        (4096, 3, 0, ITS_C, b""),
+        (MOST - rest, NEVER, 0, ITS_C, b""),
+        (MOST - rest + 1, NEVER, 6, b"", b"pcode2c: input too long\n"),
     ];
-    for (list, text, number, status, line) in rows {
-        let mut words = Words::new(alloc);
-        for word in list {
-            made(&rt, words.push(made(&rt, String::from_str(alloc, *word))));
-        }
-        for room in 0..40u32 {
-            let input = MemSource::new(bytes(&rt, alloc, text), failing(&rt, alloc, number));
-            let (out, err) = (sink(&rt, alloc, 99), sink(&rt, alloc, room));
-            let ended = told(&rt, alloc, &words, input, out, err);
-            let most = line.len().min(room as usize);
-            let wanted = if most < line.len() { 4 } else { status };
-            assert_eq!(rt; ended.status, wanted, "room {room}");
-            assert!(rt; ended.err.as_slice() == &line[..most], "room {room}");
-            assert!(rt; ended.out.as_slice().is_empty(), "room {room}");
-        }
+    for (length, read, status, out, err) in rows {
+        let text = after_a_comment(&rt, alloc, length);
+        let input = MemSource::new(text, failing(&rt, alloc, read));
+        let room = sink(&rt, alloc, 99, NEVER);
+        let ended = told(&rt, alloc, &words, input, room, sink(&rt, alloc, 99, NEVER));
+        assert_eq!(rt; ended.status, status, "{length} bytes, read {read}");
+        assert!(rt; ended.out.as_slice() == out, "{length} bytes, read {read}");
+        assert!(rt; ended.err.as_slice() == err, "{length} bytes, read {read}");
     }
 }
 
-// 4,194,304 bytes and one more.
+/// A call, and what it writes where there is room.
+struct Row {
+    words: &'static [&'static str],
+    text: &'static [u8],
+    /// The read and the write that fail.
+    read: u32,
+    write: u32,
+    status: u8,
+    out: &'static [u8],
+    err: &'static [u8],
+}
+
+const ROWS: [Row; 10] = [
+    Row {
+        words: &[],
+        text: LISTING,
+        read: NEVER,
+        write: NEVER,
+        status: 0,
+        out: ITS_C,
+        err: b"",
+    },
+    Row {
+        words: &[],
+        text: LISTING,
+        read: NEVER,
+        write: 0,
+        status: 4,
+        out: b"",
+        err: b"",
+    },
+    Row {
+        words: &["a.txt"],
+        text: b"",
+        read: NEVER,
+        write: NEVER,
+        status: 0,
+        out: ITS_C,
+        err: b"",
+    },
+    Row {
+        words: &["b.txt"],
+        text: LISTING,
+        read: NEVER,
+        write: NEVER,
+        status: 3,
+        out: b"",
+        err: b"pcode2c: read fault\n",
+    },
+    Row {
+        words: &["--stage", "plain", "-"],
+        text: LISTING,
+        read: NEVER,
+        write: NEVER,
+        status: 0,
+        out: ITS_C,
+        err: b"",
+    },
+    Row {
+        words: &["a.txt", "--stage=listing"],
+        text: b"",
+        read: NEVER,
+        write: NEVER,
+        status: 0,
+        out: LISTING,
+        err: b"",
+    },
+    Row {
+        words: &["--stage", "x"],
+        text: LISTING,
+        read: NEVER,
+        write: NEVER,
+        status: 2,
+        out: b"",
+        err: b"pcode2c: bad arguments\n",
+    },
+    Row {
+        words: &["--gen", "1", "a.txt"],
+        text: LISTING,
+        read: NEVER,
+        write: NEVER,
+        status: 2,
+        out: b"",
+        err: b"pcode2c: bad arguments\n",
+    },
+    Row {
+        words: &[],
+        text: LISTING,
+        read: 0,
+        write: NEVER,
+        status: 3,
+        out: b"",
+        err: b"pcode2c: read fault\n",
+    },
+    Row {
+        words: &[],
+        text: b"pcode 1\n",
+        read: NEVER,
+        write: NEVER,
+        status: 1,
+        out: b"",
+        err: b"pcode2c: line 2: syntax\n",
+    },
+];
+
+fn words_of(rt: &impl Abort, alloc: Global, list: &[&str]) -> Words {
+    let mut words = Words::new(alloc);
+    for word in list {
+        made(rt, words.push(made(rt, String::from_str(alloc, *word))));
+    }
+    words
+}
+
+// A text is written by one call, up to the room where there is less.
 #[test]
-fn an_input_may_have_so_many_bytes(rt: HostRuntime) {
+fn a_write_that_fails_is_told(rt: HostRuntime) {
     let alloc = rt.alloc();
-    let words = Words::new(alloc);
-    let most = 4_194_303 - LISTING.len();
-    for (length, status, out, err) in [
-        (most, 0, ITS_C, b"".as_slice()),
-        (
-            most + 1,
-            6,
-            b"".as_slice(),
-            b"pcode2c: input too long\n".as_slice(),
-        ),
-    ] {
-        let text = after_a_comment(&rt, alloc, length);
-        let input = MemSource::new(text, Fails::new(alloc));
-        let ended = told(
-            &rt,
-            alloc,
-            &words,
-            input,
-            sink(&rt, alloc, 99),
-            sink(&rt, alloc, 99),
-        );
-        assert_eq!(rt; ended.status, status);
-        assert!(rt; ended.out.as_slice() == out);
-        assert!(rt; ended.err.as_slice() == err);
+    for row in &ROWS {
+        let words = words_of(&rt, alloc, row.words);
+        for room in [0, 1, 22, 23, 54, 55, 56, 200, 220, 230u32] {
+            let input = MemSource::new(bytes(&rt, alloc, row.text), failing(&rt, alloc, row.read));
+            let out = sink(&rt, alloc, room, row.write);
+            let ended = told(
+                &rt,
+                alloc,
+                &words,
+                input,
+                out,
+                sink(&rt, alloc, room, row.write),
+            );
+            let out = row.out.len().min(room as usize);
+            let err = row.err.len().min(room as usize);
+            let fits = out == row.out.len() && err == row.err.len();
+            assert_eq!(rt;
+                ended.status,
+                if fits { row.status } else { 4 },
+                "room {room}"
+            );
+            assert!(rt; ended.out.as_slice() == &row.out[..out], "room {room}");
+            assert!(rt; ended.err.as_slice() == &row.err[..err], "room {room}");
+        }
     }
 }

@@ -12,7 +12,13 @@ pub returns : goal.returns
 returns c answers =
     let b = c.give.ensures answers in
     record {
-      means = asking.left_moved (with_target (widths_in c.args.local.now.variables.f.now) c.args.target c.args.answer.now.word (env_of c.args.local.now.variables.words.items)) (world_of (bytes_of c.args.local.now.memory) answers c.args.local.now.log) (left_of c.in_ok-local.field-0) (registers_of c.args.answer.now) _ b.means
-          (asking.left_is c.in_ok-local.field-0 c.args.answer.now (c.in_ok-local.ensures ∙ ap (λ bs. with_offsets bs (λ o. None)) c.as_slice.ensures));
+      means =
+          asking.left_moved
+          (with_target (widths_in c.args.local.now.variables.f.now) c.args.target c.args.answer.now.word
+          (env_of c.args.local.now.variables.words.items))
+          (world_of (bytes_of c.args.local.now.memory) answers c.args.local.now.log) (left_of c.in_ok-local.field-0)
+          (registers_of c.args.answer.now) _ b.means
+          (asking.left_is c.in_ok-local.field-0 c.args.answer.now
+          (c.in_ok-local.ensures ∙ ap (λ bs. with_offsets bs (λ o. None)) c.as_slice.ensures));
       function = b.function;
     }

@@ -10,7 +10,16 @@ use Rattle.c_run.proofs.Asking as asking
 use Rattle.c_run.proofs.calls.ask_after.Goals as goal
 
 pub ask-requires-clause-target : goal.ask-requires-clause-target
-ask-requires-clause-target c = let P : CFunction → Type 0 = λ z. IsTarget (widths_in z) c.args.target in subst P (sym (c.in_ok-record.ensures []).function) c.requires.target
+ask-requires-clause-target c =
+    let P : CFunction → Type 0 = λ z. IsTarget (widths_in z) c.args.target in
+    subst P (sym (c.in_ok-record.ensures []).function) c.requires.target
 
 pub returns : goal.returns
-returns c = on_ok_weaker c.ask.result (asking.asks_after c.args.context.now.answers.now c.args.local.now c.record.new.local c.ask.new.local c.args.context.now.listing.now c.args.target (in_world (recorded (event_of c.args.event) (local_of c.args.context.now.answers.now c.args.local.now).world) (local_of c.args.context.now.answers.now c.args.local.now)) (c.in_ok-record.ensures c.args.context.now.answers.now)) c.ask.ensures
+returns c =
+    on_ok_weaker c.ask.result
+    (asking.asks_after c.args.context.now.answers.now c.args.local.now c.record.new.local c.ask.new.local
+    c.args.context.now.listing.now c.args.target
+    (in_world (recorded (event_of c.args.event) (local_of c.args.context.now.answers.now c.args.local.now).world)
+    (local_of c.args.context.now.answers.now c.args.local.now))
+    (c.in_ok-record.ensures c.args.context.now.answers.now))
+    c.ask.ensures

@@ -9,9 +9,12 @@ use Rattle.cmeaning.specs.Do.{widths_in}
 use Rattle.cmeaning.specs.Fits.{all_true, arm_fits, arm_step, fits_step, stmt_fits}
 use Rattle.c_run.proofs.fit.+fits.Goals as goal
 
-switch_fits : (l : Listing) (ws : ℕ → ℕ) (e : Expr) (arms : List Arm) → stmt_fits l ws (S.Switch e arms) ≡ all_true (map (arm_fits l ws) arms)
+switch_fits : (l : Listing) (ws : ℕ → ℕ) (e : Expr) (arms : List Arm)
+    → stmt_fits l ws (S.Switch e arms) ≡ all_true (map (arm_fits l ws) arms)
 unfolding stmt_fits arm_fits
-switch_fits l ws e arms = ap (stmt_fits l ws) (sym (S.rolls-Switch e arms)) ∙ fold-roll-Stmt Bool Bool (fits_step l ws) arm_step (Stmt-F.Switch e arms)
+switch_fits l ws e arms =
+    ap (stmt_fits l ws) (sym (S.rolls-Switch e arms))
+    ∙ fold-roll-Stmt Bool Bool (fits_step l ws) arm_step (Stmt-F.Switch e arms)
 
 pub stmt_fits-returns-in-Switch : goal.stmt_fits-returns-in-Switch
 stmt_fits-returns-in-Switch t c =

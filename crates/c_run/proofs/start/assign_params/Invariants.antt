@@ -6,6 +6,7 @@ use Rattle.c_run.proofs.start.assign_params.Given as goal
 
 abbrev pub invariant-loop-i : goal.invariant-loop-i
 invariant-loop-i l = record {
-  words : env_of l.variables.words.items ≡ (λ v. first_word l.context.listing.now (entry_at l.origin) (slice_get (take l.i l.params) v));
+  words : env_of l.variables.words.items
+      ≡ (λ v. first_word l.context.listing.now (entry_at l.origin) (slice_get (take l.i l.params) v));
   function : l.variables.f.now ≡ l.fn.variables.f.now;
 }

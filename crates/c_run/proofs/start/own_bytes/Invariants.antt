@@ -8,5 +8,8 @@ use Rattle.c_run.proofs.start.own_bytes.Given as goal
 abbrev pub invariant-loop : goal.invariant-loop
 invariant-loop l = record {
   inside : l.here ≤ l.shape.last;
-  read : l.out.items ++ bytes_at (size l.shape) (first_apart l.context.listing.now (entry_at l.origin)).own l.here (l.count - l.counter) ≡ bytes_at (size l.shape) (first_apart l.context.listing.now (entry_at l.origin)).own l.offset l.count;
+  read : l.out.items
+      ++ bytes_at (size l.shape) (first_apart l.context.listing.now (entry_at l.origin)).own l.here
+      (l.count - l.counter)
+      ≡ bytes_at (size l.shape) (first_apart l.context.listing.now (entry_at l.origin)).own l.offset l.count;
 }

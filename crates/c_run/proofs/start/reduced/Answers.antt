@@ -9,6 +9,11 @@ loop-i-preserved c =
     let later : c.loop-i.i - 1 + 1 ≡ c.loop-i.i = omega arith in
     record {
       inside = omega arith;
-      value = reduced_more c.args.bytes.now (c.loop-i.i - 1) (size c.args.shape) c.loop-i.n c.reduce-n.result c.from-in-loop-i.result (omega arith)
-          (c.loop-i.invariant.value ∙ ap (λ (k : ℕ). number (drop k c.args.bytes.now) % size c.args.shape) (sym later)) c.from-in-loop-i.ensures (c.reduce-n.ensures.value ∙ ap (λ z. (z * 256 + c.from-in-loop-i.result) % size c.args.shape) c.from.ensures);
+      value =
+          reduced_more c.args.bytes.now (c.loop-i.i - 1) (size c.args.shape) c.loop-i.n c.reduce-n.result
+          c.from-in-loop-i.result (omega arith)
+          (c.loop-i.invariant.value
+          ∙ ap (λ (k : ℕ). number (drop k c.args.bytes.now) % size c.args.shape) (sym later))
+          c.from-in-loop-i.ensures (c.reduce-n.ensures.value
+          ∙ ap (λ z. (z * 256 + c.from-in-loop-i.result) % size c.args.shape) c.from.ensures);
     }

@@ -13,7 +13,8 @@ returns-clause-means c =
     let l = c.args.context.now.listing.now in
     let bytes = bytes_of c.in_ok-memory.memory in
     let hidden = at_offset c.in_ok-of_bytes.field-0 in
-    start_is l c.args.f.now c.args.entry.now (env_of c.assign_params.new.variables.words.items) (left_of c.new-2.result) bytes hidden c.new-3.result
+    start_is l c.args.f.now c.args.entry.now (env_of c.assign_params.new.variables.words.items)
+    (left_of c.new-2.result) bytes hidden c.new-3.result
     (c.in_ok-assign_params.ensures.words ∙ ap (λ (ps : List Param). words_at l bytes hidden [] ps) c.as_slice-3.ensures)
     (left_none (at_offset c.new-2.result) c.new-2.ensures)
     (c.in_ok-memory.ensures ∙ ap (first_bytes l) c.as_slice.ensures)

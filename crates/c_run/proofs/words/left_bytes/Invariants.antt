@@ -7,5 +7,6 @@ use Rattle.c_run.proofs.words.left_bytes.Given as goal
 abbrev pub invariant-loop : goal.invariant-loop
 invariant-loop l = record {
   inside : l.here ≤ l.shape.last;
-  read : l.out.items ++ bytes_at (size l.shape) (left_of l.left) l.here (l.count - l.counter) ≡ bytes_at (size l.shape) (left_of l.left) l.offset l.count;
+  read : l.out.items ++ bytes_at (size l.shape) (left_of l.left) l.here (l.count - l.counter)
+      ≡ bytes_at (size l.shape) (left_of l.left) l.offset l.count;
 }

@@ -1,7 +1,8 @@
 use Rattle.std.proofs.Common.{sym, subst}
 use Rattle.std.proofs.lemmas.Result.{err_from_is_err_and}
-use Rattle.cread.specs.Answer.{IsTreeOf}
-use Rattle.cread.proofs.Whole.{not_failed, not_true, read_is}
+use Rattle.exact_c.specs.Tree.{IsTreeOf}
+use Rattle.exact_c.proofs.Judged.{not_true}
+use Rattle.cread.proofs.Whole.{not_failed, read_is}
 use Rattle.cread.proofs.read.read_c.Goals as goal
 
 pub returns-in_err-f-clause-only : goal.returns-in_err-f-clause-only

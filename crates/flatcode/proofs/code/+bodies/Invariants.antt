@@ -9,10 +9,16 @@ use Rattle.flatcode.specs.Adds.{PutsAll, PutsArms}
 use Rattle.flatcode.proofs.code.+bodies.Given as goal
 
 abbrev pub invariant-put_body-loop-s : goal.invariant-put_body-loop-s
-invariant-put_body-loop-s l = (new : Draft) → PutsAll l.code new (pieces_of (returns_by l.callees) (drop l.s-index l.body)) l.out → PutsAll l.initial.code new (pieces_of (returns_by l.callees) l.body) l.out
+invariant-put_body-loop-s l =
+    (new : Draft)
+    → PutsAll l.code new (pieces_of (returns_by l.callees) (drop l.s-index l.body)) l.out
+    → PutsAll l.initial.code new (pieces_of (returns_by l.callees) l.body) l.out
 
 abbrev pub invariant-put_arms-loop-arm : goal.invariant-put_arms-loop-arm
-invariant-put_arms-loop-arm l = (new : Draft) → PutsArms l.code new (arms_of (returns_by l.callees) (drop l.arm-index l.arms)) l.out l.past → PutsArms l.initial.code new (arms_of (returns_by l.callees) l.arms) l.out l.past
+invariant-put_arms-loop-arm l =
+    (new : Draft)
+    → PutsArms l.code new (arms_of (returns_by l.callees) (drop l.arm-index l.arms)) l.out l.past
+    → PutsArms l.initial.code new (arms_of (returns_by l.callees) l.arms) l.out l.past
 
 abbrev depth : List Stmt → ℕ
 depth body = most size-Stmt body

@@ -19,7 +19,8 @@ returns-in_default-clause-fault c =
     let Q : List Place → Type 0 = λ ps. IsIn (place c.from.result 0) ps in
     let R : ℕ → Type 0 = λ a. IsIn (place a 0) c.in_ok-places.places.items in
     subst P (sym c.requires.no_tables)
-    (entry_fault l c.in_ok-places.places.items (c.in_ok-places.ensures {u = tt}) (λ h. c.in_default.ensures {u = tt} (subst Q (sym c.deref.ensures.value) (subst R (sym c.from.ensures) h))))
+    (entry_fault l c.in_ok-places.places.items (c.in_ok-places.ensures {u = tt})
+    (λ h. c.in_default.ensures {u = tt} (subst Q (sym c.deref.ensures.value) (subst R (sym c.from.ensures) h))))
 
 pub returns-then-len-gt-MAX_BLOCKS-clause-fault : goal.returns-then-len-gt-MAX_BLOCKS-clause-fault
 returns-then-len-gt-MAX_BLOCKS-clause-fault c =
@@ -34,11 +35,22 @@ returns-then-len-gt-MAX_BLOCKS-clause-fault c =
     c.in_ok-starts.ensures {u = tt}
     ∙ (ap (λ x. picked x c.deref-7.result.now (length c.deref-7.result.now)) c.deref-8.ensures.value
     ∙ ap (λ x. picked begins x (length x)) c.deref-7.ensures.value) in
-    let long : length (picked begins ps (length ps)) ≡ c.len-then-len-gt-MAX_BLOCKS.result = omega (arith, ap length starts, c.in_ok-starts.starts.ok.0) in
+    let long : length (picked begins ps (length ps)) ≡ c.len-then-len-gt-MAX_BLOCKS.result =
+    omega (arith, ap length starts, c.in_ok-starts.starts.ok.0) in
     let sound = c.in_default-first_fault.ensures {u = tt} in
     subst T (sym c.requires.no_tables)
-    (too_many_fault l [] c.len-then-len-gt-MAX_BLOCKS.result c.too_many.result
-    (sound, (picked begins ps (length ps), (are_starts l ps reached begins (c.in_ok-places.ensures {u = tt}) (subst P c.deref-2.ensures.value (c.in_ok-reached.ensures {u = tt})) (subst Q c.deref-5.ensures.value (c.in_ok-begins.ensures {u = tt})), (long, omega arith))))
+    (too_many_fault l [] c.len-then-len-gt-MAX_BLOCKS.result c.too_many.result (
+      sound,
+      (
+        picked begins ps (length ps),
+        (
+          are_starts l ps reached begins (c.in_ok-places.ensures {u = tt})
+              (subst P c.deref-2.ensures.value (c.in_ok-reached.ensures {u = tt}))
+              (subst Q c.deref-5.ensures.value (c.in_ok-begins.ensures {u = tt})),
+          (long, omega arith),
+        ),
+      ),
+    )
     c.too_many.ensures)
 
 pub returns-clause-no_fault : goal.returns-clause-no_fault

@@ -7,4 +7,5 @@ use Rattle.flow.proofs.blocks.number.Goals as goal
 pub returns : goal.returns
 returns c =
     let P : ℕ → Type 0 = λ a. IsLowerBound c.args.starts.now (place a c.args.place.index) c.lower_bound.result in
-    bound_of_member c.args.starts.now c.args.place c.lower_bound.result c.requires.rising (subst P c.from.ensures c.lower_bound.ensures) c.requires.member
+    bound_of_member c.args.starts.now c.args.place c.lower_bound.result c.requires.rising
+    (subst P c.from.ensures c.lower_bound.ensures) c.requires.member

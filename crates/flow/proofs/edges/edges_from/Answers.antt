@@ -11,14 +11,17 @@ use Rattle.flow.proofs.edges.edges_from.Goals as goal
 pub returns-in_default : goal.returns-in_default
 returns-in_default c =
     let l : Listing = c.args.listing.now in
-    let found : instruction_at l c.args.place.address ≡ None = ap (λ a. instruction_at l a) (sym c.from.ensures) ∙ (sym c.instruction.ensures ∙ ap option_copied c.in_default.is) in
+    let found : instruction_at l c.args.place.address ≡ None =
+    ap (λ a. instruction_at l a) (sym c.from.ensures)
+    ∙ (sym c.instruction.ensures ∙ ap option_copied c.in_default.is) in
     absurd (none_stands l c.args.place found c.requires.here)
 
 pub returns-in-GoesOn : goal.returns-in-GoesOn
 returns-in-GoesOn c =
     let l : Listing = c.args.listing.now in
     let i = c.in-Some.instruction.now in
-    let found : instruction_at l c.args.place.address ≡ Some i = ap (λ a. instruction_at l a) (sym c.from.ensures) ∙ sym (c.in-Some.ensures {u = tt}) in
+    let found : instruction_at l c.args.place.address ≡ Some i =
+    ap (λ a. instruction_at l a) (sym c.from.ensures) ∙ sym (c.in-Some.ensures {u = tt}) in
     let w = ways_by l c.args.place i GoesOn found c.requires.here (sym c.turn.ensures ∙ c.in-GoesOn.is) in
     (way_to l FallsOff (next_place i c.args.place.index), (c.to_next-next.ensures l c.requires.places, w))
 
@@ -26,7 +29,8 @@ pub returns-in-Returns : goal.returns-in-Returns
 returns-in-Returns c =
     let l : Listing = c.args.listing.now in
     let i = c.in-Some.instruction.now in
-    let found : instruction_at l c.args.place.address ≡ Some i = ap (λ a. instruction_at l a) (sym c.from.ensures) ∙ sym (c.in-Some.ensures {u = tt}) in
+    let found : instruction_at l c.args.place.address ≡ Some i =
+    ap (λ a. instruction_at l a) (sym c.from.ensures) ∙ sym (c.in-Some.ensures {u = tt}) in
     ⊎_elim
     (λ e. ways_by l c.args.place i Returns found c.requires.here (sym c.turn.ensures ∙ e))
     (λ e. ways_by l c.args.place i Stops found c.requires.here (sym c.turn.ensures ∙ e))
@@ -36,22 +40,33 @@ pub returns-in-Branches : goal.returns-in-Branches
 returns-in-Branches c =
     let l : Listing = c.args.listing.now in
     let i = c.in-Some.instruction.now in
-    let found : instruction_at l c.args.place.address ≡ Some i = ap (λ a. instruction_at l a) (sym c.from.ensures) ∙ sym (c.in-Some.ensures {u = tt}) in
-    let w = ways_by l c.args.place i (Branches c.in-Branches.to) found c.requires.here (sym c.turn.ensures ∙ c.in-Branches.is) in
+    let found : instruction_at l c.args.place.address ≡ Some i =
+    ap (λ a. instruction_at l a) (sym c.from.ensures) ∙ sym (c.in-Some.ensures {u = tt}) in
+    let w =
+    ways_by l c.args.place i (Branches c.in-Branches.to) found c.requires.here
+    (sym c.turn.ensures ∙ c.in-Branches.is) in
     (branch_way l i c.args.place.index c.in-Branches.to, (c.branch-places.ensures l c.requires.places, w))
 
 pub returns-in-Tests : goal.returns-in-Tests
 returns-in-Tests c =
     let l : Listing = c.args.listing.now in
     let i = c.in-Some.instruction.now in
-    let found : instruction_at l c.args.place.address ≡ Some i = ap (λ a. instruction_at l a) (sym c.from.ensures) ∙ sym (c.in-Some.ensures {u = tt}) in
-    let w = ways_by l c.args.place i (Tests c.in-Tests.to) found c.requires.here (sym c.turn.ensures ∙ c.in-Tests.is) in
-    (branch_way l i c.args.place.index c.in-Tests.to, (c.branch-places-in-Tests.ensures l c.requires.places, (way_to l FallsOff (next_place i c.args.place.index), (c.to_next-next.ensures l c.requires.places, w))))
+    let found : instruction_at l c.args.place.address ≡ Some i =
+    ap (λ a. instruction_at l a) (sym c.from.ensures) ∙ sym (c.in-Some.ensures {u = tt}) in
+    let w =
+    ways_by l c.args.place i (Tests c.in-Tests.to) found c.requires.here (sym c.turn.ensures ∙ c.in-Tests.is) in (
+      branch_way l i c.args.place.index c.in-Tests.to,
+      (
+        c.branch-places-in-Tests.ensures l c.requires.places,
+        (way_to l FallsOff (next_place i c.args.place.index), (c.to_next-next.ensures l c.requires.places, w)),
+      ),
+    )
 
 pub returns-in-Switches : goal.returns-in-Switches
 returns-in-Switches c =
     let l : Listing = c.args.listing.now in
     let i = c.in-Some.instruction.now in
-    let found : instruction_at l c.args.place.address ≡ Some i = ap (λ a. instruction_at l a) (sym c.from.ensures) ∙ sym (c.in-Some.ensures {u = tt}) in
+    let found : instruction_at l c.args.place.address ≡ Some i =
+    ap (λ a. instruction_at l a) (sym c.from.ensures) ∙ sym (c.in-Some.ensures {u = tt}) in
     let w = ways_by l c.args.place i Switches found c.requires.here (sym c.turn.ensures ∙ c.in-Switches.is) in
     (Fails NoTable, (refl, w))

@@ -12,8 +12,10 @@ pub returns-in-Some : goal.returns-in-Some
 returns-in-Some c =
     let ps = c.args.places.now in
     let P : Option FlowWhy → Type 0 = λ r. IsLeastFault (ways c.args.listing.now [] (at ps c.loop-slot.slot)) r in
-    first_here c.args.listing.now ps c.args.reached.now c.loop-slot.slot c.in-Some.why c.requires.places c.requires.reached c.loop-slot-test.true c.if-reached-slot.true c.loop-slot.invariant
-    (subst P c.in-Some.is (c.least_fault.ensures ps (ways c.args.listing.now [] (at ps c.loop-slot.slot)) c.edges_from.ensures))
+    first_here c.args.listing.now ps c.args.reached.now c.loop-slot.slot c.in-Some.why c.requires.places
+    c.requires.reached c.loop-slot-test.true c.if-reached-slot.true c.loop-slot.invariant
+    (subst P c.in-Some.is
+    (c.least_fault.ensures ps (ways c.args.listing.now [] (at ps c.loop-slot.slot)) c.edges_from.ensures))
 
 pub loop-slot-preserved : goal.loop-slot-preserved
 loop-slot-preserved c =
@@ -21,9 +23,16 @@ loop-slot-preserved c =
     let P : Option FlowWhy → Type 0 = λ r. IsLeastFault (ways c.args.listing.now [] (at ps c.loop-slot.slot)) r in
     one_more c.args.listing.now ps c.loop-slot.slot c.loop-slot.invariant
     (elim c.if-reached-slot.branch [
-      | then-reached-slot+in_default w ↦ no_fault_at c.args.listing.now (at ps c.loop-slot.slot) (subst P w.in_default.is (w.least_fault.ensures ps (ways c.args.listing.now [] (at ps c.loop-slot.slot)) w.edges_from.ensures))
-      | else-reached-slot w ↦ λ other h. false≢true (sym w.if-reached-slot.false ∙ (c.requires.reached.each c.loop-slot.slot c.loop-slot-test.true).1 h.0)
+      | then-reached-slot+in_default w ↦
+          no_fault_at c.args.listing.now (at ps c.loop-slot.slot)
+          (subst P w.in_default.is
+          (w.least_fault.ensures ps (ways c.args.listing.now [] (at ps c.loop-slot.slot)) w.edges_from.ensures))
+      | else-reached-slot w ↦
+          λ other h. false≢true (sym w.if-reached-slot.false
+          ∙ (c.requires.reached.each c.loop-slot.slot c.loop-slot-test.true).1 h.0)
     ])
 
 pub returns : goal.returns
-returns c = none_here c.args.listing.now c.args.places.now c.args.reached.now c.loop-slot.slot c.requires.reached c.loop-slot-test.false c.loop-slot.invariant
+returns c =
+    none_here c.args.listing.now c.args.places.now c.args.reached.now c.loop-slot.slot c.requires.reached
+    c.loop-slot-test.false c.loop-slot.invariant

@@ -15,5 +15,9 @@ loop-instruction-preserved c =
     cc
 
 pub returns : goal.returns
-returns c = are_places c.args.listing.now c.as_slice-instruction-items.result.now c.loop-instruction.places.items c.as_slice-instruction-items.ensures c.requires
-    (c.loop-instruction.invariant ∙ ap places_in (take_whole c.as_slice-instruction-items.result.now c.loop-instruction.instruction-index (omega arith)))
+returns c =
+    are_places c.args.listing.now c.as_slice-instruction-items.result.now c.loop-instruction.places.items
+    c.as_slice-instruction-items.ensures c.requires
+    (c.loop-instruction.invariant
+    ∙ ap places_in
+    (take_whole c.as_slice-instruction-items.result.now c.loop-instruction.instruction-index (omega arith)))

@@ -13,5 +13,6 @@ returns c =
     let test : FrameAccess → Bool = λ a. comes_before a (place q.address q.index) q.argument in
     let parts = parted ComesBefore test (comes_down (place q.address q.index) q.argument) xs c.requires in
     let called = c.partition_point in
-    let point = IsPartitionPoint-from_clause test xs called.result called.ensures.partitioned parts (λ a r f k. search rules) in
+    let point =
+    IsPartitionPoint-from_clause test xs called.result called.ensures.partitioned parts (λ a r f k. search rules) in
     point_is test xs called.result point called.ensures.bound

@@ -25,4 +25,6 @@ returns-in-Some c =
     let begins = to_z-of_z w128 c.from.result wide ∙ c.from.ensures ∙ to_z-of_z w32 v.offset narrow in
     ap (λ z. int_le z (to_z w128 (of_z w128 q.offset))) begins
     ∙ ap (λ z. int_le v.offset z) here
-    ∙ sym (held_by q.offset q.variables.now c.requires c.variables_before.result is v (c.in-Some.ensures {u = tt}).lookup.3.0 (c.in-Some.ensures {u = tt}).lookup.1)
+    ∙ sym
+    (held_by q.offset q.variables.now c.requires c.variables_before.result is v (c.in-Some.ensures {u = tt}).lookup.3.0
+    (c.in-Some.ensures {u = tt}).lookup.1)

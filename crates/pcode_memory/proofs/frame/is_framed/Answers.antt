@@ -14,8 +14,13 @@ returns-then-any_holds c =
     let q = c.args in
     let vs = q.frame.now.variables in
     let x = pos (q.offset % size q.ram) in
-    let above : to_z w128 (of_z w128 c.from-above.result) ≡ pos (q.offset % size q.ram) = omega (arith, ints, c.from-above.ensures, c.reduce.ensures.value) in
-    let found = c.any_holds.ensures ∙ ap (λ (ys : List FrameVariable). any_holds ys (to_z w128 (of_z w128 c.from-above.result))) c.as_slice-variables.ensures ∙ ap (λ (z : ℤ). any_holds vs z) above in
+    let above : to_z w128 (of_z w128 c.from-above.result) ≡ pos (q.offset % size q.ram) =
+    omega (arith, ints, c.from-above.ensures, c.reduce.ensures.value) in
+    let found =
+    c.any_holds.ensures
+    ∙ ap (λ (ys : List FrameVariable). any_holds ys (to_z w128 (of_z w128 c.from-above.result)))
+    c.as_slice-variables.ensures
+    ∙ ap (λ (z : ℤ). any_holds vs z) above in
     c.if-any_holds.true
     ∙ sym (framed_is (size q.ram) q.offset (omega arith) vs c.requires.near
     ∙ ap (λ b. or b (any_holds vs (x -ℤ pos (size q.ram)))) (sym found ∙ c.if-any_holds.true))
@@ -25,11 +30,19 @@ returns-else-any_holds c =
     let q = c.args in
     let vs = q.frame.now.variables in
     let x = pos (q.offset % size q.ram) in
-    let above : to_z w128 (of_z w128 c.from-above.result) ≡ pos (q.offset % size q.ram) = omega (arith, ints, c.from-above.ensures, c.reduce.ensures.value) in
-    let below : to_z w128 (of_z w128 (to_z w128 (of_z w128 (to_z w128 (of_z w128 c.from-above.result) -ℤ to_z w128 (of_z w128 c.from.result))) -ℤ pos 1)) ≡ pos (q.offset % size q.ram) -ℤ pos (size q.ram) =
+    let above : to_z w128 (of_z w128 c.from-above.result) ≡ pos (q.offset % size q.ram) =
+    omega (arith, ints, c.from-above.ensures, c.reduce.ensures.value) in
+    let below : to_z w128 (of_z w128
+    (to_z w128 (of_z w128 (to_z w128 (of_z w128 c.from-above.result) -ℤ to_z w128 (of_z w128 c.from.result))) -ℤ
+    pos 1))
+    ≡ pos (q.offset % size q.ram) -ℤ pos (size q.ram) =
     omega (arith, ints, c.from-above.ensures, c.from.ensures, c.reduce.ensures.value, c.reduce.ensures.inside)
     in
-    let found = c.any_holds.ensures ∙ ap (λ (ys : List FrameVariable). any_holds ys (to_z w128 (of_z w128 c.from-above.result))) c.as_slice-variables.ensures ∙ ap (λ (z : ℤ). any_holds vs z) above in
+    let found =
+    c.any_holds.ensures
+    ∙ ap (λ (ys : List FrameVariable). any_holds ys (to_z w128 (of_z w128 c.from-above.result)))
+    c.as_slice-variables.ensures
+    ∙ ap (λ (z : ℤ). any_holds vs z) above in
     c.any_holds-else-any_holds.ensures
     ∙ (ap (λ (z : ℤ). any_holds c.as_slice-variables.result.now z) below
     ∙ (ap (λ (ys : List FrameVariable). any_holds ys (x -ℤ pos (size q.ram))) c.as_slice-variables.ensures

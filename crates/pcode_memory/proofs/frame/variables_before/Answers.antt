@@ -12,5 +12,6 @@ returns c =
     let test : FrameVariable → Bool = λ v. ends_by v q.offset in
     let parts = parted EndsBefore test (ends_down q.offset) xs c.requires in
     let called = c.partition_point in
-    let point = IsPartitionPoint-from_clause test xs called.result called.ensures.partitioned parts (λ a r f k. search rules) in
+    let point =
+    IsPartitionPoint-from_clause test xs called.result called.ensures.partitioned parts (λ a r f k. search rules) in
     point_is test xs called.result point called.ensures.bound

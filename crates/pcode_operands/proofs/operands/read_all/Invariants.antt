@@ -7,4 +7,9 @@ use Rattle.pcode_operands.specs.Words.{joined}
 use Rattle.pcode_operands.proofs.operands.read_all.Given as goal
 
 abbrev pub invariant-loop-v : goal.invariant-loop-v
-invariant-loop-v l = joined l.words (read_all (whole (layout_of l.context)) l.context.listing.now (frame_in l.context) (state_of l.context l.state) (all_read (drop l.v-index l.varnodes))) ≡ read_all (whole (layout_of l.context)) l.context.listing.now (frame_in l.context) (state_of l.context l.state) (all_read l.varnodes)
+invariant-loop-v l =
+    joined l.words
+    (read_all (whole (layout_of l.context)) l.context.listing.now (frame_in l.context) (state_of l.context l.state)
+    (all_read (drop l.v-index l.varnodes)))
+    ≡ read_all (whole (layout_of l.context)) l.context.listing.now (frame_in l.context) (state_of l.context l.state)
+    (all_read l.varnodes)

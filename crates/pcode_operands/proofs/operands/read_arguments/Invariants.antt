@@ -7,4 +7,9 @@ use Rattle.pcode_operands.specs.Words.{joined}
 use Rattle.pcode_operands.proofs.operands.read_arguments.Given as goal
 
 abbrev pub invariant-loop-n : goal.invariant-loop-n
-invariant-loop-n l = joined l.words (read_all (whole (layout_of l.context)) l.context.listing.now (frame_in l.context) (state_of l.context l.state) (arguments l.n (drop l.n l.storages))) ≡ read_all (whole (layout_of l.context)) l.context.listing.now (frame_in l.context) (state_of l.context l.state) (arguments 0 l.storages)
+invariant-loop-n l =
+    joined l.words
+    (read_all (whole (layout_of l.context)) l.context.listing.now (frame_in l.context) (state_of l.context l.state)
+    (arguments l.n (drop l.n l.storages)))
+    ≡ read_all (whole (layout_of l.context)) l.context.listing.now (frame_in l.context) (state_of l.context l.state)
+    (arguments 0 l.storages)

@@ -8,4 +8,6 @@ use Rattle.pcode_run.proofs.branches.branch_ind.Goals as goal
 pub read_varnode-requires-clause-used : goal.read_varnode-requires-clause-used
 read_varnode-requires-clause-used c =
     let P : Varnode → Type 0 = λ v. IsUsed c.args.context.now.listing.now v in
-    subst P (sym c.input.ensures) (only_input c.args.context.now.listing.now c.args.op.now c.requires.obeys c.requires.context.formed.spaces O.BranchInd c.requires.kind refl refl).first
+    subst P (sym c.input.ensures)
+    (only_input c.args.context.now.listing.now c.args.op.now c.requires.obeys c.requires.context.formed.spaces
+    O.BranchInd c.requires.kind refl refl).first

@@ -11,7 +11,9 @@ use Rattle.pcode_run.proofs.branches.do_return.Goals as goal
 pub read_varnode-requires-clause-used : goal.read_varnode-requires-clause-used
 read_varnode-requires-clause-used c =
     let P : Varnode → Type 0 = λ v. IsUsed c.args.context.now.listing.now v in
-    subst P (sym c.input.ensures) (only_input c.args.context.now.listing.now c.args.op.now c.requires.obeys c.requires.context.formed.spaces O.Return c.requires.kind refl refl).first
+    subst P (sym c.input.ensures)
+    (only_input c.args.context.now.listing.now c.args.op.now c.requires.obeys c.requires.context.formed.spaces
+    O.Return c.requires.kind refl refl).first
 
 pub own_proto-requires : goal.own_proto-requires
 own_proto-requires c = c.requires.context.formed.func.proto

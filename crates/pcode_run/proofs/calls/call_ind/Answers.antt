@@ -17,14 +17,16 @@ read_arguments-requires-clause-used c =
     let l = c.args.context.now.listing.now in
     let P : Proto → Type 0 = λ p. Runs l p in
     let Q : List Storage → Type 0 = λ xs. AllByRecursion (IsArgument l) xs in
-    subst Q (sym c.as_slice.ensures) (subst P (sym c.own_proto-proto.ensures) (own_runs l c.requires.context.formed)).args
+    subst Q (sym c.as_slice.ensures)
+    (subst P (sym c.own_proto-proto.ensures) (own_runs l c.requires.context.formed)).args
 
 pub read_arguments-requires-clause-few : goal.read_arguments-requires-clause-few
 read_arguments-requires-clause-few c =
     let l = c.args.context.now.listing.now in
     let P : Proto → Type 0 = λ p. Runs l p in
     let Q : List Storage → Type 0 = λ xs. length xs < 2 ^ 32 in
-    subst Q (sym c.as_slice.ensures) (subst P (sym c.own_proto-proto.ensures) (own_runs l c.requires.context.formed)).few
+    subst Q (sym c.as_slice.ensures)
+    (subst P (sym c.own_proto-proto.ensures) (own_runs l c.requires.context.formed)).few
 
 pub call_to-requires-clause-keep : goal.call_to-requires-clause-keep
 call_to-requires-clause-keep c =
@@ -41,4 +43,6 @@ call_to-requires-clause-gives c =
 pub read_varnode-requires-clause-used : goal.read_varnode-requires-clause-used
 read_varnode-requires-clause-used c =
     let P : Varnode → Type 0 = λ v. IsUsed c.args.context.now.listing.now v in
-    subst P (sym c.input.ensures) (only_input c.args.context.now.listing.now c.args.op.now c.requires.obeys c.requires.context.formed.spaces O.CallInd c.requires.kind refl refl).first
+    subst P (sym c.input.ensures)
+    (only_input c.args.context.now.listing.now c.args.op.now c.requires.obeys c.requires.context.formed.spaces
+    O.CallInd c.requires.kind refl refl).first

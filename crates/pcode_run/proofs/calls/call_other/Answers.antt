@@ -10,7 +10,12 @@ pub read_all-requires-clause-used : goal.read_all-requires-clause-used
 read_all-requires-clause-used c =
     let l = c.args.context.now.listing.now in
     let P : List Varnode → Type 0 = λ vs. AllByRecursion (IsUsed l) vs in
-    subst P (sym (ap (λ (vs : List Varnode). take (length vs - 1) (drop 1 vs)) c.as_slice.ensures ∙ rest_is c.args.op.now.inputs)) (rest_used l c.args.op.now O.CallOther c.requires.kind c.requires.obeys c.requires.context.formed.spaces)
+    subst P
+    (sym (ap (λ (vs : List Varnode). take (length vs - 1) (drop 1 vs)) c.as_slice.ensures
+    ∙ rest_is c.args.op.now.inputs))
+    (rest_used l c.args.op.now O.CallOther c.requires.kind c.requires.obeys c.requires.context.formed.spaces)
 
 pub ask-requires-clause-out : goal.ask-requires-clause-out
-ask-requires-clause-out c = out_used c.args.context.now.listing.now c.args.op.now O.CallOther c.requires.kind c.requires.obeys c.requires.context.formed.spaces
+ask-requires-clause-out c =
+    out_used c.args.context.now.listing.now c.args.op.now O.CallOther c.requires.kind c.requires.obeys
+    c.requires.context.formed.spaces

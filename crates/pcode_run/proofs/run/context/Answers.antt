@@ -1,6 +1,6 @@
 use Rattle.std.proofs.Common.{◌≤◌, ◌^◌, ℕ, subst, sym}
 use Rattle.pcode_model.specs.Spaces.{size_of}
-use Rattle.pcode_operands.proofs.Registers.{ram_size}
+use Rattle.run_world.proofs.Declared.{ram_size}
 use Rattle.pcode_run.proofs.run.context.Goals as goal
 
 pub new-ram-requires : goal.new-ram-requires

@@ -11,12 +11,21 @@ pub loop-preserved : goal.loop-preserved
 loop-preserved c =
     let q = c.args in
     let none : c.loop.state.log.end ≡ None = search rules in
-    turned (whole (layout_of q.context.now)) q.context.now.listing.now (frame_in q.context.now) (state_of q.context.now c.loop.state) (state_of q.context.now c.step.new.state) q.n c.loop.counter _ c.loop-test.true (ap over_of none) (c.in_ok-step.ensures {u = tt}) c.loop.invariant
+    turned (whole (layout_of q.context.now)) q.context.now.listing.now (frame_in q.context.now)
+    (state_of q.context.now c.loop.state) (state_of q.context.now c.step.new.state) q.n c.loop.counter _
+    c.loop-test.true (ap over_of none) (c.in_ok-step.ensures {u = tt}) c.loop.invariant
 
 pub returns : goal.returns
 returns c =
     let q = c.args in
     elim c.loop-test.branch [
-      | else-loop-test w ↦ done_all (whole (layout_of q.context.now)) q.context.now.listing.now (frame_in q.context.now) (state_of q.context.now c.loop.state) (state_of q.context.now q.state) q.n c.loop.counter (omega arith) c.loop.invariant
-      | then-loop-test+then-is_some w ↦ done_early (whole (layout_of q.context.now)) q.context.now.listing.now (frame_in q.context.now) (state_of q.context.now c.loop.state) (state_of q.context.now q.state) q.n c.loop.counter c.loop.state.log.end refl (let some : IsSome c.loop.state.log.end = search rules in some) c.loop.invariant
+      | else-loop-test w ↦
+          done_all (whole (layout_of q.context.now)) q.context.now.listing.now (frame_in q.context.now)
+          (state_of q.context.now c.loop.state) (state_of q.context.now q.state) q.n c.loop.counter (omega arith)
+          c.loop.invariant
+      | then-loop-test+then-is_some w ↦
+          done_early (whole (layout_of q.context.now)) q.context.now.listing.now (frame_in q.context.now)
+          (state_of q.context.now c.loop.state) (state_of q.context.now q.state) q.n c.loop.counter
+          c.loop.state.log.end refl (let some : IsSome c.loop.state.log.end = search rules in some)
+          c.loop.invariant
     ]

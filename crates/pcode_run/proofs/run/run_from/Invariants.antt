@@ -7,4 +7,8 @@ use Rattle.pcode_operands.specs.State.{state_of}
 use Rattle.pcode_run.proofs.run.run_from.Given as goal
 
 abbrev pub invariant-loop : goal.invariant-loop
-invariant-loop l = after (step (whole (layout_of l.context)) l.context.listing.now (frame_in l.context)) (l.n - l.counter) (state_of l.context l.state) ≡ after (step (whole (layout_of l.context)) l.context.listing.now (frame_in l.context)) l.n (state_of l.context l.initial.state)
+invariant-loop l =
+    after (step (whole (layout_of l.context)) l.context.listing.now (frame_in l.context)) (l.n - l.counter)
+    (state_of l.context l.state)
+    ≡ after (step (whole (layout_of l.context)) l.context.listing.now (frame_in l.context)) l.n
+    (state_of l.context l.initial.state)

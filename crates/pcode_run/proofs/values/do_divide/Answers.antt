@@ -14,22 +14,35 @@ use Rattle.pcode_run.proofs.values.do_divide.Goals as goal
 pub read_two-requires-clause-first : goal.read_two-requires-clause-first
 read_two-requires-clause-first c =
     let P : Varnode → Type 0 = λ v. IsUsed c.args.context.now.listing.now v in
-    subst P (sym c.input.ensures) (divide_inputs c.args.context.now.listing.now c.args.op.now c.requires.obeys c.requires.context.formed.spaces c.args.code c.requires.kind).first
+    subst P (sym c.input.ensures)
+    (divide_inputs c.args.context.now.listing.now c.args.op.now c.requires.obeys c.requires.context.formed.spaces
+    c.args.code c.requires.kind).first
 
 pub read_two-requires-clause-second : goal.read_two-requires-clause-second
 read_two-requires-clause-second c =
     let P : Varnode → Type 0 = λ v. IsUsed c.args.context.now.listing.now v in
-    subst P (sym c.input-2.ensures) (divide_inputs c.args.context.now.listing.now c.args.op.now c.requires.obeys c.requires.context.formed.spaces c.args.code c.requires.kind).second
+    subst P (sym c.input-2.ensures)
+    (divide_inputs c.args.context.now.listing.now c.args.op.now c.requires.obeys c.requires.context.formed.spaces
+    c.args.code c.requires.kind).second
 
 pub put_divided-requires-clause-out : goal.put_divided-requires-clause-out
-put_divided-requires-clause-out c = (divide_output c.args.context.now.listing.now c.args.op.now c.requires.obeys c.requires.context.formed.spaces c.args.code c.requires.kind).used
+put_divided-requires-clause-out c =
+    (divide_output c.args.context.now.listing.now c.args.op.now c.requires.obeys c.requires.context.formed.spaces
+    c.args.code c.requires.kind).used
 
 pub put_divided-requires-clause-same : goal.put_divided-requires-clause-same
 put_divided-requires-clause-same c =
     let q = c.args in
-    let fits = divide_fits q.context.now.listing.now q.op.now c.requires.obeys c.requires.context.formed.spaces q.code c.requires.kind in
-    let are = widths_are c.in_ok-a.field-0 (c.in-Some.a, c.in-Some.b) c.input.result.size c.input-2.result.size c.in-Some.is ((c.in_ok-a.ensures {u = tt}).widths) in
-    are.0 ∙ ap (λ (v : Varnode). v.size) c.input.ensures ∙ fits.0 ∙ sym (are.1 ∙ ap (λ (v : Varnode). v.size) c.input-2.ensures ∙ fits.1)
+    let fits =
+    divide_fits q.context.now.listing.now q.op.now c.requires.obeys c.requires.context.formed.spaces q.code
+    c.requires.kind in
+    let are =
+    widths_are c.in_ok-a.field-0 (c.in-Some.a, c.in-Some.b) c.input.result.size c.input-2.result.size
+    c.in-Some.is ((c.in_ok-a.ensures {u = tt}).widths) in
+    are.0
+    ∙ ap (λ (v : Varnode). v.size) c.input.ensures
+    ∙ fits.0
+    ∙ sym (are.1 ∙ ap (λ (v : Varnode). v.size) c.input-2.ensures ∙ fits.1)
 
 pub returns-in-Some : goal.returns-in-Some
 returns-in-Some c =
@@ -41,9 +54,17 @@ returns-in-Some c =
     let op = q.op.now in
     let ins = divide_inputs l op c.requires.obeys c.requires.context.formed.spaces q.code c.requires.kind in
     let fits = divide_fits l op c.requires.obeys c.requires.context.formed.spaces q.code c.requires.kind in
-    let are = widths_are c.in_ok-a.field-0 (c.in-Some.a, c.in-Some.b) c.input.result.size c.input-2.result.size c.in-Some.is ((c.in_ok-a.ensures {u = tt}).widths) in
-    let read = two m l f s op.inputs c.input.result c.input-2.result c.in_ok-a.field-0 (Some (c.in-Some.a, c.in-Some.b)) ins.count c.input.ensures c.input-2.ensures ((c.in_ok-a.ensures {u = tt}).value) c.in-Some.is in
-    on_ok_weaker c.put_divided.result (λ e. e ∙ divide_done m l f q.instruction.now s op q.code c.in-Some.a c.in-Some.b c.in-Some.a.width.bytes c.requires.kind read (are.0 ∙ ap (λ (v : Varnode). v.size) c.input.ensures ∙ fits.0)) c.put_divided.ensures
+    let are =
+    widths_are c.in_ok-a.field-0 (c.in-Some.a, c.in-Some.b) c.input.result.size c.input-2.result.size
+    c.in-Some.is ((c.in_ok-a.ensures {u = tt}).widths) in
+    let read =
+    two m l f s op.inputs c.input.result c.input-2.result c.in_ok-a.field-0 (Some (c.in-Some.a, c.in-Some.b))
+    ins.count c.input.ensures c.input-2.ensures ((c.in_ok-a.ensures {u = tt}).value) c.in-Some.is in
+    on_ok_weaker c.put_divided.result
+    (λ e. e
+    ∙ divide_done m l f q.instruction.now s op q.code c.in-Some.a c.in-Some.b c.in-Some.a.width.bytes
+    c.requires.kind read (are.0 ∙ ap (λ (v : Varnode). v.size) c.input.ensures ∙ fits.0))
+    c.put_divided.ensures
 
 pub returns-in-None : goal.returns-in-None
 returns-in-None c =
@@ -54,4 +75,7 @@ returns-in-None c =
     let s = state_of q.context.now q.state.now in
     let op = q.op.now in
     let ins = divide_inputs l op c.requires.obeys c.requires.context.formed.spaces q.code c.requires.kind in
-    c.finish.ensures q.context.now ∙ ends m l f q.instruction.now s op (O.Divide q.code) Outside c.requires.kind (two m l f s op.inputs c.input.result c.input-2.result c.in_ok-a.field-0 None ins.count c.input.ensures c.input-2.ensures ((c.in_ok-a.ensures {u = tt}).value) c.in-None.is)
+    c.finish.ensures q.context.now
+    ∙ ends m l f q.instruction.now s op (O.Divide q.code) Outside c.requires.kind
+    (two m l f s op.inputs c.input.result c.input-2.result c.in_ok-a.field-0 None ins.count c.input.ensures
+    c.input-2.ensures ((c.in_ok-a.ensures {u = tt}).value) c.in-None.is)

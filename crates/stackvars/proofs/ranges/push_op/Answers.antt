@@ -10,7 +10,15 @@ pub returns : goal.returns
 returns c =
     on_ok_weaker c.push_result.result
     (λ e. e
-    ∙ (ap (λ (xs : List Atom). xs ++ atoms_of c.args.listing.now (further_ranges c.args.listing.now None c.args.op.now.code c.args.op.now.inputs)) c.in_ok-push_optional.ensures
-    ∙ (ap (λ (xs : List Atom). (xs ++ atoms_of c.args.listing.now (one_range c.args.op.now.out)) ++ atoms_of c.args.listing.now (further_ranges c.args.listing.now None c.args.op.now.code c.args.op.now.inputs)) c.in_ok-push_inputs.ensures
+    ∙ (ap
+    (λ (xs : List Atom). xs
+    ++ atoms_of c.args.listing.now
+    (further_ranges c.args.listing.now None c.args.op.now.code c.args.op.now.inputs))
+    c.in_ok-push_optional.ensures
+    ∙ (ap
+    (λ (xs : List Atom). (xs ++ atoms_of c.args.listing.now (one_range c.args.op.now.out))
+    ++ atoms_of c.args.listing.now
+    (further_ranges c.args.listing.now None c.args.op.now.code c.args.op.now.inputs))
+    c.in_ok-push_inputs.ensures
     ∙ op_pushed c.args.listing.now c.args.op.now c.requires c.args.out.now.items)))
     c.push_result.ensures

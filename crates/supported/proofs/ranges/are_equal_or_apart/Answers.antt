@@ -10,8 +10,14 @@ pub returns : goal.returns
 returns c =
     let named : List Varnode = named_ranges c.args.listing.now in
     let sorted : List Varnode = c.sort_by_key.new.self.items in
-    let moved : IsPermutation named sorted = subst (λ (xs : List Varnode). IsPermutation xs sorted) c.in_ok-ranges.ensures c.in_ok-sort_by_key.ensures.permutation in
+    let moved : IsPermutation named sorted =
+    subst (λ (xs : List Varnode). IsPermutation xs sorted) c.in_ok-ranges.ensures
+    c.in_ok-sort_by_key.ensures.permutation in
     let is : c.is_chain.result ≡ is_chain sorted = c.is_chain.ensures ∙ ap is_chain c.deref.ensures.value in (
       λ t. apart_permuted named sorted moved (apart_from_chain sorted (sym is ∙ t)),
-      λ h. is ∙ chain_from_apart sorted (in_space_permuted named sorted moved c.requires) (IsNonDecreasingBy-from_sort_by_key begin_of sorted c.in_ok-sort_by_key.ensures.sorted (λ a r q k. search rules)) (apart_unpermuted named sorted moved h),
+      λ h. is
+          ∙ chain_from_apart sorted (in_space_permuted named sorted moved c.requires)
+          (IsNonDecreasingBy-from_sort_by_key begin_of sorted c.in_ok-sort_by_key.ensures.sorted
+          (λ a r q k. search rules))
+          (apart_unpermuted named sorted moved h),
     )

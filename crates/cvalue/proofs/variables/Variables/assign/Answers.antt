@@ -8,4 +8,6 @@ pub invariant_of-self-clause-all : goal.invariant_of-self-clause-all
 invariant_of-self-clause-all c = length-set _ _ _ ∙ c.args.self.now.all
 
 pub invariant_of-self-clause-wide : goal.invariant_of-self-clause-wide
-invariant_of-self-clause-wide c = wide_set (widths_in c.args.self.now.f.now) c.args.self.now.words.items c.args.v c.args.word c.args.self.now.wide c.requires
+invariant_of-self-clause-wide c =
+    wide_set (widths_in c.args.self.now.f.now) c.args.self.now.words.items c.args.v c.args.word c.args.self.now.wide
+    c.requires

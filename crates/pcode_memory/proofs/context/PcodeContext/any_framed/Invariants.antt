@@ -8,5 +8,6 @@ use Rattle.pcode_memory.proofs.context.PcodeContext.any_framed.Given as goal
 abbrev pub invariant-loop : goal.invariant-loop
 invariant-loop l = record {
   inside : l.here ≤ l.shape.last;
-  none : any_at (size l.shape) (is_framed (layout_of l.self) l.space) l.here (l.count - l.counter) ≡ any_at (size l.shape) (is_framed (layout_of l.self) l.space) l.address l.count;
+  none : any_at (size l.shape) (is_framed (layout_of l.self) l.space) l.here (l.count - l.counter)
+      ≡ any_at (size l.shape) (is_framed (layout_of l.self) l.space) l.address l.count;
 }

@@ -7,5 +7,6 @@ use Rattle.pcode_memory.proofs.whole.Whole.any_spoiled.Given as goal
 abbrev pub invariant-loop : goal.invariant-loop
 invariant-loop l = record {
   inside : l.here ≤ l.shape.last;
-  none : any_at (size l.shape) (whole_of l.self).spoiled l.here (l.count - l.counter) ≡ any_at (size l.shape) (whole_of l.self).spoiled l.address l.count;
+  none : any_at (size l.shape) (whole_of l.self).spoiled l.here (l.count - l.counter)
+      ≡ any_at (size l.shape) (whole_of l.self).spoiled l.address l.count;
 }

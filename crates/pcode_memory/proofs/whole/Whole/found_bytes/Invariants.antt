@@ -8,5 +8,7 @@ use Rattle.pcode_memory.proofs.whole.Whole.found_bytes.Given as goal
 abbrev pub invariant-loop : goal.invariant-loop
 invariant-loop l = record {
   inside : l.here ≤ l.context.ram.last;
-  read : l.out.items ++ bytes_at (size l.context.ram) (found l.context.listing.now (whole_of l.self)) l.here (l.count - l.counter) ≡ bytes_at (size l.context.ram) (found l.context.listing.now (whole_of l.self)) l.address l.count;
+  read : l.out.items
+      ++ bytes_at (size l.context.ram) (found l.context.listing.now (whole_of l.self)) l.here (l.count - l.counter)
+      ≡ bytes_at (size l.context.ram) (found l.context.listing.now (whole_of l.self)) l.address l.count;
 }

@@ -15,4 +15,6 @@ fixed_bytes-requires c =
 
 pub returns : goal.returns
 returns c =
-    ap (λ (f : ℕ → ℕ → Option ℕ). λ (s : ℕ). λ (o : ℕ). or_else (f s o) 0) (c.in_ok-put_all.ensures ∙ ap (with_bytes c.args.bytes.now) (c.in_ok-map.ensures ∙ ap fixed_in c.as_slice.ensures))
+    ap (λ (f : ℕ → ℕ → Option ℕ). λ (s : ℕ). λ (o : ℕ). or_else (f s o) 0)
+    (c.in_ok-put_all.ensures
+    ∙ ap (with_bytes c.args.bytes.now) (c.in_ok-map.ensures ∙ ap fixed_in c.as_slice.ensures))

@@ -7,5 +7,6 @@ use Rattle.run_world.proofs.byte_map.ByteMap.meets.Given as goal
 abbrev pub invariant-loop : goal.invariant-loop
 invariant-loop l = record {
   inside : l.here ≤ l.shape.last;
-  none : any_at (size l.shape) (λ o. is_some (at l.self l.space o)) l.here (l.count - l.counter) ≡ any_at (size l.shape) (λ o. is_some (at l.self l.space o)) l.offset l.count;
+  none : any_at (size l.shape) (λ o. is_some (at l.self l.space o)) l.here (l.count - l.counter)
+      ≡ any_at (size l.shape) (λ o. is_some (at l.self l.space o)) l.offset l.count;
 }

@@ -7,5 +7,6 @@ use Rattle.run_world.proofs.byte_map.ByteMap.read.Given as goal
 abbrev pub invariant-loop : goal.invariant-loop
 invariant-loop l = record {
   inside : l.here ≤ l.shape.last;
-  read : l.out.items ++ bytes_at (size l.shape) (bytes_of l.self l.space) l.here (l.count - l.counter) ≡ bytes_at (size l.shape) (bytes_of l.self l.space) l.offset l.count;
+  read : l.out.items ++ bytes_at (size l.shape) (bytes_of l.self l.space) l.here (l.count - l.counter)
+      ≡ bytes_at (size l.shape) (bytes_of l.self l.space) l.offset l.count;
 }

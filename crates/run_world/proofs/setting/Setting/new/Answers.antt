@@ -13,13 +13,34 @@ fixed_bytes-requires c =
     subst P (sym c.as_slice.ensures) (all_fixed_end l.spaces l.fixed c.requires.spaces c.requires.fixed)
 
 pub overflow_cast-result : goal.overflow_cast-result
-overflow_cast-result c = omega (arith, c.number_of.ensures, ap (number_of Ram) c.as_slice-spaces.ensures, number_below Ram c.args.listing.now.spaces c.requires.complete.ram, c.requires.limited.spaces)
+overflow_cast-result c =
+    omega (
+      arith,
+      c.number_of.ensures,
+      ap (number_of Ram) c.as_slice-spaces.ensures,
+      number_below Ram c.args.listing.now.spaces c.requires.complete.ram,
+      c.requires.limited.spaces,
+    )
 
 pub overflow_cast-result-2 : goal.overflow_cast-result-2
-overflow_cast-result-2 c = omega (arith, c.number_of-2.ensures, ap (number_of Register) c.as_slice-spaces.ensures, number_below Register c.args.listing.now.spaces (omega (arith, c.requires.complete.register)), c.requires.limited.spaces)
+overflow_cast-result-2 c =
+    omega (
+      arith,
+      c.number_of-2.ensures,
+      ap (number_of Register) c.as_slice-spaces.ensures,
+      number_below Register c.args.listing.now.spaces (omega (arith, c.requires.complete.register)),
+      c.requires.limited.spaces,
+    )
 
 pub overflow_cast-result-3 : goal.overflow_cast-result-3
-overflow_cast-result-3 c = omega (arith, c.number_of-3.ensures, ap (number_of Unique) c.as_slice-spaces.ensures, number_below Unique c.args.listing.now.spaces (omega (arith, c.requires.complete.unique)), c.requires.limited.spaces)
+overflow_cast-result-3 c =
+    omega (
+      arith,
+      c.number_of-3.ensures,
+      ap (number_of Unique) c.as_slice-spaces.ensures,
+      number_below Unique c.args.listing.now.spaces (omega (arith, c.requires.complete.unique)),
+      c.requires.limited.spaces,
+    )
 
 pub returns : goal.returns
 returns c = record {

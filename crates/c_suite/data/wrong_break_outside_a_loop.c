@@ -1,0 +1,5 @@
+u32 f_f(u32 p_register_38)
+{
+  break;
+  return p_register_38;
+}

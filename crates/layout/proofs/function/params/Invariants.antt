@@ -1,6 +1,0 @@
-use Rattle.std.proofs.Common.{◌≡◌, ◌++◌, drop}
-use Rattle.blockcode.specs.Laid.{params_of}
-use Rattle.layout.proofs.function.params.Given as goal
-
-abbrev pub invariant-loop-variable : goal.invariant-loop-variable
-invariant-loop-variable l = l.params ++ params_of (drop l.variable-index l.variables) ≡ params_of l.variables
