@@ -11,9 +11,9 @@ use Rattle.pcode_model.specs.Spaces.{or}
 use Rattle.cmeaning.specs.Places.{place}
 use Rattle.cmeaning.specs.Valid.{is_in}
 use Rattle.cmeaning.proofs.Places.{put, some_first}
-use Rattle.cmeaning.specs.declared.tree.Arm.{Arm as Branch}
 use Rattle.blockcode.specs.declared.code.Arm.{Arm}
 use Rattle.blockcode.specs.Laid.{values_to, without, targets, branch_to, branches}
+use Rattle.layout_laws.proofs.Targets.{AreOnce, in_without, neither, once, values_none}
 use Rattle.layout.specs.declared.branches.Led.{Led}
 use Rattle.layout.specs.Collected.{first_of, with_one, with_value, with_case, with_cases, branch_arm, is_to, HasPlaces}
 
@@ -114,16 +114,6 @@ without_append x (y ∷ ts) us = by (y == x) (without_append x ts us) where
   by true next = next
   by false next = ap (λ zs. y ∷ zs) next
 
-in_without : (x t : ℕ) (ts : List ℕ) → (t == x) ≡ false → is_in t (without x ts) ≡ is_in t ts
-in_without x t [] ne = refl
-in_without x t (y ∷ ts) ne = by (y == x) refl (in_without x t ts ne) where
-  by : (b : Bool) → (y == x) ≡ b
-      → is_in t (without x ts) ≡ is_in t ts
-      → is_in t (cond b (without x ts) (y ∷ without x ts)) ≡ or (t == y) (is_in t ts)
-  by true e next = let other : (t == y) ≡ false = grind (arith, nat_tests, e, ne) in
-      next ∙ sym (ap (λ b. or b (is_in t ts)) other)
-  by false e next = ap (or (t == y)) next
-
 -- the one that is dropped
 without_same : (x t : ℕ) (ts : List ℕ) → (t == x) ≡ true → without x (with_last ts t) ≡ without x ts
 without_same x t ts same = by (is_in t ts) where
@@ -137,9 +127,9 @@ without_same x t ts same = by (is_in t ts) where
 without_other : (x t : ℕ) (ts : List ℕ) → (t == x) ≡ false → without x (with_last ts t) ≡ with_last (without x ts) t
 without_other x t ts ne =
     by (is_in t ts) ∙ ap (λ b. cond b (without x ts) (without x ts ++ t ∷ [])) (sym (in_without x t ts ne)) where
-  by : (b : Bool) → without x (cond b ts (ts ++ t ∷ [])) ≡ cond b (without x ts) (without x ts ++ t ∷ [])
-  by true = refl
-  by false = without_append x ts (t ∷ []) ∙ ap (λ b. without x ts ++ cond b [] (t ∷ [])) ne
+      by : (b : Bool) → without x (cond b ts (ts ++ t ∷ [])) ≡ cond b (without x ts) (without x ts ++ t ∷ [])
+      by true = refl
+      by false = without_append x ts (t ∷ []) ∙ ap (λ b. without x ts ++ cond b [] (t ∷ [])) ne
 
 last_behind : (x t : ℕ) (ts : List ℕ) → (t == x) ≡ false → with_last (x ∷ ts) t ≡ x ∷ with_last ts t
 last_behind x t ts ne = ap (λ b. cond (or b (is_in t ts)) (x ∷ ts) (x ∷ (ts ++ t ∷ []))) ne ∙ by (is_in t ts) where
@@ -151,15 +141,15 @@ targets_more : (xs : List Arm) (a : Arm) → targets (xs ++ a ∷ []) ≡ with_l
 targets_more [] a = refl
 targets_more (x ∷ xs) a =
     ap (λ ts. x.to ∷ without x.to ts) (targets_more xs a) ∙ by (a.to == x.to) refl where
-  by : (b : Bool) → (a.to == x.to) ≡ b
-      → x.to ∷ without x.to (with_last (targets xs) a.to) ≡ with_last (x.to ∷ without x.to (targets xs)) a.to
-  by true e =
-      ap (λ ts. x.to ∷ ts) (without_same x.to a.to (targets xs) e)
-      ∙ sym (ap (λ b. cond (or b (is_in a.to (without x.to (targets xs)))) (x.to ∷ without x.to (targets xs))
-      (x.to ∷ (without x.to (targets xs) ++ a.to ∷ []))) e)
-  by false e =
-      ap (λ ts. x.to ∷ ts) (without_other x.to a.to (targets xs) e)
-      ∙ sym (last_behind x.to a.to (without x.to (targets xs)) e)
+      by : (b : Bool) → (a.to == x.to) ≡ b
+          → x.to ∷ without x.to (with_last (targets xs) a.to) ≡ with_last (x.to ∷ without x.to (targets xs)) a.to
+      by true e =
+          ap (λ ts. x.to ∷ ts) (without_same x.to a.to (targets xs) e)
+          ∙ sym (ap (λ b. cond (or b (is_in a.to (without x.to (targets xs)))) (x.to ∷ without x.to (targets xs))
+          (x.to ∷ (without x.to (targets xs) ++ a.to ∷ []))) e)
+      by false e =
+          ap (λ ts. x.to ∷ ts) (without_other x.to a.to (targets xs) e)
+          ∙ sym (last_behind x.to a.to (without x.to (targets xs)) e)
 
 values_more : (t : ℕ) (xs : List Arm) (a : Arm)
     → values_to t (xs ++ a ∷ []) ≡ cond (a.to == t) (values_to t xs ++ a.value ∷ []) (values_to t xs)
@@ -174,55 +164,6 @@ values_more t (x ∷ xs) a = by (x.to == t) (a.to == t) (values_more t xs a) whe
   by true false next = ap (λ vs. x.value ∷ vs) next
   by false true next = next
   by false false next = next
-
--- ---- blocks that stand once
-
-abbrev AreOnce : List ℕ → Type 0
-AreOnce [] = Unit {0}
-AreOnce (t ∷ ts) = (is_in t ts ≡ false) × AreOnce ts
-
-neither : (a b : Bool) → or a b ≡ false → (a ≡ false) × (b ≡ false)
-neither true b h = absurd (cc)
-neither false b h = (refl, h)
-
-still_out : (x y : ℕ) (ts : List ℕ) → is_in y ts ≡ false → is_in y (without x ts) ≡ false
-still_out x y [] h = refl
-still_out x y (z ∷ ts) h = let parts = neither (y == z) (is_in y ts) h in
-    by (z == x) parts.0 (still_out x y ts parts.1) where
-  by : (b : Bool) → (y == z) ≡ false
-      → is_in y (without x ts) ≡ false
-      → is_in y (cond b (without x ts) (z ∷ without x ts)) ≡ false
-  by true ne next = next
-  by false ne next = ap (λ b. or b (is_in y (without x ts))) ne ∙ next
-
-out : (x : ℕ) (ts : List ℕ) → is_in x (without x ts) ≡ false
-out x [] = refl
-out x (z ∷ ts) = by (z == x) refl (out x ts) where
-  by : (b : Bool) → (z == x) ≡ b
-      → is_in x (without x ts) ≡ false
-      → is_in x (cond b (without x ts) (z ∷ without x ts)) ≡ false
-  by true e next = next
-  by false e next = let other : (x == z) ≡ false = grind (arith, nat_tests, e) in
-      ap (λ b. or b (is_in x (without x ts))) other ∙ next
-
-once_without : (x : ℕ) (ts : List ℕ) → AreOnce ts → AreOnce (without x ts)
-once_without x [] h = tt
-once_without x (z ∷ ts) h = by (z == x) (once_without x ts h.1) where
-  by : (b : Bool) → AreOnce (without x ts) → AreOnce (cond b (without x ts) (z ∷ without x ts))
-  by true next = next
-  by false next = (still_out x z ts h.0, next)
-
-once : (xs : List Arm) → AreOnce (targets xs)
-once [] = tt
-once (x ∷ xs) = (out x.to (targets xs), once_without x.to (targets xs) (once xs))
-
-values_none : (t : ℕ) (xs : List Arm) → is_in t (targets xs) ≡ false → values_to t xs ≡ []
-values_none t [] h = refl
-values_none t (x ∷ xs) h =
-    let parts = neither (t == x.to) (is_in t (without x.to (targets xs))) h in
-    let other : (x.to == t) ≡ false = grind (arith, nat_tests, parts.0) in
-    ap (λ b. cond b (x.value ∷ values_to t xs) (values_to t xs)) other
-    ∙ values_none t xs (sym (in_without x.to t (targets xs) parts.0) ∙ parts.1)
 
 -- ---- one more case
 

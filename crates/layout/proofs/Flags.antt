@@ -1,7 +1,6 @@
 -- Flags of the blocks that gotos name.
-use Rattle.std.proofs.Common.{◌≡◌, ℕ, suc, ◌+◌, ◌<◌, Bool, true, false, List, [], ◌∷◌, length, drop, refl, sym, ap, ◌∙◌, Some, arith}
+use Rattle.std.proofs.Common.{◌≡◌, ℕ, suc, ◌+◌, Bool, true, false, List, [], drop, refl, sym, ap, ◌∙◌, Some, arith}
 use Rattle.std.specs.Prelude.{slice_get}
-use Rattle.std.specs.List.{slice_index_or}
 use Rattle.pcode_model.specs.Spaces.{or}
 use Rattle.blockcode.specs.declared.code.Block.{Block}
 use Rattle.blockcode.specs.Laid.{exit_names, blocks_name}

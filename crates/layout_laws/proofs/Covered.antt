@@ -4,15 +4,14 @@ use Rattle.std.specs.Prelude.{◌==◌, cond}
 use Rattle.std.proofs.lemmas.Bool.Decides.{nat_tests}
 use Rattle.pcode_model.specs.Spaces.{or}
 use Rattle.cmeaning.specs.declared.tree.Expr.{Expr}
-use Rattle.cmeaning.specs.declared.tree.Arm.{Arm as Branch}
 use Rattle.cmeaning.specs.declared.tree.Stmt.{Stmt}
 use Rattle.cmeaning.specs.declared.tree.Stmt.TheOpen.{Stmt-F}
 use Rattle.cmeaning.specs.declared.tree.Stmt.TheVariants as S
-use Rattle.cmeaning.specs.Mentions.{Mention, Variable, Callee, LabelLine, all, in_expr, in_option, in_stmt, in_arm, in_arms, in_body}
+use Rattle.cmeaning.specs.Mentions.{Mention, Variable, Callee, LabelLine, all, in_expr, in_option, in_stmt, in_arms, in_body}
 use Rattle.cmeaning.proofs.Mentions.{in_append, in_arm_body, in_statement}
 use Rattle.naming.specs.declared.head.Head.{Head}
 use Rattle.naming.specs.Listed.{is_listed, with_one}
-use Rattle.naming_laws.specs.Covered.{Covers, CoversOne, IsCovered, has_line}
+use Rattle.naming_laws.specs.Covered.{Covers, IsCovered, has_line}
 use Rattle.naming_laws.specs.Kept.{HasOnce}
 use Rattle.naming_laws.proofs.Found.{listed_more}
 use Rattle.blockcode.specs.declared.code.Arm.{Arm}
@@ -21,7 +20,7 @@ use Rattle.blockcode.specs.declared.code.Exit.TheVariants as X
 use Rattle.blockcode.specs.declared.code.Block.{Block}
 use Rattle.blockcode.specs.declared.code.Code.{Code}
 use Rattle.blockcode.specs.Laid.{is_named, branch_to, branches, targets, label_line, goto, exit_lines, laid_from, laid_body}
-use Rattle.layout_laws.specs.Suits.{Knows, KnowsOne, BodySuits, ExitSuits, AllSuit}
+use Rattle.layout_laws.specs.Suits.{Knows, BodySuits, ExitSuits, AllSuit}
 
 -- ---- what lines mention
 
@@ -121,10 +120,10 @@ module _ (h : Head) where
       (sym (listed_more known n m)
       ∙ sym (ap (λ b. is_listed m (cond b known (known ++ n ∷ []))) (is_new n known under))
       ∙ is) where
-    by : (b : Bool) → is_listed m known ≡ b → (c : Bool) → (n == m) ≡ c → or b c ≡ true → m < suc n
-    by true e c f g = omega (arith, under m e)
-    by false e true f g = let same : n ≡ m = grind (arith, nat_tests, f) in omega (arith, same)
-    by false e false f g = absurd (cc)
+        by : (b : Bool) → is_listed m known ≡ b → (c : Bool) → (n == m) ≡ c → or b c ≡ true → m < suc n
+        by true e c f g = omega (arith, under m e)
+        by false e true f g = let same : n ≡ m = grind (arith, nat_tests, f) in omega (arith, same)
+        by false e false f g = absurd (cc)
 
   module _ (named : ℕ → Bool) where
     regroup : (a b c : List Stmt) → a ++ (b ++ c) ≡ (a ++ b) ++ c

@@ -1,8 +1,7 @@
 -- The returns, tests and switches of the laid-out body, and its whole run.
-use Rattle.std.proofs.Common.{◌≡◌, ◌≢◌, ℕ, zero, suc, ◌+◌, ◌-◌, ◌<◌, Bool, true, false, List, [], ◌∷◌, ◌++◌, length, drop, map, refl, sym, ap, ◌∙◌, subst, Option, Some, None, arith, inl, append_assoc}
+use Rattle.std.proofs.Common.{◌≡◌, ℕ, zero, suc, ◌+◌, ◌-◌, Bool, true, false, List, [], ◌∷◌, ◌++◌, length, drop, refl, sym, ap, ◌∙◌, subst, Option, Some, None, arith, inl}
 use Rattle.std.specs.Prelude.{◌==◌, cond, slice_get}
-use Rattle.std.proofs.lemmas.Bool.Decides.{nat_tests}
-use Rattle.machine.specs.Trace.{End, BadTarget, Returned, Undefined, Trace}
+use Rattle.machine.specs.Trace.{End, Returned, Undefined, Trace}
 use Rattle.machine.specs.TwoWay.{TwoWay, IsFront}
 use Rattle.machine.specs.Machine.{after, Machine, seen, IsMonotone, RankedSimulates}
 use Rattle.machine.proofs.TwoWay.{front_trans}
@@ -27,8 +26,8 @@ use Rattle.blockcode.specs.Run.{CodeState, widths, chosen, enters, enters_by, re
 use Rattle.blockcode.specs.CanLay.{AreSimple, CanLeave, any_switch, has_switch, is_switch, values_of}
 use Rattle.blockcode.specs.Laid.{branches, goto, exit_lines, laid_from, targets}
 use Rattle.blockcode.proofs.Straight.{get_of_drop, rest_of_drop, still, step_in}
-use Rattle.layout_laws.proofs.Switches.{Leads as CaseLeads, case_leads, cases_from, chosen_by, chosen_is, jumps, leads_to, switch_span, switch_steps}
-use Rattle.layout_laws.proofs.Follows.{Lines, flat_from, Leads, JumpLeads, ArmsLead, IsLaid, Given, behind, Meets, NeverLost, Related, Went, body_run, goes_on, entered, arrives, ended_goes, jump_goes, simple_goes, c_is, c_still, front}
+use Rattle.layout_laws.proofs.Switches.{case_leads, cases_from, chosen_by, chosen_is, jumps, leads_to, switch_span, switch_steps}
+use Rattle.layout_laws.proofs.Follows.{Lines, flat_from, Leads, JumpLeads, ArmsLead, IsLaid, Given, behind, NeverLost, Related, Went, body_run, goes_on, entered, arrives, ended_goes, jump_goes, simple_goes, c_is, c_still, front}
 
 -- ---- returns
 

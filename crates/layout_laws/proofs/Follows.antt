@@ -218,10 +218,22 @@ module _ (l : Listing) (k : Code) (g : Lines) where
   goes_on n u u' c c' j r never e h less meets =
       let P : CodeState → Type 0 = λ x. Meets k g r x (after body_run.step j c) in
       let Q : CState → Type 0 = λ x. Meets k g r u' x in
-      inr (0, (j, (r, (less, record {
-        meets = subst P (sym e) (subst Q (sym h) meets);
-        never = λ has m. never has (suc m);
-      }))))
+      inr (
+        0,
+        (
+          j,
+          (
+            r,
+            (
+              less,
+              record {
+                meets = subst P (sym e) (subst Q (sym h) meets);
+                never = λ has m. never has (suc m);
+              },
+            ),
+          ),
+        ),
+      )
 
   -- both have ended
   pub ended_goes : (n : ℕ) (u u' : CodeState) (c c' : CState) (h : End)

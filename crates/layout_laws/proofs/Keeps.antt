@@ -1,5 +1,5 @@
 -- The body that a code is laid out as shows what the code shows.
-use Rattle.std.proofs.Common.{◌≡◌, ℕ, ◌-◌, Bool, true, Option, Some, None, length, refl, sym, ap, subst}
+use Rattle.std.proofs.Common.{◌≡◌, ℕ, ◌-◌, Bool, true, Option, Some, None, length, refl, subst}
 use Rattle.std.specs.Prelude.{List, slice_get}
 use Rattle.machine.specs.Trace.{End, BadTarget}
 use Rattle.machine.specs.TwoWay.{TwoWay, IsFront, NeverEnds}
@@ -18,7 +18,7 @@ use Rattle.blockcode.specs.CanLay.{CanLay, has_switch}
 use Rattle.blockcode.proofs.Grows.{code_grows}
 use Rattle.naming.specs.declared.head.Head.{Head}
 use Rattle.naming.specs.Named.{named_function}
-use Rattle.naming.specs.Run.{body_machine, flat_machine, returns_of, seen_body, start_of, widths_of}
+use Rattle.naming.specs.Run.{body_machine, flat_machine, returns_of, seen_body, widths_of}
 use Rattle.naming_laws.specs.Covered.{IsCovered}
 use Rattle.naming_laws.proofs.Keeps as naming
 use Rattle.layout_laws.proofs.Follows.{Related, body_run, arrives}

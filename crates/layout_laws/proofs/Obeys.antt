@@ -1,6 +1,6 @@
 -- The lines of a laid body obey their rules, and the function that is made of it is a valid tree.
-use Rattle.std.proofs.Common.{◌≡◌, ◌≢◌, ℕ, suc, ◌+◌, ◌<◌, ◌≤◌, ◌^◌, ◌-◌, ◌&&◌, Bool, true, false, List, [], ◌∷◌, ◌++◌, length, map, Option, Some, refl, sym, ap, ap₂, ◌∙◌, subst, arith}
-use Rattle.std.specs.Prelude.{IsTrue, ◌==◌, cond, nat_lt, slice_get}
+use Rattle.std.proofs.Common.{◌≡◌, ◌≢◌, ℕ, suc, ◌+◌, ◌<◌, ◌≤◌, ◌^◌, ◌&&◌, Bool, true, false, List, [], ◌∷◌, ◌++◌, length, map, Some, refl, sym, ap, ◌∙◌, arith}
+use Rattle.std.specs.Prelude.{IsTrue, ◌==◌, cond, slice_get}
 use Rattle.std.proofs.lemmas.Bool.{and_parts}
 use Rattle.std.proofs.lemmas.Bool.Decides.{nat_tests}
 use Rattle.pcode_model.specs.Spaces.{or}
@@ -11,7 +11,7 @@ use Rattle.cmeaning.specs.declared.tree.Stmt.TheOpen.{Stmt-F}
 use Rattle.cmeaning.specs.declared.tree.Stmt.TheVariants as S
 use Rattle.cmeaning.specs.Mentions.{in_body}
 use Rattle.cmeaning.specs.Shape.{shape_of, is_condition}
-use Rattle.cmeaning.specs.Valid.{Rule, Cased, all_cases, all_hold, are_callees, are_cases_of, are_params, arms_hold, has_case, is_in, is_name, is_returned, IsValid}
+use Rattle.cmeaning.specs.Valid.{Rule, Cased, all_cases, all_hold, are_callees, are_cases_of, are_params, arms_hold, has_case, is_in, is_name, IsValid}
 use Rattle.naming.specs.declared.head.Head.{Head}
 use Rattle.naming.specs.Named.{named_function}
 use Rattle.naming.specs.Run.{widths_of}
@@ -24,9 +24,11 @@ use Rattle.blockcode.specs.declared.code.Exit.{Exit}
 use Rattle.blockcode.specs.declared.code.Exit.TheVariants as X
 use Rattle.blockcode.specs.declared.code.Block.{Block}
 use Rattle.blockcode.specs.declared.code.Code.{Code}
+use Rattle.blockcode.specs.CanLay.{values_of}
 use Rattle.blockcode.specs.Laid.{arms_name, blocks_name, branch_to, branches, exit_lines, exit_names, goto, is_named, jump_names, label_line, laid_body, laid_from, targets, values_to, without}
 use Rattle.blockcode.specs.Numbers.{AreNumbered, ArmsBelow, ExitBelow}
-use Rattle.layout_laws.specs.Suits.{AllSuit, BodySuits, ExitSuits, led_values}
+use Rattle.layout_laws.specs.Suits.{AllSuit, ExitSuits}
+use Rattle.layout_laws.proofs.Cases.{cases_led, led_values}
 use Rattle.layout_laws.proofs.Covered.{laid_covered, named_has_line}
 use Rattle.layout_laws.proofs.Laid.{below_at, block_names, jump_named, or_true, same_number, true_or}
 
@@ -147,7 +149,7 @@ module _ (h : Head) (leads : ℕ → Bool) where
       ∙ arms_obey arms ts (λ u is. each u (or_true (u == t) (is_in u ts) is))
 
   obey_switch : (e : Expr) (arms : List Arm)
-      → are_cases_of (led_values arms (targets arms)) (shape_of (widths_of h) e) ≡ true
+      → are_cases_of (values_of arms) (shape_of (widths_of h) e) ≡ true
       → ((t : ℕ) → arms_name arms t ≡ true → leads t ≡ true)
       → Obey (S.Switch e (branches arms) ∷ [])
   obey_switch e arms is lead = obey_one (S.Switch e (branches arms))
@@ -155,7 +157,8 @@ module _ (h : Head) (leads : ℕ → Bool) where
       (rule_is (S.Switch e (branches arms)) (Stmt-F.Switch e (branches arms)) (S.rolls-Switch e (branches arms)))
       ∙ ap (λ vs. are_cases_of vs (shape_of (widths_of h) e)
       && arms_hold (map (own_cased h leads) (branches arms)) 255) (cases_are arms (targets arms))
-      ∙ ap (λ b. b && arms_hold (map (own_cased h leads) (branches arms)) 255) is
+      ∙ ap (λ b. b && arms_hold (map (own_cased h leads) (branches arms)) 255)
+      (cases_led arms (shape_of (widths_of h) e) is)
       ∙ arms_obey arms (targets arms)
       (λ t among. let named = target_named arms t among in (lead t named, target_cased arms t named)))
 

@@ -4,7 +4,7 @@ use Rattle.std.specs.Prelude.{◌==◌, cond}
 use Rattle.std.proofs.lemmas.Bool.Decides.{nat_tests}
 use Rattle.cmeaning.specs.declared.tree.Stmt.{Stmt}
 use Rattle.cmeaning.specs.declared.tree.Stmt.TheVariants as S
-use Rattle.cmeaning.specs.Flat.{Flat, found_in, piece_of}
+use Rattle.cmeaning.specs.Flat.{found_in, piece_of}
 use Rattle.cmeaning.proofs.Flat.{piece_of_if, piece_of_label, piece_of_return}
 use Rattle.blockcode.specs.declared.code.Exit.{Exit}
 use Rattle.blockcode.specs.declared.code.Exit.TheVariants as X

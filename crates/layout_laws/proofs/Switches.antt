@@ -1,6 +1,6 @@
 -- The flat code of a laid switch: the choice, and a jump for each block that it leads to. A value leads to the jump to
 -- the block of its case.
-use Rattle.std.proofs.Common.{◌≡◌, ℕ, zero, suc, ◌+◌, ◌&&◌, Bool, true, false, not, List, [], ◌∷◌, ◌++◌, length, map, refl, sym, ap, ◌∙◌, Option, Some, None, arith, length-append}
+use Rattle.std.proofs.Common.{◌≡◌, ℕ, suc, ◌+◌, Bool, true, false, not, List, [], ◌∷◌, ◌++◌, length, map, refl, sym, ap, ◌∙◌, Option, Some, None, arith, length-append}
 use Rattle.std.specs.Prelude.{◌==◌, cond, slice_get}
 use Rattle.std.proofs.lemmas.Bool.{and_parts}
 use Rattle.std.proofs.lemmas.Bool.Decides.{nat_tests}
@@ -208,22 +208,22 @@ value_once [] w t u d h g = absurd (cc)
 value_once (a ∷ rest) w t u d h g =
     let parts = and_parts (not (is_in a.value (values_of rest))) (are_distinct (values_of rest)) d in
     by (a.value == w) (a.to == u) refl refl parts.0 h g (value_once rest w t u parts.1) where
-  by : (b c : Bool) → (a.value == w) ≡ b → (a.to == u) ≡ c
-      → not (is_in a.value (values_of rest)) ≡ true
-      → cond b (Some a.to) (leads_to rest w) ≡ Some t
-      → is_in w (cond c (a.value ∷ values_to u rest) (values_to u rest)) ≡ true
-      → (leads_to rest w ≡ Some t → is_in w (values_to u rest) ≡ true → u ≡ t)
-      → u ≡ t
-  by true true e f d h g next = let same : a.to ≡ t = cc in let to : a.to ≡ u = grind (arith, nat_tests, f) in
-      sym to ∙ same
-  by true false e f d h g next =
-      let same : w ≡ a.value = grind (arith, nat_tests, e) in
-      absurd (not_in (is_in a.value (values_of rest)) d
-      (ap (λ v. is_in v (values_of rest)) (sym same) ∙ value_of_arm rest w u g))
-  by false true e f d h g next =
-      let other : (w == a.value) ≡ false = grind (arith, nat_tests, e) in
-      next h (or_rest (w == a.value) (is_in w (values_to u rest)) other g)
-  by false false e f d h g next = next h g
+      by : (b c : Bool) → (a.value == w) ≡ b → (a.to == u) ≡ c
+          → not (is_in a.value (values_of rest)) ≡ true
+          → cond b (Some a.to) (leads_to rest w) ≡ Some t
+          → is_in w (cond c (a.value ∷ values_to u rest) (values_to u rest)) ≡ true
+          → (leads_to rest w ≡ Some t → is_in w (values_to u rest) ≡ true → u ≡ t)
+          → u ≡ t
+      by true true e f d h g next = let same : a.to ≡ t = cc in let to : a.to ≡ u = grind (arith, nat_tests, f) in
+          sym to ∙ same
+      by true false e f d h g next =
+          let same : w ≡ a.value = grind (arith, nat_tests, e) in
+          absurd (not_in (is_in a.value (values_of rest)) d
+          (ap (λ v. is_in v (values_of rest)) (sym same) ∙ value_of_arm rest w u g))
+      by false true e f d h g next =
+          let other : (w == a.value) ≡ false = grind (arith, nat_tests, e) in
+          next h (or_rest (w == a.value) (is_in w (values_to u rest)) other g)
+      by false false e f d h g next = next h g
 
 -- ---- the position of the arm
 

@@ -1,5 +1,5 @@
 -- What is asked of a code below a head, so that the C function that is made of both is a valid tree. This project's own.
-use Rattle.std.specs.Prelude.{◌≡◌, ℕ, Bool, true, false, List, [], ◌∷◌, ◌++◌, map, slice_get, Option, Some, None}
+use Rattle.std.specs.Prelude.{◌≡◌, ℕ, Bool, true, false, List, [], ◌∷◌, map, Some, None}
 use Rattle.cmeaning.specs.declared.tree.Local.{Local}
 use Rattle.cmeaning.specs.declared.tree.Param.{Param}
 use Rattle.cmeaning.specs.declared.tree.Stmt.{Stmt}
@@ -10,12 +10,11 @@ use Rattle.naming.specs.declared.head.Head.{Head}
 use Rattle.naming.specs.Run.{widths_of}
 use Rattle.naming_laws.specs.Covered.{CoversOne}
 use Rattle.naming_laws.specs.Rules.{own_rule}
-use Rattle.blockcode.specs.declared.code.Arm.{Arm}
 use Rattle.blockcode.specs.declared.code.Variable as code
 use Rattle.blockcode.specs.declared.code.Exit.{Exit}
 use Rattle.blockcode.specs.declared.code.Exit.TheVariants as X
 use Rattle.blockcode.specs.declared.code.Block.{Block}
-use Rattle.blockcode.specs.Laid.{targets, values_to}
+use Rattle.blockcode.specs.CanLay.{values_of}
 
 -- ---- mentions: variables and callees of the head, and no label
 
@@ -36,18 +35,13 @@ pub record BodySuits (h : Head) (ss : List Stmt) : Type 0 where
   pub knows : Knows h (in_body ss)
   pub obey : (leads : ℕ → Bool) (after_call : Bool) → all_hold after_call (map (own_rule h leads) ss) false 256 ≡ true
 
--- the values of the arms that lead to these blocks
-abbrev pub led_values : List Arm → List ℕ → List ℕ
-led_values arms [] = []
-led_values arms (t ∷ ts) = values_to t arms ++ led_values arms ts
-
 -- The result, the condition or the cases obey the rules.
 abbrev pub ExitSuits : Head → Exit → Type 0
 ExitSuits h (X.Return e) = (is_returned (widths_of h) h.gives e ≡ true) × Knows h (in_option e)
 ExitSuits h (X.Jump to) = Unit {0}
 ExitSuits h (X.Test c taken other) = (is_condition (shape_of (widths_of h) c) ≡ true) × Knows h (in_expr c)
 ExitSuits h (X.Switch e arms) =
-    (are_cases_of (led_values arms (targets arms)) (shape_of (widths_of h) e) ≡ true) × Knows h (in_expr e)
+    (are_cases_of (values_of arms) (shape_of (widths_of h) e) ≡ true) × Knows h (in_expr e)
 ExitSuits h X.Stop = Unit {0}
 
 abbrev pub AllSuit : Head → List Block → Type 0

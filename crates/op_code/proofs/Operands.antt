@@ -110,7 +110,7 @@ module _
     pub goes : (x : Local) → Sees l ranges look s x → x.world.over ≡ None
     goes x sees = ap (λ w. w.over) (sym sees.world) ∙ go
 
-    variable_has : (v : Varnode) (env : ℕ → Option ℕ)
+    pub variable_has : (v : Varnode) (env : ℕ → Option ℕ)
         → IsNarrow v
         → IsIn v ranges
         → Holds l ranges s.local env
@@ -151,7 +151,7 @@ module _
           kept = λ j lt. put_else x.env n (Some w) j (λ e. omega (arith, lt, e));
         }
 
-    reads_by : (k : SpaceKind) (returns : List Stmt → Bool) (n : ℕ) (v : Varnode) (x : Local)
+    pub reads_by : (k : SpaceKind) (returns : List Stmt → Bool) (n : ℕ) (v : Varnode) (x : Local)
         → IsNarrow v
         → IsOperandBy k l ranges v
         → length ranges ≤ n

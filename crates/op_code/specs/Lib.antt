@@ -1,3 +1,3 @@
 pub mod Form
 pub mod Made
-pub mod Table
+pub mod Worked

@@ -1,4 +1,5 @@
--- There are no more nodes in the lists of a family than it has nodes, so the graph's numbers are below those of its nodes.
+-- There are no more nodes in the lists of a family than it has nodes, so the graph's numbers are below those of its
+-- nodes.
 use Rattle.std.proofs.Common.{◌≡◌, ℕ, zero, suc, ◌+◌, ◌<◌, ◌≤◌, ◌^◌, List, [], ◌∷◌, ◌++◌, length, map, inl, inr, Option, Some, None, refl, sym, ap, ◌∙◌, subst, slice_get, arith, length-append}
 use Rattle.std.proofs.lemmas.List.{length-map}
 use native.Mathlib.Nat.{not-suc-le-zero, le_of_suc-le-suc}
@@ -86,7 +87,8 @@ module _ {T : Type 0} (f : Family T) (full : IsFull f) where
       let e = length-append (flat f.lists) f.spares in
       let n = flat_length f.lists in
       let h : length (flat f.lists ++ f.spares) ≤ length f.held =
-      fits (length f.held) (flat f.lists ++ f.spares) (apart_app (flat f.lists) f.spares all.apart (full.apart None) clash)
+      fits (length f.held) (flat f.lists ++ f.spares)
+      (apart_app (flat f.lists) f.spares all.apart (full.apart None) clash)
       low in
       omega (arith, e, n, h)
     where

@@ -56,7 +56,12 @@ module _ (before after : ℕ) (far : before ≡ after → ⊥) where
 
       pub shorter : length (list_at next (Some before)) < length (list_at now (Some before))
       shorter =
-          let l = ap (λ (h : Option ℕ → List ℕ). h (Some before)) m.lists ∙ key_away (s ∷ removed s (list_at now (Some after))) (Some after) (λ j. removed s (list_at now j)) (Some before) (λ z. far (some_same (sym z))) in
+          let l =
+          ap (λ (h : Option ℕ → List ℕ). h (Some before)) m.lists
+          ∙ key_away (s ∷ removed s (list_at now (Some after))) (Some after)
+          (λ j. removed s (list_at now j))
+          (Some before)
+          (λ z. far (some_same (sym z))) in
           let a = ap length l in let b = length_less s (list_at now (Some before)) member in omega arith
 
   module _ (old now : Family (Unit {0})) (e : head_or (list_at now (Some before)) None ≡ None)

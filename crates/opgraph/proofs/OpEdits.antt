@@ -139,7 +139,10 @@ module _ (o : Family Body) (i : Family ℕ) (u : Family (Unit {0})) (g : Good o 
 
     pub claimed_spares : length o'.spares + 1 ≡ length o.spares
     claimed_spares =
-        let e : list_at o' None ≡ removed x (list_at o None) = ap (λ (h : Option ℕ → List ℕ). h None) m.lists ∙ key_away ps (Some b) (λ j. removed x (list_at o1 j)) None (λ d. none_some (sym d)) ∙ ap (λ (z : Family Body). removed x (list_at z None)) e1 in
+        let e : list_at o' None ≡ removed x (list_at o None) =
+        ap (λ (h : Option ℕ → List ℕ). h None) m.lists
+        ∙ key_away ps (Some b) (λ j. removed x (list_at o1 j)) None (λ d. none_some (sym d))
+        ∙ ap (λ (z : Family Body). removed x (list_at z None)) e1 in
         let h = subst (λ k. IsIn x (list_at o k)) f.key (g.full_ops.everyone x f.low) in
         let l = length_less x (list_at o None) h in let k = ap length e in omega arith
 
@@ -212,7 +215,8 @@ module _ (o : Family Body) (i : Family ℕ) (u : Family (Unit {0})) (g : Good o 
                 (put_here (removed x (list_at o (Some r.block))) (Some r.block) (block_at (graph_of o i u))
                 y (ap Some d))
             | inr n ↦
-                removed_absent x (list_at o (Some y)) (λ k. n (some_same (sym x_key ∙ (g.full_ops.members (Some y) x k).1)))
+                removed_absent x (list_at o (Some y))
+                (λ k. n (some_same (sym x_key ∙ (g.full_ops.members (Some y) x k).1)))
                 ∙ sym
                 (put_away (removed x (list_at o (Some r.block))) (Some r.block) (block_at (graph_of o i u))
                 y (λ d. n (some_same d)))
@@ -223,6 +227,8 @@ module _ (o : Family Body) (i : Family ℕ) (u : Family (Unit {0})) (g : Good o 
 
     pub released_spares : length o'.spares ≡ length o.spares + 1
     released_spares =
-        let e : list_at o' None ≡ x ∷ removed x (list_at o None) = ap (λ (h : Option ℕ → List ℕ). h None) m.lists ∙ key_here (x ∷ removed x (list_at o None)) None (λ j. removed x (list_at o j)) None refl in
+        let e : list_at o' None ≡ x ∷ removed x (list_at o None) =
+        ap (λ (h : Option ℕ → List ℕ). h None) m.lists
+        ∙ key_here (x ∷ removed x (list_at o None)) None (λ j. removed x (list_at o j)) None refl in
         let d = removed_absent x (list_at o None) (λ k. none_some (sym (g.full_ops.members None x k).1 ∙ x_key)) in
         let l = ap length d in let k = ap length e in omega arith

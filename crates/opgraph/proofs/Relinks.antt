@@ -143,7 +143,10 @@ module _ (o : Family Body) (i : Family ℕ) (u : Family (Unit {0})) (g : Good o 
         along (p ∷ ps) h =
             let w = value_of (key_at u p) (h p (inl refl)) in
             λ j.
-            (ap or_zero (n.keys p) ∙ ap (λ k. or_zero (moved_key before after k)) w.1 ∙ one_moved w.0 ∙ ap (λ k. renamed before after (or_zero k)) (sym w.1))
+            (ap or_zero (n.keys p)
+            ∙ ap (λ k. or_zero (moved_key before after k)) w.1
+            ∙ one_moved w.0
+            ∙ ap (λ k. renamed before after (or_zero k)) (sym w.1))
             j ∷ along ps (λ t m. h t (inr m)) j
 
     row_moved : (k : Option ℕ) (b : Option Body) (ins : List ℕ)
@@ -202,13 +205,15 @@ module _ (o : Family Body) (i : Family ℕ) (u : Family (Unit {0})) (g : Good o 
       list_y y d =
           ap (λ (h : Option ℕ → List ℕ). h (Some y)) m.lists
           ∙ key_away (s ∷ removed s (list_at i None)) None (λ j. removed s (list_at i j)) (Some y) (λ z. none_some z)
-          ∙ removed_absent s (list_at i (Some y)) (λ k. d (some_same (sym owner ∙ (g.full_inputs.members (Some y) s k).1)))
+          ∙ removed_absent s (list_at i (Some y))
+          (λ k. d (some_same (sym owner ∙ (g.full_inputs.members (Some y) s k).1)))
 
       off_s : key_at i' s ≡ None
       off_s = ap (λ (h : ℕ → Option ℕ). h s) m.keys ∙ put_here None (Some s) (key_at i) s refl
 
       off_t : (t : ℕ) → (t ≡ s → ⊥) → key_at i' t ≡ key_at i t
-      off_t t d = ap (λ (h : ℕ → Option ℕ). h t) m.keys ∙ put_away None (Some s) (key_at i) t (λ z. d (sym (some_same z)))
+      off_t t d =
+          ap (λ (h : ℕ → Option ℕ). h t) m.keys ∙ put_away None (Some s) (key_at i) t (λ z. d (sym (some_same z)))
 
       unused_s : key_at u' s ≡ None
       unused_s = ap (λ (h : ℕ → Option ℕ). h s) n.keys ∙ put_here None (Some s) (key_at u) s refl
@@ -278,17 +283,23 @@ module _ (o : Family Body) (i : Family ℕ) (u : Family (Unit {0})) (g : Good o 
           let val = λ (t : ℕ). or_zero (key_at u t) in
           rewritten o i u g i' u' detached_good x r row (front r.inputs)
           (ap (map (λ t. or_zero (key_at u' t))) list_x
-          ∙ map_on (λ t. or_zero (key_at u' t)) val ps (λ t k. ap or_zero (unused_t t (λ z. far (subst (λ w. IsIn w ps) z k))))
+          ∙ map_on
+          (λ t. or_zero (key_at u' t))
+          val ps
+          (λ t k. ap or_zero (unused_t t (λ z. far (subst (λ w. IsIn w ps) z k))))
           ∙ sym (front_map val ps s) ∙ ap (λ qs. front (map val qs)) (sym e) ∙ ap front (sym (row_ins o i u g x r row)))
           (λ y d.
           ap (map (λ t. or_zero (key_at u' t))) (list_y y d)
           ∙ map_on (λ t. or_zero (key_at u' t)) val (list_at i (Some y)) (λ t k.
           ap or_zero
-          (unused_t t (λ z. d (some_same (sym owner ∙ ap (key_at i) (sym z) ∙ (g.full_inputs.members (Some y) t k).1))))))
+          (unused_t t
+          (λ z. d (some_same (sym owner ∙ ap (key_at i) (sym z) ∙ (g.full_inputs.members (Some y) t k).1))))))
 
       pub detached_spares : length i'.spares ≡ length i.spares + 1
       detached_spares =
-          let l : list_at i' None ≡ s ∷ removed s (list_at i None) = ap (λ (h : Option ℕ → List ℕ). h None) m.lists ∙ key_here (s ∷ removed s (list_at i None)) None (λ j. removed s (list_at i j)) None refl in
+          let l : list_at i' None ≡ s ∷ removed s (list_at i None) =
+          ap (λ (h : Option ℕ → List ℕ). h None) m.lists
+          ∙ key_here (s ∷ removed s (list_at i None)) None (λ j. removed s (list_at i j)) None refl in
           let d = removed_absent s (list_at i None) (λ k. none_some (sym (g.full_inputs.members None s k).1 ∙ owner)) in
           let a = ap length d in let b = ap length l in omega arith
 
@@ -315,6 +326,8 @@ pub last_some : (o : Family Body) (i : Family ℕ) (u : Family (Unit {0})) (g : 
 last_some o i u g x h some e =
     let at = ap (λ (f : ℕ → Option OpRow). f x) (op_at_is o i u) in
     let r = value_of (op_at (graph_of o i u) x) h in
-    let none = row_ins o i u g x r.0 (sym at ∙ r.1) ∙ ap (map (λ s. or_zero (key_at u s))) (last_empty (list_at i (Some x)) e) in
+    let none =
+    row_ins o i u g x r.0 (sym at ∙ r.1)
+    ∙ ap (map (λ s. or_zero (key_at u s))) (last_empty (list_at i (Some x)) e) in
     let zero_length = ap (λ z. length (inputs_in z)) r.1 ∙ ap length none in
     let big : 0 < 0 = subst (λ n. 0 < n) zero_length some in absurd (omega arith)

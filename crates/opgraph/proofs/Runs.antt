@@ -52,7 +52,8 @@ pub extended_more : (x v : ℕ) (vs ws : List ℕ) (g h k : Graph)
     → Extended x ws g k
 extended_more x v vs ws g h k f m d r e =
     let s : OpRow = record r { inputs = r.inputs ++ vs } in let a = f r e in let b = m s (row_after x s g h a) in
-    let z : r.inputs ++ vs ++ v ∷ [] ≡ r.inputs ++ ws = append_assoc r.inputs vs (v ∷ []) ∙ ap (λ us. r.inputs ++ us) d in
+    let z : r.inputs ++ vs ++ v ∷ [] ≡ r.inputs ++ ws =
+    append_assoc r.inputs vs (v ∷ []) ∙ ap (λ us. r.inputs ++ us) d in
     subst (λ us. Rewritten x (record r { inputs = us }) g k) z
     (rewritten_trans x s (record s { inputs = s.inputs ++ v ∷ [] }) g h k a b)
 
@@ -76,7 +77,8 @@ front_take (suc n) (x ∷ y ∷ ys) h = ap (λ zs. x ∷ zs) (front_take n (y �
 
 pub shortened_none : (x : ℕ) (g : Graph) → IsWhole g → Shortened x 0 g g
 shortened_none x g w r e =
-    still x r (record r { inputs = take (length r.inputs - 0) r.inputs }) g w e (λ j. record r { inputs = sym (take_all r.inputs (length r.inputs - 0) (omega arith)) j })
+    still x r (record r { inputs = take (length r.inputs - 0) r.inputs }) g w e
+    (λ j. record r { inputs = sym (take_all r.inputs (length r.inputs - 0) (omega arith)) j })
 
 pub shortened_op : (x n : ℕ) (g h : Graph) → IsOp g x → Shortened x n g h → IsOp h x
 shortened_op x n g h o f =
@@ -111,7 +113,8 @@ shortened_more x n g h k f m low r e =
     let a = f r e in let b = m s (row_after x s g h a) in
     let low' : n < length r.inputs = subst (λ z. n < length (inputs_in z)) e low in
     let one : length r.inputs - n ≡ suc (length r.inputs - (n + 1)) = omega arith in
-    let z : front (take (length r.inputs - n) r.inputs) ≡ take (length r.inputs - (n + 1)) r.inputs = ap (λ c. front (take c r.inputs)) one ∙ front_take (length r.inputs - (n + 1)) r.inputs (omega arith) in
+    let z : front (take (length r.inputs - n) r.inputs) ≡ take (length r.inputs - (n + 1)) r.inputs =
+    ap (λ c. front (take c r.inputs)) one ∙ front_take (length r.inputs - (n + 1)) r.inputs (omega arith) in
     subst (λ us. Rewritten x (record r { inputs = us }) g k) z
     (rewritten_trans x s (record s { inputs = front s.inputs }) g h k a b)
 

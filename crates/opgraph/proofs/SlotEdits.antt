@@ -98,7 +98,9 @@ module _ (o : Family Body) (i : Family ℕ) (u : Family (Unit {0})) (g : Good o 
         here =
             let k = row_is o i u g x r.block (row_back o i u g x r er) in
             let k' = row_is o i' u' g' x r.block (row_back o i u g x r er) in
-            let same : r ≡ record { block = r.block; code = k.0.code; inputs = inputs_of i u x; width = k.0.width } = some_same (sym er ∙ k.2) in
+            let same : r
+            ≡ record { block = r.block; code = k.0.code; inputs = inputs_of i u x; width = k.0.width } =
+            some_same (sym er ∙ k.2) in
             let body : k'.0 ≡ k.0 = some_same (sym k'.1 ∙ k.1) in
             k'.2
             ∙ (λ j.
@@ -248,7 +250,11 @@ module _ (o : Family Body) (i : Family ℕ) (u : Family (Unit {0})) (g : Good o 
 
       same_on : (y : ℕ) → map (λ t. or_zero (key_at u' t)) (list_at i (Some y)) ≡ inputs_of i u y
       same_on y =
-          map_on (λ t. or_zero (key_at u' t)) (λ t. or_zero (key_at u t)) (list_at i (Some y)) (λ t k. ap or_zero (use_t t (λ e. absent y (subst (λ z. IsIn z (list_at i (Some y))) e k))))
+          map_on
+          (λ t. or_zero (key_at u' t))
+          (λ t. or_zero (key_at u t))
+          (list_at i (Some y))
+          (λ t k. ap or_zero (use_t t (λ e. absent y (subst (λ z. IsIn z (list_at i (Some y))) e k))))
 
       pub attached_row : (r : OpRow)
           → op_at (graph_of o i u) x ≡ Some r
@@ -263,6 +269,14 @@ module _ (o : Family Body) (i : Family ℕ) (u : Family (Unit {0})) (g : Good o 
 
       pub attached_spares : length i'.spares + 1 ≡ length i.spares
       attached_spares =
-          let e : list_at i' None ≡ removed s (list_at i None) = ap (λ (h : Option ℕ → List ℕ). h None) m.lists ∙ key_away (removed s (list_at i1 (Some x)) ++ s ∷ []) (Some x) (λ j. removed s (list_at i1 j)) None (λ e. none_some (sym e)) ∙ ap (λ (z : Family ℕ). removed s (list_at z None)) e1 in
+          let e : list_at i' None ≡ removed s (list_at i None) =
+          ap (λ (h : Option ℕ → List ℕ). h None) m.lists
+          ∙ key_away (removed s (list_at i1 (Some x)) ++ s ∷ []) (Some x)
+          (λ j. removed s (list_at i1 j))
+          None
+          (λ e. none_some (sym e))
+          ∙ ap (λ (z : Family ℕ). removed s (list_at z None)) e1 in
           let h = subst (λ k. IsIn s (list_at i k)) f.key (g.full_inputs.everyone s f.low) in
-          let l = Rattle.node_lists.proofs.Families.length_less s (list_at i None) h in let k = ap length e in omega arith
+          let l = Rattle.node_lists.proofs.Families.length_less s (list_at i None) h in
+          let k = ap length e in
+          omega arith

@@ -112,7 +112,9 @@ module _ (o : Family Body) (i : Family ℕ) (u : Family (Unit {0})) (g : Good o 
           → (s : ℕ) × (key_at u s ≡ Some v) × (t ≡ slot_of i s)
       by_row None is f = none_some f
       by_row (Some r) is f =
-          let m = of_map (λ z. or_zero (key_at u z)) (list_at i (Some t.op.0)) t.slot v (ap (λ ps. slice_get ps t.slot) (sym (row_ins t.op.0 r is)) ∙ f) in
+          let m =
+          of_map (λ z. or_zero (key_at u z)) (list_at i (Some t.op.0)) t.slot v
+          (ap (λ ps. slice_get ps t.slot) (sym (row_ins t.op.0 r is)) ∙ f) in
           let s = m.0 in
           let k = (g.full_inputs.members (Some t.op.0) s (in_at (list_at i (Some t.op.0)) t.slot s m.1)).1 in
           let w = value_of (key_at u s) (g.reads s (some_of k)) in (
@@ -147,12 +149,20 @@ module _ (o : Family Body) (i : Family ℕ) (u : Family (Unit {0})) (g : Good o 
   whole = record {
     uses =
         λ v t.
-        let fwd : IsAmong t (uses_at (graph_of o i u) v) → Reads (graph_of o i u) t v = λ m. let r = among_map (slot_of i) (list_at u (Some v)) t (subst (λ (f : ℕ → List Slot). IsAmong t (f v)) (uses_at_is o i u) m) in
+        let fwd : IsAmong t (uses_at (graph_of o i u) v) → Reads (graph_of o i u) t v =
+        λ m.
+        let r =
+        among_map (slot_of i) (list_at u (Some v)) t
+        (subst (λ (f : ℕ → List Slot). IsAmong t (f v)) (uses_at_is o i u) m) in
         subst (λ (z : Slot). Reads (graph_of o i u) z v) (sym r.2)
         (subst
         (λ (f : ℕ → Option OpRow). slice_get (inputs_in (f (slot_of i r.0).op.0)) (slot_of i r.0).slot ≡ Some v)
         (sym (op_at_is o i u)) (use_reads r.0 v (g.full_uses.members (Some v) r.0 r.1).1)) in
-        let back : Reads (graph_of o i u) t v → IsAmong t (uses_at (graph_of o i u) v) = λ h. let r = reads_use t v (subst (λ (f : ℕ → Option OpRow). slice_get (inputs_in (f t.op.0)) t.slot ≡ Some v) (op_at_is o i u) h) in
+        let back : Reads (graph_of o i u) t v → IsAmong t (uses_at (graph_of o i u) v) =
+        λ h.
+        let r =
+        reads_use t v
+        (subst (λ (f : ℕ → Option OpRow). slice_get (inputs_in (f t.op.0)) t.slot ≡ Some v) (op_at_is o i u) h) in
         subst (λ (f : ℕ → List Slot). IsAmong t (f v)) (sym (uses_at_is o i u))
         (subst (λ (z : Slot). IsAmong z (uses_of i u v)) (sym r.2)
         (map_among (slot_of i) (list_at u (Some v)) r.0 (low_use r.0 v r.1))) in (fwd, back);
@@ -162,7 +172,11 @@ module _ (o : Family Body) (i : Family ℕ) (u : Family (Unit {0})) (g : Good o 
         (once_map (slot_of i) (list_at u (Some v)) (g.full_uses.apart (Some v)) (slots_one v));
     ops =
         λ b x.
-        let fwd : IsIn x (block_at (graph_of o i u) b) → in_block b (op_at (graph_of o i u) x) = λ m. let r = row_is x b (g.full_ops.members (Some b) x m).1 in subst (λ (f : ℕ → Option OpRow). in_block b (f x)) (sym (op_at_is o i u)) (subst (in_block b) (sym r.2) refl) in
+        let fwd : IsIn x (block_at (graph_of o i u) b) → in_block b (op_at (graph_of o i u) x) =
+        λ m.
+        let r = row_is x b (g.full_ops.members (Some b) x m).1 in
+        subst (λ (f : ℕ → Option OpRow). in_block b (f x)) (sym (op_at_is o i u))
+        (subst (in_block b) (sym r.2) refl) in
         let back : in_block b (op_at (graph_of o i u) x) → IsIn x (block_at (graph_of o i u) b) =
         λ h.
         in_back b x (row_of o i u x) refl
@@ -171,7 +185,9 @@ module _ (o : Family Body) (i : Family ℕ) (u : Family (Unit {0})) (g : Good o 
     ops_once = λ b. g.full_ops.apart (Some b);
     values =
         λ t v h.
-        let r = reads_use t v (subst (λ (f : ℕ → Option OpRow). slice_get (inputs_in (f t.op.0)) t.slot ≡ Some v) (op_at_is o i u) h) in
+        let r =
+        reads_use t v
+        (subst (λ (f : ℕ → Option OpRow). slice_get (inputs_in (f t.op.0)) t.slot ≡ Some v) (op_at_is o i u) h) in
         subst (λ (f : ℕ → Option OpRow). has_width (f v)) (sym (op_at_is o i u)) (value_row v (g.values r.0 v r.1));
   }
     where

@@ -13,7 +13,8 @@ impl OpGraph {
     fn claim_last(&mut self, block: u32, code: Code, width: Option<Width>) -> u32
         requires block { IsBlock self.old block }
         requires spare { 0 < self.old.spare_ops }
-        ensures added { Added result (record { block = block; code = code; inputs = []; width = width }) (block_at self.old block ++ result ∷ []) self.old self.new }
+        ensures added { Added result (record { block = block; code = code; inputs = []; width = width })
+            (block_at self.old block ++ result ∷ []) self.old self.new }
         ensures spare_ops { self.new.spare_ops + 1 ≡ self.old.spare_ops }
         ensures spare_slots { self.new.spare_slots ≡ self.old.spare_slots }
     {
@@ -31,7 +32,8 @@ impl OpGraph {
     fn claim_first(&mut self, block: u32, code: Code, width: Option<Width>) -> u32
         requires block { IsBlock self.old block }
         requires spare { 0 < self.old.spare_ops }
-        ensures added { Added result (record { block = block; code = code; inputs = []; width = width }) (result ∷ block_at self.old block) self.old self.new }
+        ensures added { Added result (record { block = block; code = code; inputs = []; width = width })
+            (result ∷ block_at self.old block) self.old self.new }
         ensures spare_ops { self.new.spare_ops + 1 ≡ self.old.spare_ops }
         ensures spare_slots { self.new.spare_slots ≡ self.old.spare_slots }
     {
@@ -49,7 +51,10 @@ impl OpGraph {
     fn claim_before(&mut self, at: u32, code: Code, width: Option<Width>) -> u32
         requires at { IsOp self.old at }
         requires spare { 0 < self.old.spare_ops }
-        ensures added { (r : OpRow) → op_at self.old at ≡ Some r → Added result (record { block = r.block; code = code; inputs = []; width = width }) (inserted result at (block_at self.old r.block)) self.old self.new }
+        ensures added { (r : OpRow)
+            → op_at self.old at ≡ Some r
+            → Added result (record { block = r.block; code = code; inputs = []; width = width })
+            (inserted result at (block_at self.old r.block)) self.old self.new }
         ensures spare_ops { self.new.spare_ops + 1 ≡ self.old.spare_ops }
         ensures spare_slots { self.new.spare_slots ≡ self.old.spare_slots }
     {
@@ -92,8 +97,12 @@ impl OpGraph {
     ) -> Result<OpId, Memory>
         requires block { IsBlock self.old block.0 }
         requires inputs { AreValues self.old (numbers inputs.now) }
-        ensures added { IfOk result (λ op. Added op.0 (record { block = block.0; code = code; inputs = numbers inputs.now; width = width }) (block_at self.old block.0 ++ op.0 ∷ []) self.old self.new) }
-        ensures failed { IfErr result (λ _. Same self.old self.new × (self.old.spare_ops ≤ self.new.spare_ops) × (self.old.spare_slots ≤ self.new.spare_slots)) }
+        ensures added { IfOk result
+            (λ op. Added op.0 (record { block = block.0; code = code; inputs = numbers inputs.now; width = width })
+            (block_at self.old block.0 ++ op.0 ∷ []) self.old self.new) }
+        ensures failed { IfErr result (λ _. Same self.old self.new
+            × (self.old.spare_ops ≤ self.new.spare_ops)
+            × (self.old.spare_slots ≤ self.new.spare_slots)) }
         ensures ready { 0 < self.old.spare_ops → length inputs.now ≤ self.old.spare_slots → IsOk result }
         ensures spare_ops { self.old.spare_ops ≤ self.new.spare_ops + 1 }
         ensures spare_slots { self.old.spare_slots ≤ self.new.spare_slots + length inputs.now }
@@ -114,8 +123,14 @@ impl OpGraph {
     ) -> Result<OpId, Memory>
         requires at { IsOp self.old at.0 }
         requires inputs { AreValues self.old (numbers inputs.now) }
-        ensures added { IfOk result (λ op. (r : OpRow) → op_at self.old at.0 ≡ Some r → Added op.0 (record { block = r.block; code = code; inputs = numbers inputs.now; width = width }) (inserted op.0 at.0 (block_at self.old r.block)) self.old self.new) }
-        ensures failed { IfErr result (λ _. Same self.old self.new × (self.old.spare_ops ≤ self.new.spare_ops) × (self.old.spare_slots ≤ self.new.spare_slots)) }
+        ensures added { IfOk result (λ op.
+            (r : OpRow)
+            → op_at self.old at.0 ≡ Some r
+            → Added op.0 (record { block = r.block; code = code; inputs = numbers inputs.now; width = width })
+            (inserted op.0 at.0 (block_at self.old r.block)) self.old self.new) }
+        ensures failed { IfErr result (λ _. Same self.old self.new
+            × (self.old.spare_ops ≤ self.new.spare_ops)
+            × (self.old.spare_slots ≤ self.new.spare_slots)) }
         ensures ready { 0 < self.old.spare_ops → length inputs.now ≤ self.old.spare_slots → IsOk result }
         ensures spare_ops { self.old.spare_ops ≤ self.new.spare_ops + 1 }
         ensures spare_slots { self.old.spare_slots ≤ self.new.spare_slots + length inputs.now }
@@ -129,8 +144,12 @@ impl OpGraph {
     /// A new MULTIEQUAL with no inputs, the first op of the block.
     pub fn add_multi(&mut self, block: BlockId, atom: u32, width: Width) -> Result<OpId, Memory>
         requires { IsBlock self.old block.0 }
-        ensures added { IfOk result (λ op. Added op.0 (record { block = block.0; code = Code.Multi atom; inputs = []; width = Some width }) (op.0 ∷ block_at self.old block.0) self.old self.new) }
-        ensures failed { IfErr result (λ _. Same self.old self.new × (self.old.spare_ops ≤ self.new.spare_ops) × (self.old.spare_slots ≤ self.new.spare_slots)) }
+        ensures added { IfOk result
+            (λ op. Added op.0 (record { block = block.0; code = Code.Multi atom; inputs = []; width = Some width })
+            (op.0 ∷ block_at self.old block.0) self.old self.new) }
+        ensures failed { IfErr result (λ _. Same self.old self.new
+            × (self.old.spare_ops ≤ self.new.spare_ops)
+            × (self.old.spare_slots ≤ self.new.spare_slots)) }
         ensures spare_ops { self.old.spare_ops ≤ self.new.spare_ops + 1 }
         ensures spare_slots { self.old.spare_slots ≤ self.new.spare_slots }
     {
@@ -143,8 +162,12 @@ impl OpGraph {
     pub fn push_input(&mut self, op: OpId, v: ValueId) -> Result<(), Memory>
         requires op { IsOp self.old op.0 }
         requires value { IsValue self.old v.0 }
-        ensures row { IfOk result (λ _. (r : OpRow) → op_at self.old op.0 ≡ Some r → Rewritten op.0 (record r { inputs = r.inputs ++ v.0 ∷ [] }) self.old self.new) }
-        ensures failed { IfErr result (λ _. Same self.old self.new × (self.old.spare_ops ≤ self.new.spare_ops) × (self.old.spare_slots ≤ self.new.spare_slots)) }
+        ensures row { IfOk result (λ _. (r : OpRow)
+            → op_at self.old op.0 ≡ Some r
+            → Rewritten op.0 (record r { inputs = r.inputs ++ v.0 ∷ [] }) self.old self.new) }
+        ensures failed { IfErr result (λ _. Same self.old self.new
+            × (self.old.spare_ops ≤ self.new.spare_ops)
+            × (self.old.spare_slots ≤ self.new.spare_slots)) }
         ensures ready { 0 < self.old.spare_slots → IsOk result }
         ensures spare_ops { self.old.spare_ops ≤ self.new.spare_ops }
         ensures spare_slots { self.old.spare_slots ≤ self.new.spare_slots + 1 }

@@ -28,7 +28,9 @@ impl OpGraph {
         requires op { IsOp self.old op.0 }
         requires slot { slot < length (inputs_in (op_at self.old op.0)) }
         requires value { IsValue self.old v.0 }
-        ensures row { (r : OpRow) → op_at self.old op.0 ≡ Some r → Rewritten op.0 (record r { inputs = slice_set r.inputs slot v.0 }) self.old self.new }
+        ensures row { (r : OpRow)
+            → op_at self.old op.0 ≡ Some r
+            → Rewritten op.0 (record r { inputs = slice_set r.inputs slot v.0 }) self.old self.new }
         ensures spares { SameSpares self.old self.new }
     {
         if let Some(slot) = self.inputs.nth(Some(op.0), slot) {
@@ -53,9 +55,12 @@ impl OpGraph {
         requires op { IsOp self.old op.0 }
         requires inputs { AreValues self.old (numbers inputs.now) }
         requires room { length inputs.now ≤ self.old.spare_slots + length (inputs_in (op_at self.old op.0)) }
-        ensures row { (r : OpRow) → op_at self.old op.0 ≡ Some r → Rewritten op.0 (record r { code = code; inputs = numbers inputs.now }) self.old self.new }
+        ensures row { (r : OpRow)
+            → op_at self.old op.0 ≡ Some r
+            → Rewritten op.0 (record r { code = code; inputs = numbers inputs.now }) self.old self.new }
         ensures spare_ops { self.new.spare_ops ≡ self.old.spare_ops }
-        ensures spare_slots { self.new.spare_slots + length inputs.now ≡ self.old.spare_slots + length (inputs_in (op_at self.old op.0)) }
+        ensures spare_slots { self.new.spare_slots + length inputs.now
+            ≡ self.old.spare_slots + length (inputs_in (op_at self.old op.0)) }
     {
         self.detach_all(op.0);
         self.set_code(op.0, code);

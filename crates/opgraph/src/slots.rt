@@ -12,7 +12,9 @@ impl OpGraph {
         requires op { IsOp self.old op }
         requires value { IsValue self.old v }
         requires spare { 0 < self.old.spare_slots }
-        ensures row { (r : OpRow) → op_at self.old op ≡ Some r → Rewritten op (record r { inputs = r.inputs ++ v ∷ [] }) self.old self.new }
+        ensures row { (r : OpRow)
+            → op_at self.old op ≡ Some r
+            → Rewritten op (record r { inputs = r.inputs ++ v ∷ [] }) self.old self.new }
         ensures spare_ops { self.new.spare_ops ≡ self.old.spare_ops }
         ensures spare_slots { self.new.spare_slots + 1 ≡ self.old.spare_slots }
     {
@@ -28,7 +30,9 @@ impl OpGraph {
     pub(crate) fn detach(&mut self, op: u32)
         requires op { IsOp self.old op }
         requires some { 0 < length (inputs_in (op_at self.old op)) }
-        ensures row { (r : OpRow) → op_at self.old op ≡ Some r → Rewritten op (record r { inputs = front r.inputs }) self.old self.new }
+        ensures row { (r : OpRow)
+            → op_at self.old op ≡ Some r
+            → Rewritten op (record r { inputs = front r.inputs }) self.old self.new }
         ensures spare_ops { self.new.spare_ops ≡ self.old.spare_ops }
         ensures spare_slots { self.new.spare_slots ≡ self.old.spare_slots + 1 }
     {
@@ -52,7 +56,9 @@ impl OpGraph {
         requires op { IsOp self.old op }
         requires values { AreValues self.old (numbers inputs.now) }
         requires spare { length inputs.now ≤ self.old.spare_slots }
-        ensures row { (r : OpRow) → op_at self.old op ≡ Some r → Rewritten op (record r { inputs = r.inputs ++ numbers inputs.now }) self.old self.new }
+        ensures row { (r : OpRow)
+            → op_at self.old op ≡ Some r
+            → Rewritten op (record r { inputs = r.inputs ++ numbers inputs.now }) self.old self.new }
         ensures spare_ops { self.new.spare_ops ≡ self.old.spare_ops }
         ensures spare_slots { self.new.spare_slots + length inputs.now ≡ self.old.spare_slots }
     {

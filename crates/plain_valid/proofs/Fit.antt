@@ -1,6 +1,6 @@
 -- The C function of the plain lowering fits its listing: the storages of its parameters lie in their spaces, and no statement
 -- names a space.
-use Rattle.std.proofs.Common.{◌≡◌, ℕ, suc, ◌<◌, ◌≤◌, ◌^◌, Bool, true, false, List, [], ◌∷◌, ◌++◌, length, map, Option, Some, None, refl, sym, ap, ◌∙◌, arith}
+use Rattle.std.proofs.Common.{◌≡◌, ℕ, suc, ◌≤◌, ◌^◌, Bool, true, false, List, [], ◌∷◌, ◌++◌, length, map, Option, Some, None, refl, sym, ap, ◌∙◌, arith}
 use Rattle.std.specs.Prelude.{◌==◌, ◌&&◌, cond, slice_get}
 use Rattle.std.proofs.lemmas.Bool.{and_parts}
 use Rattle.std.proofs.lemmas.Bool.Decides.{nat_tests}
@@ -34,9 +34,8 @@ use Rattle.blockcode.specs.Laid.{branch_to, branches, exit_lines, goto, is_named
 use Rattle.layout.specs.Function.{params_of}
 use Rattle.plain_valid.specs.Function.{plain_function, plain_head}
 use Rattle.plain_valid.proofs.Valid.{plain_covered}
-use Rattle.plaincode.specs.Nodes.{nearest}
 use Rattle.plaincode.specs.Lowered.{assigns, block_of, body_of, lowered, op_statements, range_at, range_of, ranges_of, statements, statements_in, variable_for}
-use Rattle.plaincode.specs.Form.{AreNarrow, IsLocalStorage, IsPlainForm}
+use Rattle.plaincode.specs.Form.{AreNarrow, IsLocalStorage, IsLowerable}
 use Rattle.plaincode.proofs.Nodes.{nearest_is}
 
 module _ (l : Listing) (ws : ℕ → ℕ) where
@@ -169,7 +168,7 @@ in_spaces l (a ∷ atoms) narrow inside =
 
 -- The C function of the plain lowering fits the listing.
 pub plain_fits : (l : Listing) (t : List TableAt) (blocks : List flow_block.Block) (atoms : List Atom)
-    → IsPlainForm l t blocks atoms
+    → IsLowerable l t blocks atoms
     → length atoms ≤ 2 ^ 32
     → Fits l (plain_function l blocks atoms)
 plain_fits l t blocks atoms form few =

@@ -1,5 +1,5 @@
 -- The statements and exits of the plain lowering obey their rules.
-use Rattle.std.proofs.Common.{◌≡◌, ℕ, ◌<◌, ◌≤◌, ◌^◌, Bool, true, false, List, [], ◌∷◌, ◌++◌, length, map, Option, Some, None, refl, sym, ap, ◌∙◌, subst, arith, inl, inr}
+use Rattle.std.proofs.Common.{◌≡◌, ℕ, ◌<◌, ◌≤◌, ◌^◌, Bool, true, false, List, [], ◌∷◌, length, map, Option, Some, None, refl, sym, ap, ◌∙◌, subst, arith, inl, inr}
 use Rattle.std.specs.Prelude.{◌==◌, ◌&&◌, nat_lt, cond}
 use Rattle.std.proofs.lemmas.Bool.Decides.{nat_tests}
 use Rattle.pcode_model.specs.declared.listing.SpaceKind.{SpaceKind}
@@ -25,7 +25,7 @@ use Rattle.naming.specs.declared.head.Head.{Head}
 use Rattle.naming.specs.Run.{widths_of}
 use Rattle.layout_laws.specs.Suits.{AllSuit, BodySuits, ExitSuits, Knows}
 use Rattle.cmeaning.specs.Shape.{shape_of, has_width, is_condition}
-use Rattle.cmeaning.specs.Mentions.{Variable, in_expr, in_option}
+use Rattle.cmeaning.specs.Mentions.{in_expr, in_option}
 use Rattle.cmeaning.specs.Valid.{is_variable, is_assigned, is_returned}
 use Rattle.blockcode.specs.declared.code.Exit.TheVariants as X
 use Rattle.plaincode.specs.Nodes.{nearest, unary_node, binary_node}
@@ -34,7 +34,7 @@ use Rattle.plaincode.specs.Form.{IsNarrow, IsOperandBy, IsOperand, IsOutputBy, I
 use Rattle.plaincode.proofs.Nodes.{nearest_is}
 use Rattle.plain_valid.proofs.Shapes.{Fits, variable_fits, constant_fits, unary_fits, binary_fits}
 use Rattle.plain_valid.proofs.Statements.{assign_suits, knows_below, suits_append, suits_none}
-use Rattle.plaincode.proofs.Members.{in_front, behind}
+use Rattle.instructions.proofs.Members.{in_front, behind}
 use Rattle.plaincode.proofs.Operands.{output_in}
 
 -- a range's variable is a parameter of its width
@@ -222,9 +222,10 @@ module _
         let fits = operand_fits l ranges head set c h.1 in
         let P : Expr → Type 0 = λ x. (is_condition (shape_of (widths_of head) x) ≡ true)
         × Knows head (in_expr x) in
-        test_suits here starts _ _ e (subst P (sym is)
-        (leaf_condition (shape_of (widths_of head) (operand l ranges c)) fits.shape fits.is fits.depth,
-        knows_below head _ fits.mentions))
+        test_suits here starts _ _ e (subst P (sym is) (
+          leaf_condition (shape_of (widths_of head) (operand l ranges c)) fits.shape fits.is fits.depth,
+          knows_below head _ fits.mentions,
+        ))
         by
     op_suits t starts p here O.Return None (to ∷ []) e is h by = return_suits here h.1 e by
     op_suits t starts p here code out vs e is h by = absurd h

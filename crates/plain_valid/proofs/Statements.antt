@@ -1,11 +1,11 @@
 -- Assignments suit a head that has what they mention.
-use Rattle.std.proofs.Common.{◌≡◌, ℕ, ◌+◌, ◌<◌, Bool, true, false, List, [], ◌∷◌, ◌++◌, length, refl, sym, ap, ◌∙◌, subst, arith}
+use Rattle.std.proofs.Common.{◌≡◌, ℕ, true, false, List, [], ◌∷◌, ◌++◌, length, ap, ◌∙◌, arith}
 use Rattle.cmeaning.specs.declared.tree.Expr.{Expr}
 use Rattle.cmeaning.specs.declared.tree.Stmt.{Stmt}
 use Rattle.cmeaning.specs.declared.tree.Stmt.TheOpen.{Stmt-F}
 use Rattle.cmeaning.specs.declared.tree.Stmt.TheVariants as S
 use Rattle.cmeaning.specs.Shape.{shape_of}
-use Rattle.cmeaning.specs.Mentions.{Mention, Variable, Callee, LabelLine, in_expr, in_stmt}
+use Rattle.cmeaning.specs.Mentions.{Mention, Variable, Callee, LabelLine, in_expr}
 use Rattle.cmeaning.specs.Valid.{is_assigned}
 use Rattle.cmeaning.proofs.Mentions.{in_statement}
 use Rattle.naming.specs.declared.head.Head.{Head}

@@ -108,7 +108,8 @@ before_removed x z v (y ∷ ys) far m = by_place (cases_eq y z) (cases_eq y x) (
         → IsIn v (before_op z (removed x (y ∷ ys)))
     by_place (inl e) p rest = absurd (subst (IsIn v) (before_here z y ys e) m)
     by_place (inr n) (inl e) rest =
-        subst (λ zs. IsIn v (before_op z zs)) (sym (removed_here x y ys e)) (here (subst (IsIn v) (before_far z y ys n) m))
+        subst (λ zs. IsIn v (before_op z zs)) (sym (removed_here x y ys e))
+        (here (subst (IsIn v) (before_far z y ys n) m))
       where
         here : IsIn v (y ∷ before_op z ys) → IsIn v (before_op z ys)
         here (inl h) = absurd (far (h ∙ e))

@@ -44,7 +44,8 @@ module _ (a b : ℕ) where
     value_kept : (v : ℕ) → width_at f.rows (renamed a b v) ≡ width_at f.rows v
     value_kept v = by_case (either v (renamed a b v) refl)
       where
-        by_case : ((v ≡ a) × (renamed a b v ≡ b)) ⊎ (renamed a b v ≡ v) → width_at f.rows (renamed a b v) ≡ width_at f.rows v
+        by_case : ((v ≡ a) × (renamed a b v ≡ b)) ⊎ (renamed a b v ≡ v)
+            → width_at f.rows (renamed a b v) ≡ width_at f.rows v
         by_case (inl h) = ap (width_at f.rows) h.1 ∙ sym same ∙ ap (width_at f.rows) (sym h.0)
         by_case (inr h) = ap (width_at f.rows) h
 
@@ -76,7 +77,8 @@ module _ (a b : ℕ) where
         let u = in_map (renamed a b) r.0.inputs v (subst (λ (z : OpRow). IsIn v z.inputs) (sym r.1.1) m) in (
           u.0,
           (
-            Read x r.0 r.1.0 (subst (λ (z : OpRow). Rattle.ssa_model.specs.Paths.IsJoin (role_of z.code) → ⊥) (sym r.1.1) n)
+            Read x r.0 r.1.0
+                (subst (λ (z : OpRow). Rattle.ssa_model.specs.Paths.IsJoin (role_of z.code) → ⊥) (sym r.1.1) n)
                 u.1.0 (eb ∙ ap (λ (z : OpRow). z.block) (sym r.1.1))
                 (eo ∙ ap (λ (z : OpRow). Rattle.ssa_model.specs.Paths.before_op x (f.lists z.block)) (sym r.1.1)),
             u.1.1,
@@ -87,7 +89,8 @@ module _ (a b : ℕ) where
         let u = of_map (renamed a b) r.0.inputs k v (ap (λ (z : OpRow). slice_get z.inputs k) r.1.1 ∙ ev) in (
           u.0,
           (
-            Joined x k r.0 r.1.0 (subst (λ (z : OpRow). Rattle.ssa_model.specs.Paths.IsJoin (role_of z.code)) (sym r.1.1) j)
+            Joined x k r.0 r.1.0
+                (subst (λ (z : OpRow). Rattle.ssa_model.specs.Paths.IsJoin (role_of z.code)) (sym r.1.1) j)
                 (ap (λ (z : OpRow). slice_get (predecessors_at f.blocks z.block) k) r.1.1 ∙ ep) u.1 eo,
             sym u.2,
           ),

@@ -224,12 +224,73 @@ JoinsIn x r =
     → Available o v b (f.lists b)
 
 reads : (x : ℕ) (r : OpRow) → f.rows x ≡ Some r → ReadsIn x r
-reads = by_row ReadsIn
-    (λ n v m. absurd m, (λ n v m. absurd m, (λ n v m. single v 1 0 (0 ∷ 1 ∷ []) m (λ ps q. inr (inr (inl refl))), (λ n v m. absurd (n tt), (λ n v m. absurd (n tt), (λ n v m. absurd m, (λ n v m. double v 4 5 1 (4 ∷ 3 ∷ 5 ∷ []) m (λ ps q. inr (inl refl)) (λ ps q. inr (inr (inr (inl refl)))), (λ n v m. single v 6 1 (4 ∷ 3 ∷ 5 ∷ 6 ∷ []) m (λ ps q. inr (inr (inr (inr (inl refl))))), (λ n v m. double v 3 4 2 [] m (of_one 3 2 0 [] (λ ps k. inl k) refl) (of_one 4 2 0 [] (λ ps k. inl k) refl), (λ n v m. absurd m, (λ n v m. double v 4 9 2 (8 ∷ 9 ∷ []) m (of_one 4 2 0 (8 ∷ 9 ∷ []) (λ ps k. inl k) refl) (λ ps q. inr (inr (inl refl))), (λ n v m. single v 3 3 [] m (of_one 3 3 1 [] (λ ps k. inl k) refl), tt))))))))))))
+reads = by_row ReadsIn (
+  λ n v m. absurd m,
+  (
+    λ n v m. absurd m,
+    (
+      λ n v m. single v 1 0 (0 ∷ 1 ∷ []) m (λ ps q. inr (inr (inl refl))),
+      (
+        λ n v m. absurd (n tt),
+        (
+          λ n v m. absurd (n tt),
+          (
+            λ n v m. absurd m,
+            (
+              λ n v m.
+                  double v 4 5 1 (4 ∷ 3 ∷ 5 ∷ []) m (λ ps q. inr (inl refl)) (λ ps q. inr (inr (inr (inl refl)))),
+              (
+                λ n v m. single v 6 1 (4 ∷ 3 ∷ 5 ∷ 6 ∷ []) m (λ ps q. inr (inr (inr (inr (inl refl))))),
+                (
+                  λ n v m. double v 3 4 2 [] m (of_one 3 2 0 [] (λ ps k. inl k) refl)
+                      (of_one 4 2 0 [] (λ ps k. inl k) refl),
+                  (
+                    λ n v m. absurd m,
+                    (
+                      λ n v m. double v 4 9 2 (8 ∷ 9 ∷ []) m (of_one 4 2 0 (8 ∷ 9 ∷ []) (λ ps k. inl k) refl)
+                          (λ ps q. inr (inr (inl refl))),
+                      (λ n v m. single v 3 3 [] m (of_one 3 3 1 [] (λ ps k. inl k) refl), tt),
+                    ),
+                  ),
+                ),
+              ),
+            ),
+          ),
+        ),
+      ),
+    ),
+  ),
+)
 
 joined : (x : ℕ) (r : OpRow) → f.rows x ≡ Some r → JoinsIn x r
-joined = by_row JoinsIn
-    (λ j k b v p e. absurd j, (λ j k b v p e. absurd j, (λ j k b v p e. absurd j, (λ j k b v p e. join_at k b v 8 2 p e (λ ps q. inr (inl refl)) (λ ps q. inr (inr (inr (inl refl)))), (λ j k b v p e. join_at k b v 10 0 p e (λ ps q. inr (inr (inr (inl refl)))) (λ ps q. inr (inl refl)), (λ j k b v p e. absurd j, (λ j k b v p e. absurd j, (λ j k b v p e. absurd j, (λ j k b v p e. absurd j, (λ j k b v p e. absurd j, (λ j k b v p e. absurd j, (λ j k b v p e. absurd j, tt))))))))))))
+joined = by_row JoinsIn (
+  λ j k b v p e. absurd j,
+  (
+    λ j k b v p e. absurd j,
+    (
+      λ j k b v p e. absurd j,
+      (
+        λ j k b v p e. join_at k b v 8 2 p e (λ ps q. inr (inl refl)) (λ ps q. inr (inr (inr (inl refl)))),
+        (
+          λ j k b v p e. join_at k b v 10 0 p e (λ ps q. inr (inr (inr (inl refl)))) (λ ps q. inr (inl refl)),
+          (
+            λ j k b v p e. absurd j,
+            (
+              λ j k b v p e. absurd j,
+              (
+                λ j k b v p e. absurd j,
+                (
+                  λ j k b v p e. absurd j,
+                  (λ j k b v p e. absurd j, (λ j k b v p e. absurd j, (λ j k b v p e. absurd j, tt))),
+                ),
+              ),
+            ),
+          ),
+        ),
+      ),
+    ),
+  ),
+)
 
 passes : (v b : ℕ) (before : List ℕ) → UsedAt f v b before → Available o v b before
 passes v b before (Read x r e n m eb eo) =
@@ -267,7 +328,9 @@ never e h = absurd (true≢false (sym h ∙ e))
 
 fits_all : (x : ℕ) (g : OpForm) → o.forms x ≡ Some g → fits g.role g.width g.inputs ≡ true
 unfolding limit
-fits_all = by_form (λ (x : ℕ) (g : OpForm). fits g.role g.width g.inputs ≡ true) (refl, (refl, (refl, (refl, (refl, (refl, (refl, (refl, (refl, (refl, (refl, (refl, tt))))))))))))
+fits_all =
+    by_form (λ (x : ℕ) (g : OpForm). fits g.role g.width g.inputs ≡ true)
+    (refl, (refl, (refl, (refl, (refl, (refl, (refl, (refl, (refl, (refl, (refl, (refl, tt))))))))))))
 
 joins_full : (x : ℕ) (g : OpForm)
     → o.forms x ≡ Some g
@@ -275,8 +338,28 @@ joins_full : (x : ℕ) (g : OpForm)
     → length g.inputs ≡ length (predecessors_at sum_loop.blocks g.block)
 joins_full = by_form
     (λ (x : ℕ) (g : OpForm).
-    IsJoin g.role → length g.inputs ≡ length (predecessors_at sum_loop.blocks g.block))
-    (λ j. absurd j, (λ j. absurd j, (λ j. absurd j, (λ j. refl, (λ j. refl, (λ j. absurd j, (λ j. absurd j, (λ j. absurd j, (λ j. absurd j, (λ j. absurd j, (λ j. absurd j, (λ j. absurd j, tt))))))))))))
+    IsJoin g.role → length g.inputs ≡ length (predecessors_at sum_loop.blocks g.block)) (
+      λ j. absurd j,
+      (
+        λ j. absurd j,
+        (
+          λ j. absurd j,
+          (
+            λ j. refl,
+            (
+              λ j. refl,
+              (
+                λ j. absurd j,
+                (
+                  λ j. absurd j,
+                  (λ j. absurd j, (λ j. absurd j, (λ j. absurd j, (λ j. absurd j, (λ j. absurd j, tt))))),
+                ),
+              ),
+            ),
+          ),
+        ),
+      ),
+    )
 
 closes : (x : ℕ) (g : OpForm)
     → o.forms x ≡ Some g
@@ -284,25 +367,115 @@ closes : (x : ℕ) (g : OpForm)
     → (e : SsaExit) × (Closes o x g e × (exit_role e ≡ Some g.role))
 closes = by_form
     (λ (x : ℕ) (g : OpForm).
-    is_exit_role g.role ≡ true → (e : SsaExit) × (Closes o x g e × (exit_role e ≡ Some g.role)))
-    (λ h. absurd (true≢false (sym h)), (λ h. absurd (true≢false (sym h)), (λ h. absurd (true≢false (sym h)), (λ h. absurd (true≢false (sym h)), (λ h. absurd (true≢false (sym h)), (λ h. absurd (true≢false (sym h)), (λ h. absurd (true≢false (sym h)), (λ h. (X.Test (record { 0 = 3 }) (record { 0 = 2 }), ((refl, refl), refl)), (λ h. absurd (true≢false (sym h)), (λ h. absurd (true≢false (sym h)), (λ h. absurd (true≢false (sym h)), (λ h. (X.Return, ((refl, refl), refl)), tt))))))))))))
+    is_exit_role g.role ≡ true → (e : SsaExit) × (Closes o x g e × (exit_role e ≡ Some g.role))) (
+      λ h. absurd (true≢false (sym h)),
+      (
+        λ h. absurd (true≢false (sym h)),
+        (
+          λ h. absurd (true≢false (sym h)),
+          (
+            λ h. absurd (true≢false (sym h)),
+            (
+              λ h. absurd (true≢false (sym h)),
+              (
+                λ h. absurd (true≢false (sym h)),
+                (
+                  λ h. absurd (true≢false (sym h)),
+                  (
+                    λ h. (X.Test (record { 0 = 3 }) (record { 0 = 2 }), ((refl, refl), refl)),
+                    (
+                      λ h. absurd (true≢false (sym h)),
+                      (
+                        λ h. absurd (true≢false (sym h)),
+                        (λ h. absurd (true≢false (sym h)), (λ h. (X.Return, ((refl, refl), refl)), tt)),
+                      ),
+                    ),
+                  ),
+                ),
+              ),
+            ),
+          ),
+        ),
+      ),
+    )
 
 no_extra : (x : ℕ) (g : OpForm) → o.forms x ≡ Some g → is_extra g.role ≡ false
-no_extra = by_form (λ (x : ℕ) (g : OpForm). is_extra g.role ≡ false) (refl, (refl, (refl, (refl, (refl, (refl, (refl, (refl, (refl, (refl, (refl, (refl, tt))))))))))))
+no_extra =
+    by_form (λ (x : ℕ) (g : OpForm). is_extra g.role ≡ false)
+    (refl, (refl, (refl, (refl, (refl, (refl, (refl, (refl, (refl, (refl, (refl, (refl, tt))))))))))))
 
 no_call : (x : ℕ) (g : OpForm) → o.forms x ≡ Some g → is_call g.role ≡ false
-no_call = by_form (λ (x : ℕ) (g : OpForm). is_call g.role ≡ false) (refl, (refl, (refl, (refl, (refl, (refl, (refl, (refl, (refl, (refl, (refl, (refl, tt))))))))))))
+no_call =
+    by_form (λ (x : ℕ) (g : OpForm). is_call g.role ≡ false)
+    (refl, (refl, (refl, (refl, (refl, (refl, (refl, (refl, (refl, (refl, (refl, (refl, tt))))))))))))
 
 no_switch : (x : ℕ) (g : OpForm) → o.forms x ≡ Some g → is_switch (exit_at sum_loop.blocks g.block) ≡ false
-no_switch = by_form (λ (x : ℕ) (g : OpForm). is_switch (exit_at sum_loop.blocks g.block) ≡ false) (refl, (refl, (refl, (refl, (refl, (refl, (refl, (refl, (refl, (refl, (refl, (refl, tt))))))))))))
+no_switch =
+    by_form (λ (x : ℕ) (g : OpForm). is_switch (exit_at sum_loop.blocks g.block) ≡ false)
+    (refl, (refl, (refl, (refl, (refl, (refl, (refl, (refl, (refl, (refl, (refl, (refl, tt))))))))))))
 
 one_start : (x : ℕ) (g : OpForm) → o.forms x ≡ Some g → is_start g.role ≡ true → x ≡ 0
-one_start = by_form (λ (x : ℕ) (g : OpForm). is_start g.role ≡ true → x ≡ 0)
-    (λ h. refl, (λ h. absurd (true≢false (sym h)), (λ h. absurd (true≢false (sym h)), (λ h. absurd (true≢false (sym h)), (λ h. absurd (true≢false (sym h)), (λ h. absurd (true≢false (sym h)), (λ h. absurd (true≢false (sym h)), (λ h. absurd (true≢false (sym h)), (λ h. absurd (true≢false (sym h)), (λ h. absurd (true≢false (sym h)), (λ h. absurd (true≢false (sym h)), (λ h. absurd (true≢false (sym h)), tt))))))))))))
+one_start = by_form (λ (x : ℕ) (g : OpForm). is_start g.role ≡ true → x ≡ 0) (
+  λ h. refl,
+  (
+    λ h. absurd (true≢false (sym h)),
+    (
+      λ h. absurd (true≢false (sym h)),
+      (
+        λ h. absurd (true≢false (sym h)),
+        (
+          λ h. absurd (true≢false (sym h)),
+          (
+            λ h. absurd (true≢false (sym h)),
+            (
+              λ h. absurd (true≢false (sym h)),
+              (
+                λ h. absurd (true≢false (sym h)),
+                (
+                  λ h. absurd (true≢false (sym h)),
+                  (
+                    λ h. absurd (true≢false (sym h)),
+                    (λ h. absurd (true≢false (sym h)), (λ h. absurd (true≢false (sym h)), tt)),
+                  ),
+                ),
+              ),
+            ),
+          ),
+        ),
+      ),
+    ),
+  ),
+)
 
 one_return : (x : ℕ) (g : OpForm) → o.forms x ≡ Some g → is_return g.role ≡ true → x ≡ 11
-one_return = by_form (λ (x : ℕ) (g : OpForm). is_return g.role ≡ true → x ≡ 11)
-    (λ h. absurd (true≢false (sym h)), (λ h. absurd (true≢false (sym h)), (λ h. absurd (true≢false (sym h)), (λ h. absurd (true≢false (sym h)), (λ h. absurd (true≢false (sym h)), (λ h. absurd (true≢false (sym h)), (λ h. absurd (true≢false (sym h)), (λ h. absurd (true≢false (sym h)), (λ h. absurd (true≢false (sym h)), (λ h. absurd (true≢false (sym h)), (λ h. absurd (true≢false (sym h)), (λ h. refl, tt))))))))))))
+one_return = by_form (λ (x : ℕ) (g : OpForm). is_return g.role ≡ true → x ≡ 11) (
+  λ h. absurd (true≢false (sym h)),
+  (
+    λ h. absurd (true≢false (sym h)),
+    (
+      λ h. absurd (true≢false (sym h)),
+      (
+        λ h. absurd (true≢false (sym h)),
+        (
+          λ h. absurd (true≢false (sym h)),
+          (
+            λ h. absurd (true≢false (sym h)),
+            (
+              λ h. absurd (true≢false (sym h)),
+              (
+                λ h. absurd (true≢false (sym h)),
+                (
+                  λ h. absurd (true≢false (sym h)),
+                  (λ h. absurd (true≢false (sym h)), (λ h. absurd (true≢false (sym h)), (λ h. refl, tt))),
+                ),
+              ),
+            ),
+          ),
+        ),
+      ),
+    ),
+  ),
+)
 
 no_stop : (b : ℕ) → is_stop (exit_at sum_loop.blocks b) ≡ false
 no_stop =
@@ -332,7 +505,8 @@ of_ids b (inr (inr (inr (inr m)))) = absurd m
 leads_from : (b c : ℕ) → IsIn b (predecessors_at sum_loop.blocks c) → Leads sum_loop.blocks b c
 leads_from b c m =
     by_block
-    (λ (d : ℕ) (x : Option SsaBlock). IsIn b (predecessors_in x) → Leads sum_loop.blocks b d) (λ h. absurd h) at1 at2 at2'
+    (λ (d : ℕ) (x : Option SsaBlock). IsIn b (predecessors_in x) → Leads sum_loop.blocks b d) (λ h. absurd h) at1
+    at2 at2'
     (λ d h. absurd h) c m
   where
     at1 : IsIn b (2 ∷ 0 ∷ []) → Leads sum_loop.blocks b 1
@@ -399,15 +573,31 @@ left = by_block Left jump test jump2 returned (λ b e role h k. none_some h)
     jump e role h k = none_some (by_role (X.Jump (record { 0 = 1 })) e role h k)
 
     test : Left 1 (at_number 1)
-    test e role h k =
-        (7, (refl, (record { block = 1; role = Tests; width = 0; inputs = 1 ∷ [] }, (refl, some_same (by_role (X.Test (record { 0 = 3 }) (record { 0 = 2 })) e role h k)))))
+    test e role h k = (
+      7,
+      (
+        refl,
+        (
+          record { block = 1; role = Tests; width = 0; inputs = 1 ∷ [] },
+          (refl, some_same (by_role (X.Test (record { 0 = 3 }) (record { 0 = 2 })) e role h k)),
+        ),
+      ),
+    )
 
     jump2 : Left 2 (at_number 2)
     jump2 e role h k = none_some (by_role (X.Jump (record { 0 = 1 })) e role h k)
 
     returned : Left 3 (at_number 3)
-    returned e role h k =
-        (11, (refl, (record { block = 3; role = Returns; width = 0; inputs = 4 ∷ [] }, (refl, some_same (by_role X.Return e role h k)))))
+    returned e role h k = (
+      11,
+      (
+        refl,
+        (
+          record { block = 3; role = Returns; width = 0; inputs = 4 ∷ [] },
+          (refl, some_same (by_role X.Return e role h k)),
+        ),
+      ),
+    )
 
 pub sum_is_ssa : IsSsa (form sum_loop)
 sum_is_ssa = record {
@@ -420,7 +610,11 @@ sum_is_ssa = record {
     reached = reached;
     entered = refl;
     predecessors = λ b c. (leads_from b c, come_from b c);
-    predecessors_once = by_block (λ (c : ℕ) (x : Option SsaBlock). Rattle.node_lists.specs.Chains.Apart (predecessors_in x)) tt (are_apart (2 ∷ 0 ∷ []) refl) (are_apart (1 ∷ []) refl) (are_apart (1 ∷ []) refl) (λ c. tt);
+    predecessors_once =
+        by_block
+        (λ (c : ℕ) (x : Option SsaBlock). Rattle.node_lists.specs.Chains.Apart (predecessors_in x))
+        tt (are_apart (2 ∷ 0 ∷ []) refl) (are_apart (1 ∷ []) refl) (are_apart (1 ∷ []) refl)
+        (λ c. tt);
     ops = fits_all;
     joins_first = λ b. joins_first o.forms (o.lists b) (in_order b);
     joins = joins_full;

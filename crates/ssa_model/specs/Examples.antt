@@ -51,8 +51,8 @@ named name =
           ∷ [];
     }
 
--- A loop that adds an argument, and counts it down, until it is 0. Block 1 has its two MULTIEQUALs in the other order than
--- their atoms, and its predecessors in the other order than the blocks.
+-- A loop that adds an argument, and counts it down, until it is 0. Block 1 has its two MULTIEQUALs in the other order
+-- than their atoms, and its predecessors in the other order than the blocks.
 abbrev pub sum_loop : Parts
 sum_loop = record {
   graph =

@@ -95,8 +95,8 @@ is_exit_role role = false
 abbrev pub Closes : Outline → ℕ → OpForm → SsaExit → Type 0
 Closes o x f e = (last_or None (o.lists f.block) ≡ Some x) × (exit_at o.blocks f.block ≡ Some e)
 
--- CALLs of one address are alike: in the widths of their arguments and value, and in whether they end a block at which the
--- run stops
+-- CALLs of one address are alike: in the widths of their arguments and value, and in whether they end a block at which
+-- the run stops
 pub record AreAlike (o : Outline) (x : ℕ) (f : OpForm) (y : ℕ) (g : OpForm) : Type 0 where
   pub inputs : f.inputs ≡ g.inputs
   pub width : f.width ≡ g.width

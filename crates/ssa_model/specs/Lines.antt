@@ -50,7 +50,8 @@ abbrev pub target : ℕ → Option Width → Option ℕ
 target x None = None
 target x (Some w) = Some x
 
--- What the op x of a width and a role says of its inputs: an entry value, a MULTIEQUAL and an exit's op are no statement.
+-- What the op x of a width and a role says of its inputs: an entry value, a MULTIEQUAL and an exit's op are no
+-- statement.
 abbrev pub line_by : Listing → ℕ → List ℕ → Role → Option Width → List Stmt
 line_by l x vs (Constant n) (Some w) = S.Assign x (E.Const (word_in w n)) ∷ []
 line_by l x vs Copies (Some w) = S.Assign x (input vs 0) ∷ []

@@ -97,8 +97,8 @@ forms_of rows x = form_in rows (rows x)
 
 -- ---- a function
 
--- What a function is: its ops, the ops of each block in order, how many blocks the graph has, the list of blocks, and the
--- block where a run begins.
+-- What a function is: its ops, the ops of each block in order, how many blocks the graph has, the list of blocks, and
+-- the block where a run begins.
 pub record Form : Type 0 where
   pub rows : Rows
   pub lists : ℕ → List ℕ

@@ -19,8 +19,8 @@ abbrev pub IsPassed : Option OpForm → ℕ → (passed before : List ℕ) → T
 IsPassed None x passed before = ⊥
 IsPassed (Some f) x passed before = IsIn f.block passed ⊎ IsIn x before
 
--- Every path from the entry to a place of a block passes the op that makes the value. The place is told by the ops of the
--- block that stand before it.
+-- Every path from the entry to a place of a block passes the op that makes the value. The place is told by the ops of
+-- the block that stand before it.
 abbrev pub Available : Outline → ℕ → ℕ → (before : List ℕ) → Type 0
 Available o v b before =
     (passed : List ℕ) → Path o.blocks o.entry passed b → IsPassed (o.forms v) v passed before
@@ -34,8 +34,8 @@ abbrev pub IsJoin : Role → Type 0
 IsJoin (Joins atom) = Unit {0}
 IsJoin role = ⊥
 
--- A value is read at a place of a block, which is told by the ops of the block that stand before it. An op reads its inputs
--- where it stands, and a MULTIEQUAL its input for a predecessor at that block's end.
+-- A value is read at a place of a block, which is told by the ops of the block that stand before it. An op reads its
+-- inputs where it stands, and a MULTIEQUAL its input for a predecessor at that block's end.
 pub data UsedAt (f : Form) (v b : ℕ) (before : List ℕ) : Type 0 where
   Read : (x : ℕ) (r : OpRow)
       → f.rows x ≡ Some r

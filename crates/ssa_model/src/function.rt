@@ -89,14 +89,24 @@ impl SsaFunction {
     pub fn retarget(&mut self, op: OpId, code: Code, inputs: &[ValueId])
         requires op { IsOp self.old.parts.graph op.0 }
         requires inputs { AreValues self.old.parts.graph (numbers inputs.now) }
-        requires room { length inputs.now ≤ self.old.parts.graph.spare_slots + length (inputs_in (op_at self.old.parts.graph op.0)) }
+        requires room { length inputs.now
+            ≤ self.old.parts.graph.spare_slots + length (inputs_in (op_at self.old.parts.graph op.0)) }
         requires plain { IsJoin (role_of code) → ⊥ }
-        requires available { (r : OpRow) → op_at self.old.parts.graph op.0 ≡ Some r → AreAvailable (form_at self.old) op.0 r (numbers inputs.now) }
-        requires formed { (r : OpRow) → op_at self.old.parts.graph op.0 ≡ Some r → Formed (outline (with_row op.0 (record r { code = code; inputs = numbers inputs.now }) (form_at self.old))) }
-        ensures form { (r : OpRow) → op_at self.old.parts.graph op.0 ≡ Some r → form_at self.new ≡ with_row op.0 (record r { code = code; inputs = numbers inputs.now }) (form_at self.old) }
+        requires available { (r : OpRow)
+            → op_at self.old.parts.graph op.0 ≡ Some r
+            → AreAvailable (form_at self.old) op.0 r (numbers inputs.now) }
+        requires formed { (r : OpRow)
+            → op_at self.old.parts.graph op.0 ≡ Some r
+            → Formed
+            (outline (with_row op.0 (record r { code = code; inputs = numbers inputs.now }) (form_at self.old))) }
+        ensures form { (r : OpRow)
+            → op_at self.old.parts.graph op.0 ≡ Some r
+            → form_at self.new
+            ≡ with_row op.0 (record r { code = code; inputs = numbers inputs.now }) (form_at self.old) }
         ensures edits { self.new.edits ≡ one_more self.old.edits }
         ensures spare_ops { self.new.parts.graph.spare_ops ≡ self.old.parts.graph.spare_ops }
-        ensures spare_slots { self.new.parts.graph.spare_slots + length inputs.now ≡ self.old.parts.graph.spare_slots + length (inputs_in (op_at self.old.parts.graph op.0)) }
+        ensures spare_slots { self.new.parts.graph.spare_slots + length inputs.now
+            ≡ self.old.parts.graph.spare_slots + length (inputs_in (op_at self.old.parts.graph op.0)) }
     {
         self.parts.graph.retarget(op, code, inputs);
         self.edits = self.edits.saturating_add(1);
@@ -114,11 +124,25 @@ impl SsaFunction {
         requires at { IsOp self.old.parts.graph at.0 }
         requires inputs { AreValues self.old.parts.graph (numbers inputs.now) }
         requires plain { IsJoin (role_of code) → ⊥ }
-        requires available { (r : OpRow) → op_at self.old.parts.graph at.0 ≡ Some r → AreAvailable (form_at self.old) at.0 r (numbers inputs.now) }
-        requires formed { (x : ℕ) (r : OpRow) → op_at self.old.parts.graph x ≡ None → op_at self.old.parts.graph at.0 ≡ Some r → Formed (outline (with_op x at.0 (record { block = r.block; code = code; inputs = numbers inputs.now; width = Some width }) (form_at self.old))) }
+        requires available { (r : OpRow)
+            → op_at self.old.parts.graph at.0 ≡ Some r
+            → AreAvailable (form_at self.old) at.0 r (numbers inputs.now) }
+        requires formed { (x : ℕ) (r : OpRow)
+            → op_at self.old.parts.graph x ≡ None
+            → op_at self.old.parts.graph at.0 ≡ Some r
+            → Formed (outline (with_op x at.0
+            (record { block = r.block; code = code; inputs = numbers inputs.now; width = Some width })
+            (form_at self.old))) }
         ensures fresh { IfOk result (λ op. op_at self.old.parts.graph op.0 ≡ None) }
-        ensures form { IfOk result (λ op. (r : OpRow) → op_at self.old.parts.graph at.0 ≡ Some r → form_at self.new ≡ with_op op.0 at.0 (record { block = r.block; code = code; inputs = numbers inputs.now; width = Some width }) (form_at self.old)) }
-        ensures failed { IfErr result (λ _. (form_at self.new ≡ form_at self.old) × (self.old.parts.graph.spare_ops ≤ self.new.parts.graph.spare_ops) × (self.old.parts.graph.spare_slots ≤ self.new.parts.graph.spare_slots)) }
+        ensures form { IfOk result (λ op. (r : OpRow)
+            → op_at self.old.parts.graph at.0 ≡ Some r
+            → form_at self.new
+            ≡ with_op op.0 at.0
+            (record { block = r.block; code = code; inputs = numbers inputs.now; width = Some width })
+            (form_at self.old)) }
+        ensures failed { IfErr result (λ _. (form_at self.new ≡ form_at self.old)
+            × (self.old.parts.graph.spare_ops ≤ self.new.parts.graph.spare_ops)
+            × (self.old.parts.graph.spare_slots ≤ self.new.parts.graph.spare_slots)) }
         ensures ready { 0 < self.old.parts.graph.spare_ops → length inputs.now ≤ self.old.parts.graph.spare_slots → IsOk result }
         ensures edits { self.new.edits ≡ self.old.edits }
         ensures spare_ops { self.old.parts.graph.spare_ops ≤ self.new.parts.graph.spare_ops + 1 }
@@ -134,11 +158,16 @@ impl SsaFunction {
     pub fn drop_op(&mut self, op: OpId)
         requires op { IsOp self.old.parts.graph op.0 }
         requires uses { uses_at self.old.parts.graph op.0 ≡ [] }
-        requires formed { (r : OpRow) → op_at self.old.parts.graph op.0 ≡ Some r → Formed (outline (without_op op.0 r (form_at self.old))) }
-        ensures form { (r : OpRow) → op_at self.old.parts.graph op.0 ≡ Some r → form_at self.new ≡ without_op op.0 r (form_at self.old) }
+        requires formed { (r : OpRow)
+            → op_at self.old.parts.graph op.0 ≡ Some r
+            → Formed (outline (without_op op.0 r (form_at self.old))) }
+        ensures form { (r : OpRow)
+            → op_at self.old.parts.graph op.0 ≡ Some r
+            → form_at self.new ≡ without_op op.0 r (form_at self.old) }
         ensures edits { self.new.edits ≡ self.old.edits }
         ensures spare_ops { self.new.parts.graph.spare_ops ≡ self.old.parts.graph.spare_ops + 1 }
-        ensures spare_slots { self.new.parts.graph.spare_slots ≡ self.old.parts.graph.spare_slots + length (inputs_in (op_at self.old.parts.graph op.0)) }
+        ensures spare_slots { self.new.parts.graph.spare_slots
+            ≡ self.old.parts.graph.spare_slots + length (inputs_in (op_at self.old.parts.graph op.0)) }
     {
         self.parts.graph.known();
         self.parts.graph.remove(op);

@@ -4,7 +4,10 @@ use Rattle.opgraph.proofs.edits.move_all.Goals as goal
 
 pub move_first-requires-clause-node : goal.move_first-requires-clause-node
 move_first-requires-clause-node c =
-    (c.loop-slot.invariant.full.members (Rattle.std.proofs.Common.Some c.args.before) c.in-Some.slot (Rattle.node_lists.proofs.Chains.head_none (Rattle.node_lists.specs.Families.list_at c.loop-slot.uses (Rattle.std.proofs.Common.Some c.args.before)) c.in-Some.slot (sym c.first.ensures ∙ c.in-Some.is))).0
+    (c.loop-slot.invariant.full.members (Rattle.std.proofs.Common.Some c.args.before) c.in-Some.slot
+    (Rattle.node_lists.proofs.Chains.head_none
+    (Rattle.node_lists.specs.Families.list_at c.loop-slot.uses (Rattle.std.proofs.Common.Some c.args.before))
+    c.in-Some.slot (sym c.first.ensures ∙ c.in-Some.is))).0
 
 pub loop-slot-smaller : goal.loop-slot-smaller
 loop-slot-smaller c =

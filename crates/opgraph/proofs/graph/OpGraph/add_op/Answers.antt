@@ -30,7 +30,9 @@ returns-clause-added c =
     let b = c.args.block.0 in
     let row : OpRow = record { block = b; code = c.args.code; inputs = []; width = c.args.width } in
     let ps = block_at c.want.new.self b ++ x ∷ [] in let qs = block_at c.args.self.now b ++ x ∷ [] in
-    let a = added_after x row ps qs c.args.self.now c.want.new.self c.claim_last-op.new.self c.want.ensures.same c.claim_last-op.ensures.added (ap (λ (f : ℕ → List ℕ). f b ++ x ∷ []) c.want.ensures.same.blocks) in
+    let a =
+    added_after x row ps qs c.args.self.now c.want.new.self c.claim_last-op.new.self c.want.ensures.same
+    c.claim_last-op.ensures.added (ap (λ (f : ℕ → List ℕ). f b ++ x ∷ []) c.want.ensures.same.blocks) in
     added_then x row (record row { inputs = numbers c.args.inputs.now }) qs c.args.self.now c.claim_last-op.new.self
     c.attach_all.new.self a
     (c.attach_all.ensures.row row

@@ -12,7 +12,9 @@ claim_before-op-requires-clause-at c =
 pub attach_all-requires-clause-op : goal.attach_all-requires-clause-op
 attach_all-requires-clause-op c =
     let x = c.claim_before-op.result in
-    let z = value_of (op_at c.want.new.self c.args.at.0) (same_op c.args.at.0 c.args.self.now c.want.new.self c.want.ensures.same c.requires.at) in
+    let z =
+    value_of (op_at c.want.new.self c.args.at.0)
+    (same_op c.args.at.0 c.args.self.now c.want.new.self c.want.ensures.same c.requires.at) in
     let row : OpRow = record { block = z.0.block; code = c.args.code; inputs = []; width = c.args.width } in
     subst IsSome
     (sym
@@ -22,7 +24,9 @@ attach_all-requires-clause-op c =
 pub attach_all-requires-clause-values : goal.attach_all-requires-clause-values
 attach_all-requires-clause-values c =
     let x = c.claim_before-op.result in
-    let z = value_of (op_at c.want.new.self c.args.at.0) (same_op c.args.at.0 c.args.self.now c.want.new.self c.want.ensures.same c.requires.at) in
+    let z =
+    value_of (op_at c.want.new.self c.args.at.0)
+    (same_op c.args.at.0 c.args.self.now c.want.new.self c.want.ensures.same c.requires.at) in
     let row : OpRow = record { block = z.0.block; code = c.args.code; inputs = []; width = c.args.width } in
     values_stay c.want.new.self c.claim_before-op.new.self
     (added_value x row (inserted x c.args.at.0 (block_at c.want.new.self z.0.block)) c.want.new.self
@@ -36,8 +40,11 @@ returns-clause-added c r e =
     let b = r.block in let row : OpRow = record { block = b; code = c.args.code; inputs = []; width = c.args.width } in
     let ps = inserted x c.args.at.0 (block_at c.want.new.self b) in
     let qs = inserted x c.args.at.0 (block_at c.args.self.now b) in
-    let claimed = c.claim_before-op.ensures.added r (ap (λ (f : ℕ → Option OpRow). f c.args.at.0) c.want.ensures.same.ops ∙ e) in
-    let a = added_after x row ps qs c.args.self.now c.want.new.self c.claim_before-op.new.self c.want.ensures.same claimed (ap (λ (f : ℕ → List ℕ). inserted x c.args.at.0 (f b)) c.want.ensures.same.blocks) in
+    let claimed =
+    c.claim_before-op.ensures.added r (ap (λ (f : ℕ → Option OpRow). f c.args.at.0) c.want.ensures.same.ops ∙ e) in
+    let a =
+    added_after x row ps qs c.args.self.now c.want.new.self c.claim_before-op.new.self c.want.ensures.same
+    claimed (ap (λ (f : ℕ → List ℕ). inserted x c.args.at.0 (f b)) c.want.ensures.same.blocks) in
     added_then x row (record row { inputs = numbers c.args.inputs.now }) qs c.args.self.now c.claim_before-op.new.self
     c.attach_all.new.self a
     (c.attach_all.ensures.row row (added_op x row ps c.want.new.self c.claim_before-op.new.self claimed)) refl

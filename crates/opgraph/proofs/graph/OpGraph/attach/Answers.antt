@@ -11,11 +11,14 @@ len-place-requires c =
 
 pub set_held-requires : goal.set_held-requires
 set_held-requires c =
-    (free_first c.self.inside.ops c.self.inside.inputs c.self.inside.uses c.self.invariant c.in-Some.slot (sym c.first.ensures ∙ c.in-Some.is)).low
+    (free_first c.self.inside.ops c.self.inside.inputs c.self.inside.uses c.self.invariant c.in-Some.slot
+    (sym c.first.ensures ∙ c.in-Some.is)).low
 
 pub move_last-requires-clause-node : goal.move_last-requires-clause-node
 move_last-requires-clause-node c =
-    let low = (free_first c.self.inside.ops c.self.inside.inputs c.self.inside.uses c.self.invariant c.in-Some.slot (sym c.first.ensures ∙ c.in-Some.is)).low in
+    let low =
+    (free_first c.self.inside.ops c.self.inside.inputs c.self.inside.uses c.self.invariant c.in-Some.slot
+    (sym c.first.ensures ∙ c.in-Some.is)).low in
     subst (λ n. c.in-Some.slot < n)
     (sym
     (ap (λ f. length f.held) c.set_held.ensures

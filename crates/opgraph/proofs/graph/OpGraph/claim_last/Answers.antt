@@ -11,11 +11,14 @@ use Rattle.opgraph.proofs.graph.OpGraph.claim_last.Goals as goal
 
 pub set_held-requires : goal.set_held-requires
 set_held-requires c =
-    (free_op c.self.inside.ops c.self.inside.inputs c.self.inside.uses c.self.invariant c.in-Some.op (sym c.first.ensures ∙ c.in-Some.is)).low
+    (free_op c.self.inside.ops c.self.inside.inputs c.self.inside.uses c.self.invariant c.in-Some.op
+    (sym c.first.ensures ∙ c.in-Some.is)).low
 
 pub move_last-requires-clause-node : goal.move_last-requires-clause-node
 move_last-requires-clause-node c =
-    let f = free_op c.self.inside.ops c.self.inside.inputs c.self.inside.uses c.self.invariant c.in-Some.op (sym c.first.ensures ∙ c.in-Some.is) in
+    let f =
+    free_op c.self.inside.ops c.self.inside.inputs c.self.inside.uses c.self.invariant c.in-Some.op
+    (sym c.first.ensures ∙ c.in-Some.is) in
     subst (λ n. c.in-Some.op < n)
     (sym
     (ap (λ (z : Family Body). length z.held) c.set_held.ensures
@@ -35,7 +38,12 @@ returns-in-Some-clause-added c =
     let o = c.self.inside.ops in
     let i = c.self.inside.inputs in let u = c.self.inside.uses in let g = c.self.invariant in
     let f = free_op o i u g c.in-Some.op (sym c.first.ensures ∙ c.in-Some.is) in
-    let same = ap (λ (z : Family Body). removed c.in-Some.op (list_at z (Some c.args.block))) c.set_held.ensures ∙ absent o i u g c.in-Some.op c.args.block (record { code = c.args.code; width = c.args.width }) (removed c.in-Some.op (list_at c.set_held.new.self (Some c.args.block)) ++ c.in-Some.op ∷ []) f c.set_held.new.self c.move_last.new.self c.set_held.ensures c.move_last.ensures (Some c.args.block) (λ d. none_some d) in
+    let same =
+    ap (λ (z : Family Body). removed c.in-Some.op (list_at z (Some c.args.block))) c.set_held.ensures
+    ∙ absent o i u g c.in-Some.op c.args.block (record { code = c.args.code; width = c.args.width })
+    (removed c.in-Some.op (list_at c.set_held.new.self (Some c.args.block)) ++ c.in-Some.op ∷ []) f
+    c.set_held.new.self c.move_last.new.self c.set_held.ensures c.move_last.ensures (Some c.args.block)
+    (λ d. none_some d) in
     let blocks = same ∙ ap (λ (z : Graph). block_at z c.args.block) c.self.view_is in
     subst
     (λ (z : Graph).

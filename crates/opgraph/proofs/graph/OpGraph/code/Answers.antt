@@ -17,6 +17,9 @@ returns c =
     let o = c.self.inside.ops in let i = c.self.inside.inputs in let u = c.self.inside.uses in let x = c.args.op.0 in
     let k = op_key o i u c.self.invariant x (subst (λ (z : Graph). IsOp z x) (sym c.self.view_is) c.requires) in
     let r = row_is o i u c.self.invariant x k.0 k.1 in
-    let row = ap (λ (z : Graph). op_at z x) (sym c.self.view_is) ∙ ap (λ (h : ℕ → Option OpRow). h x) (op_at_is o i u) ∙ r.2 in
+    let row =
+    ap (λ (z : Graph). op_at z x) (sym c.self.view_is)
+    ∙ ap (λ (h : ℕ → Option OpRow). h x) (op_at_is o i u)
+    ∙ r.2 in
     subst (λ v. IfSome v (λ z. c.held.result.code ≡ z.code)) (sym row)
     (ap (λ (b : Body). b.code) (some_same (sym c.held.ensures ∙ r.1)))

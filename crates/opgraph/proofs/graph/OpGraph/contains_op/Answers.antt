@@ -17,6 +17,8 @@ pub returns-else-op-size : goal.returns-else-op-size
 returns-else-op-size c = (
   λ h. absurd (Rattle.std.proofs.Common.true≢false (sym h)),
   λ h.
-      let low = op_low c.self.inside.ops c.self.inside.inputs c.self.inside.uses c.self.invariant c.args.op.0 (subst (λ (g : Graph). IsOp g c.args.op.0) (sym c.self.view_is) h) in
+      let low =
+      op_low c.self.inside.ops c.self.inside.inputs c.self.inside.uses c.self.invariant c.args.op.0
+      (subst (λ (g : Graph). IsOp g c.args.op.0) (sym c.self.view_is) h) in
       let size = c.size.ensures in let past = c.if-op-size.false in absurd (omega arith),
 )

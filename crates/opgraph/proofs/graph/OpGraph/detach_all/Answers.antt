@@ -9,12 +9,14 @@ detach-requires-clause-op c =
 
 pub detach-requires-clause-some : goal.detach-requires-clause-some
 detach-requires-clause-some c =
-    let low : c.slots.counter < length (inputs_in (op_at c.args.self.now c.args.op)) = omega (arith, c.input_count-count.ensures) in
+    let low : c.slots.counter < length (inputs_in (op_at c.args.self.now c.args.op)) =
+    omega (arith, c.input_count-count.ensures) in
     shortened_some c.args.op c.slots.counter c.args.self.now c.slots.self c.requires c.slots.invariant.row low
 
 pub slots-preserved : goal.slots-preserved
 slots-preserved c =
-    let low : c.slots.counter < length (inputs_in (op_at c.args.self.now c.args.op)) = omega (arith, c.input_count-count.ensures) in
+    let low : c.slots.counter < length (inputs_in (op_at c.args.self.now c.args.op)) =
+    omega (arith, c.input_count-count.ensures) in
     record {
       row =
           shortened_more c.args.op c.slots.counter c.args.self.now c.slots.self c.detach.new.self c.slots.invariant.row

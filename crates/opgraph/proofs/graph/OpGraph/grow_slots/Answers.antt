@@ -29,7 +29,8 @@ returns-in_err-add_spare-clause-same c =
     (λ i.
     Same (graph_of c.self.inside.ops c.self.inside.inputs c.self.inside.uses)
     (graph_of c.self.inside.ops i c.ensure_use.new.uses)) (sym c.in_err-add_spare.ensures.failed)
-    (more_nodes_same c.self.inside.ops c.self.inside.inputs c.self.inside.inputs c.self.inside.uses c.ensure_use.new.uses c.self.invariant c.ensure_use.ensures.kept))
+    (more_nodes_same c.self.inside.ops c.self.inside.inputs c.self.inside.inputs c.self.inside.uses
+    c.ensure_use.new.uses c.self.invariant c.ensure_use.ensures.kept))
 
 pub invariant_of-self-2 : goal.invariant_of-self-2
 invariant_of-self-2 c =

@@ -18,7 +18,10 @@ returns c =
     let o = c.self.inside.ops in let i = c.self.inside.inputs in let u = c.self.inside.uses in let x = c.args.op.0 in
     let k = op_key o i u c.self.invariant x (subst (λ (z : Graph). IsOp z x) (sym c.self.view_is) c.requires) in
     let r = row_is o i u c.self.invariant x k.0 k.1 in
-    let row = ap (λ (z : Graph). op_at z x) (sym c.self.view_is) ∙ ap (λ (h : ℕ → Option OpRow). h x) (op_at_is o i u) ∙ r.2 in
+    let row =
+    ap (λ (z : Graph). op_at z x) (sym c.self.view_is)
+    ∙ ap (λ (h : ℕ → Option OpRow). h x) (op_at_is o i u)
+    ∙ r.2 in
     c.len.ensures
     ∙ sym (length-map (list_at i (Some x)) (λ s. or_zero (key_at u s)))
     ∙ ap (λ z. length (inputs_in z)) (sym row)

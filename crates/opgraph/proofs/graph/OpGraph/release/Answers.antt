@@ -18,9 +18,18 @@ invariant_of-self c =
     let o = c.self.inside.ops in
     let i = c.self.inside.inputs in let u = c.self.inside.uses in let g = c.self.invariant in let x = c.args.op in
     let at = ap (λ (h : ℕ → Option OpRow). h x) (op_at_is o i u) in
-    let r = value_of (row_of o i u x) (subst Rattle.std.proofs.Common.IsSome at (subst (λ (z : Graph). IsOp z x) (sym c.self.view_is) c.requires.op)) in
-    let none = sym (row_ins o i u g x r.0 r.1) ∙ ap inputs_in (sym r.1 ∙ sym at) ∙ ap (λ (z : Graph). inputs_in (op_at z x)) c.self.view_is ∙ c.requires.inputs in
-    let unused = ap (λ (h : ℕ → List Slot). h x) (sym (uses_at_is o i u)) ∙ ap (λ (z : Graph). uses_at z x) c.self.view_is ∙ c.requires.uses in
+    let r =
+    value_of (row_of o i u x) (subst Rattle.std.proofs.Common.IsSome at
+    (subst (λ (z : Graph). IsOp z x) (sym c.self.view_is) c.requires.op)) in
+    let none =
+    sym (row_ins o i u g x r.0 r.1)
+    ∙ ap inputs_in (sym r.1 ∙ sym at)
+    ∙ ap (λ (z : Graph). inputs_in (op_at z x)) c.self.view_is
+    ∙ c.requires.inputs in
+    let unused =
+    ap (λ (h : ℕ → List Slot). h x) (sym (uses_at_is o i u))
+    ∙ ap (λ (z : Graph). uses_at z x) c.self.view_is
+    ∙ c.requires.uses in
     released_good o i u g x r.0 r.1 none unused c.move_first.new.self c.move_first.ensures
 
 pub returns-clause-removed : goal.returns-clause-removed
@@ -30,7 +39,10 @@ returns-clause-removed c r er =
     let at = ap (λ (h : ℕ → Option OpRow). h x) (op_at_is o i u) in
     let row = sym at ∙ ap (λ (z : Graph). op_at z x) c.self.view_is ∙ er in
     let none = sym (row_ins o i u g x r row) ∙ ap inputs_in (sym er) ∙ c.requires.inputs in
-    let unused = ap (λ (h : ℕ → List Slot). h x) (sym (uses_at_is o i u)) ∙ ap (λ (z : Graph). uses_at z x) c.self.view_is ∙ c.requires.uses in
+    let unused =
+    ap (λ (h : ℕ → List Slot). h x) (sym (uses_at_is o i u))
+    ∙ ap (λ (z : Graph). uses_at z x) c.self.view_is
+    ∙ c.requires.uses in
     subst (λ (z : Graph). Removed x r z (graph_of c.move_first.new.self i u)) c.self.view_is
     (released o i u g x r row none unused c.move_first.new.self c.move_first.ensures)
 
@@ -39,8 +51,17 @@ returns-clause-spare_ops c =
     let o = c.self.inside.ops in
     let i = c.self.inside.inputs in let u = c.self.inside.uses in let g = c.self.invariant in let x = c.args.op in
     let at = ap (λ (h : ℕ → Option OpRow). h x) (op_at_is o i u) in
-    let r = value_of (row_of o i u x) (subst Rattle.std.proofs.Common.IsSome at (subst (λ (z : Graph). IsOp z x) (sym c.self.view_is) c.requires.op)) in
-    let none = sym (row_ins o i u g x r.0 r.1) ∙ ap inputs_in (sym r.1 ∙ sym at) ∙ ap (λ (z : Graph). inputs_in (op_at z x)) c.self.view_is ∙ c.requires.inputs in
-    let unused = ap (λ (h : ℕ → List Slot). h x) (sym (uses_at_is o i u)) ∙ ap (λ (z : Graph). uses_at z x) c.self.view_is ∙ c.requires.uses in
+    let r =
+    value_of (row_of o i u x) (subst Rattle.std.proofs.Common.IsSome at
+    (subst (λ (z : Graph). IsOp z x) (sym c.self.view_is) c.requires.op)) in
+    let none =
+    sym (row_ins o i u g x r.0 r.1)
+    ∙ ap inputs_in (sym r.1 ∙ sym at)
+    ∙ ap (λ (z : Graph). inputs_in (op_at z x)) c.self.view_is
+    ∙ c.requires.inputs in
+    let unused =
+    ap (λ (h : ℕ → List Slot). h x) (sym (uses_at_is o i u))
+    ∙ ap (λ (z : Graph). uses_at z x) c.self.view_is
+    ∙ c.requires.uses in
     released_spares o i u g x r.0 r.1 none unused c.move_first.new.self c.move_first.ensures
     ∙ ap (λ (z : Graph). z.spare_ops + 1) c.self.view_is

@@ -18,14 +18,18 @@ set_held-requires c =
 pub invariant_of-self : goal.invariant_of-self
 invariant_of-self c =
     let o = c.self.inside.ops in let i = c.self.inside.inputs in let u = c.self.inside.uses in
-    let k = op_key o i u c.self.invariant c.args.op (subst (λ (z : Graph). IsOp z c.args.op) (sym c.self.view_is) c.requires) in
+    let k =
+    op_key o i u c.self.invariant c.args.op
+    (subst (λ (z : Graph). IsOp z c.args.op) (sym c.self.view_is) c.requires) in
     coded_good o i i u u c.self.invariant c.args.op k.0 c.args.code c.held-body.result k.1 c.held-body.ensures
     c.set_held.new.self c.set_held.ensures
 
 pub returns-clause-row : goal.returns-clause-row
 returns-clause-row c r e =
     let o = c.self.inside.ops in let i = c.self.inside.inputs in let u = c.self.inside.uses in
-    let k = op_key o i u c.self.invariant c.args.op (subst (λ (z : Graph). IsOp z c.args.op) (sym c.self.view_is) c.requires) in
+    let k =
+    op_key o i u c.self.invariant c.args.op
+    (subst (λ (z : Graph). IsOp z c.args.op) (sym c.self.view_is) c.requires) in
     subst (λ (z : Graph). Rewritten c.args.op (record r { code = c.args.code }) z (graph_of c.set_held.new.self i u))
     c.self.view_is
     (coded_row o i i u u c.self.invariant c.args.op k.0 c.args.code c.held-body.result k.1 c.held-body.ensures

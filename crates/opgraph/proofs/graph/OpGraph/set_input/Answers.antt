@@ -18,7 +18,9 @@ pub move_first-requires-clause-node : goal.move_first-requires-clause-node
 move_first-requires-clause-node c =
     let i = c.self.inside.inputs in
     let u = c.self.inside.uses in let g = c.self.invariant in let s = c.in-Some.slot in let x = c.args.op.0 in
-    let k = (g.full_inputs.members (Some x) s (in_at (list_at i (Some x)) c.args.slot s (sym c.nth.ensures ∙ c.in-Some.is))).1 in
+    let k =
+    (g.full_inputs.members (Some x) s
+    (in_at (list_at i (Some x)) c.args.slot s (sym c.nth.ensures ∙ c.in-Some.is))).1 in
     let w = value_of (key_at u s) (g.reads s (some_of k)) in g.full_uses.low s w.0 w.1
 
 pub move_first-requires-clause-list : goal.move_first-requires-clause-list
@@ -40,7 +42,10 @@ returns-in-Some-clause-row c r e =
     (λ (z : Graph).
     Rewritten c.args.op.0 (record r { inputs = set r.inputs c.args.slot c.args.v.0 }) z
     (graph_of o i c.move_first.new.self)) c.self.view_is
-    (relinked_row o i u c.self.invariant c.in-Some.slot c.args.op.0 c.args.slot c.args.v.0 (sym c.nth.ensures ∙ c.in-Some.is) (subst (λ (z : Graph). IsValue z c.args.v.0) (sym c.self.view_is) c.requires.value) c.move_first.new.self c.move_first.ensures r
+    (relinked_row o i u c.self.invariant c.in-Some.slot c.args.op.0 c.args.slot c.args.v.0
+    (sym c.nth.ensures ∙ c.in-Some.is)
+    (subst (λ (z : Graph). IsValue z c.args.v.0) (sym c.self.view_is) c.requires.value) c.move_first.new.self
+    c.move_first.ensures r
     (ap (λ (z : Graph). op_at z c.args.op.0) c.self.view_is ∙ e))
 
 pub returns-in_default-clause-row : goal.returns-in_default-clause-row
@@ -49,6 +54,10 @@ returns-in_default-clause-row c r e =
     let er = ap (λ (z : Graph). op_at z x) c.self.view_is ∙ e in
     let row = sym (ap (λ (h : ℕ → Option OpRow). h x) (op_at_is o i u)) ∙ er in
     let low : c.args.slot < length r.inputs = subst (λ z. c.args.slot < length (inputs_in z)) e c.requires.slot in
-    let short = subst (λ n. c.args.slot < n) (ap length (row_ins o i u c.self.invariant x r row) ∙ Rattle.std.proofs.lemmas.List.length-map (list_at i (Some x)) (λ s. or_zero (key_at u s))) low in
+    let short =
+    subst (λ n. c.args.slot < n)
+    (ap length (row_ins o i u c.self.invariant x r row)
+    ∙ Rattle.std.proofs.lemmas.List.length-map (list_at i (Some x)) (λ s. or_zero (key_at u s)))
+    low in
     let got = get_in (list_at i (Some x)) c.args.slot short in
     none_some (sym c.in_default.is ∙ c.nth.ensures ∙ got.1)

@@ -12,7 +12,9 @@ pub invariant_of-self : goal.invariant_of-self
 invariant_of-self c =
     let p = c.self.inside.parts in
     let at = c.args.at.0 in let vs = numbers c.args.inputs.now in let h = c.add_op_before.new.self in
-    let z = value_of (op_at p.graph at) (subst (λ (s : SsaForm). IsOp s.parts.graph at) (sym c.self.view_is) c.requires.at) in
+    let z =
+    value_of (op_at p.graph at)
+    (subst (λ (s : SsaForm). IsOp s.parts.graph at) (sym c.self.view_is) c.requires.at) in
     let row : OpRow = record { block = z.0.block; code = c.args.code; inputs = vs; width = Some c.args.width } in
     let available =
     subst (λ (s : SsaForm). (r : OpRow) → op_at s.parts.graph at ≡ Some r → AreAvailable (form_at s) at r vs)

@@ -11,7 +11,8 @@ use Rattle.ssa_model.proofs.function.SsaFunction.drop_op.Goals as goal
 pub invariant_of-self : goal.invariant_of-self
 invariant_of-self c =
     let p = c.self.inside.parts in let x = c.args.op.0 in
-    let z = value_of (op_at p.graph x) (subst (λ (s : SsaForm). IsOp s.parts.graph x) (sym c.self.view_is) c.requires.op) in
+    let z =
+    value_of (op_at p.graph x) (subst (λ (s : SsaForm). IsOp s.parts.graph x) (sym c.self.view_is) c.requires.op) in
     let none = subst (λ (s : SsaForm). uses_at s.parts.graph x ≡ []) (sym c.self.view_is) c.requires.uses in
     let formed =
     subst

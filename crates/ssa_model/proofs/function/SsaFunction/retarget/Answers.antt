@@ -11,7 +11,8 @@ use Rattle.ssa_model.proofs.function.SsaFunction.retarget.Goals as goal
 pub invariant_of-self : goal.invariant_of-self
 invariant_of-self c =
     let p = c.self.inside.parts in let x = c.args.op.0 in let vs = numbers c.args.inputs.now in
-    let z = value_of (op_at p.graph x) (subst (λ (s : SsaForm). IsOp s.parts.graph x) (sym c.self.view_is) c.requires.op) in
+    let z =
+    value_of (op_at p.graph x) (subst (λ (s : SsaForm). IsOp s.parts.graph x) (sym c.self.view_is) c.requires.op) in
     let row : OpRow = record z.0 { code = c.args.code; inputs = vs } in
     let available =
     subst (λ (s : SsaForm). (r : OpRow) → op_at s.parts.graph x ≡ Some r → AreAvailable (form_at s) x r vs)

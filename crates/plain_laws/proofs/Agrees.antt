@@ -1,0 +1,73 @@
+-- The code of the plain lowering agrees with the listing: by the frame law, since the run of a listing without frame
+-- variables ends Outside where it reads a hidden byte, and the run of the code goes on.
+use Rattle.std.proofs.Common.{◌≡◌, ◌≢◌, ◌<◌, Bool, true, false, List, length, refl}
+use Rattle.std.specs.Prelude.{Ok, Err}
+use Rattle.machine.specs.Trace.{End, ReadOnlyWrite, Undefined}
+use Rattle.machine.specs.TwoWay.{NeverEnds, TwoWay}
+use Rattle.machine.specs.Agree.{Agree}
+use Rattle.machine.proofs.Agree.{agree_by_frame}
+use Rattle.machine.proofs.TwoWay.{never_ends_along}
+use Rattle.pcode_model.specs.declared.listing.Listing.{Listing}
+use Rattle.pcode_model.specs.declared.tables.TableAt.{TableAt}
+use Rattle.pcode_model.specs.declared.atoms.Atom.{Atom}
+use Rattle.pcode_model.specs.declared.flow.Block.{Block}
+use Rattle.pcode_model.specs.Spaces.{first_ram, is_fixed, size_of}
+use Rattle.pcode_model.specs.Memory.{any_fixed, apart, no_frame, unless}
+use Rattle.pcode_model.specs.World.{Entry, IsEntry}
+use Rattle.pcode_model.specs.Step.{first_apart, seen_f, seen_p, stack0, start}
+use Rattle.pcode_laws.proofs.AsBytes.{apart_as_bytes}
+use Rattle.pcode_laws.proofs.Ends.{Allows, ends_within}
+use Rattle.blockcode.specs.Run.{seen_code}
+use Rattle.frame_law.proofs.Keeps.{law_without_frame}
+use Rattle.plain_laws.specs.Blocks.{lowered}
+use Rattle.plain_laws.specs.Form.{IsLowerable}
+use Rattle.plain_laws.proofs.Keeps.{keeps}
+
+abbrev Defined : End → Type 0
+Defined e = e ≢ Undefined
+
+ok_never : {A : Type 0} (x : A) (e : End) → Ok x ≡ Err e → Defined e
+ok_never x e f = absurd (cc)
+
+fixed_ends : {A : Type 0} (b : Bool) (x : A) (e : End) → unless b ReadOnlyWrite (Ok x) ≡ Err e → Defined e
+fixed_ends true x e f = λ g. absurd (cc)
+fixed_ends false x e f = ok_never x e f
+
+-- the frame run never ends Undefined
+pub frame_run_defined : (l : Listing) (e : Entry) → NeverEnds Undefined (seen_f l no_frame e)
+frame_run_defined l e n over =
+    let allows : Allows (apart l) l Defined = record {
+      div_zero = λ d. absurd (cc);
+      no_return = λ d. absurd (cc);
+      bad_target = λ d. absurd (cc);
+      no_answer = λ d. absurd (cc);
+      returned = λ b d. absurd (cc);
+      read = λ s a k w e f. ok_never _ e f;
+      write = λ s a bs w e f. fixed_ends (any_fixed l s a (length bs)) _ e f;
+      read_own = λ a c k w e f. ok_never _ e f;
+      answer = λ x w e f. fixed_ends (is_fixed l x.space x.offset) _ e f;
+    } in
+    ends_within (apart l) l no_frame Defined allows (start l e (first_apart l e)) refl n Undefined over refl
+
+module _
+    (l : Listing)
+    (t : List TableAt)
+    (blocks : List Block)
+    (atoms : List Atom)
+    (form : IsLowerable l t blocks atoms)
+    (e : Entry)
+    (entry : IsEntry l e)
+  where
+    -- the run that looks at no hidden byte, and the code's
+    pub frame_run_keeps : TwoWay (seen_f l no_frame e) (seen_code l (lowered l blocks atoms) e)
+    frame_run_keeps = keeps (apart l) (λ w. w.bytes) l no_frame t blocks atoms e (first_apart l e) form entry
+        (apart_as_bytes l) (λ p n. refl) refl
+
+    -- The run of the code agrees with the run of the listing, up to where that one ends Outside.
+    pub code_agrees : stack0 l e < size_of l (first_ram l)
+        → Agree true (seen_p l no_frame e) (seen_code l (lowered l blocks atoms) e)
+    code_agrees low =
+        let target = seen_code l (lowered l blocks atoms) e in
+        agree_by_frame true (seen_p l no_frame e) (seen_f l no_frame e) target (law_without_frame l e low)
+        frame_run_keeps (never_ends_along Undefined (seen_f l no_frame e) target frame_run_keeps
+        (frame_run_defined l e))

@@ -1,0 +1,411 @@
+-- What stands for the last op of a block goes where the op goes.
+use Rattle.std.proofs.Common.{◌≡◌, ℕ, zero, suc, ◌≤◌, Bool, true, false, List, [], ◌∷◌, ◌++◌, length, Option, Some, None, refl, sym, ap, ◌∙◌, subst, append-nil, arith}
+use Rattle.std.specs.Prelude.{Ok, slice_get, ◌==◌, cond, if◌then◌else◌}
+use Rattle.std.proofs.lemmas.Bool.Decides.{nat_tests}
+use Rattle.machine.specs.Trace.{End, Returned}
+use Rattle.pcode_model.specs.declared.listing.SpaceKind.{SpaceKind}
+use Rattle.pcode_model.specs.declared.listing.SpaceKind.TheVariants.{Constant, Ram, Register, Unique}
+use Rattle.pcode_model.specs.declared.listing.Varnode.{Varnode}
+use Rattle.pcode_model.specs.declared.listing.Instruction.{Instruction}
+use Rattle.pcode_model.specs.declared.listing.Place.{Place}
+use Rattle.pcode_model.specs.declared.listing.Listing.{Listing}
+use Rattle.pcode_model.specs.declared.opcode.Opcode.{Opcode}
+use Rattle.pcode_model.specs.declared.opcode.Opcode.TheVariants as O
+use Rattle.pcode_model.specs.declared.tables.TableAt.{TableAt}
+use Rattle.pcode_model.specs.declared.flow.Turn.TheVariants.{GoesOn}
+use Rattle.pcode_model.specs.declared.flow.Exit as flow_exit
+use Rattle.pcode_model.specs.declared.flow.Exit.TheVariants as F
+use Rattle.pcode_model.specs.Spaces.{kind_of}
+use Rattle.pcode_model.specs.Places.{Standing, Nothing, Passes, Does, next_place, branch_place}
+use Rattle.pcode_model.specs.Memory.{Acts, Frame, Bytes}
+use Rattle.pcode_model.specs.World.{ended}
+use Rattle.pcode_model.specs.Step.{State, moved, in_world, local_word, with_first, effect_at, apply, gone, read_varnode, step_at, proto_of, result_of, word_in_bytes}
+use Rattle.pcode_model.specs.Flow.{turn_of, turn_in, next_in, IsIn, IsStart, JumpsTo, TestsTo, LeavesBy}
+use Rattle.pcode_laws.specs.AsBytes.{AsBytes}
+use Rattle.cmeaning.specs.declared.tree.Expr.{Expr}
+use Rattle.cmeaning.specs.declared.tree.Stmt.{Stmt}
+use Rattle.cmeaning.specs.Do.{Local, ends}
+use Rattle.cmeaning.specs.Step.{tested}
+use Rattle.cmeaning.specs.Value.{value_of}
+use Rattle.blockcode.specs.declared.code.Exit.{Exit}
+use Rattle.blockcode.specs.declared.code.Exit.TheVariants as X
+use Rattle.blockcode.specs.Run.{CodeState, at, enters, enters_by, returns_with, leave}
+use Rattle.blockcode.proofs.Straight.{run_all}
+use Rattle.op_code.specs.Made.{read_one}
+use Rattle.op_code.specs.Form.{IsLocalBy, IsOperand, IsPlainOp, IsResult}
+use Rattle.op_code.proofs.Access.{read_is}
+use Rattle.op_code.proofs.Operands.{reads_by, variable_has}
+use Rattle.op_code.proofs.Ops.{op_meets}
+use Rattle.op_code.proofs.Sees.{AreWide, Meets, Sees, Setting}
+use Rattle.op_code.proofs.Steps.{op_of}
+use Rattle.plain_laws.specs.Blocks.{directly, made_in, result, result_in, tests, way_out}
+use Rattle.plain_laws.specs.Form.{IsPlain, IsUnframed}
+
+-- Both have left the block: they go together, and the code stands where the block begins that begins at the place.
+pub record Left {M : Type 0} (l : Listing) (ranges : List Varnode) (look : M → Bytes) (starts : List Place)
+    (s : State M) (u : CodeState) : Type 0 where
+  pub sees : Sees l ranges look s u.local
+  pub at : s.world.over ≡ None → (u.position ≡ 0) × (slice_get starts u.block ≡ Some s.at)
+
+-- The code's next step from u, before this exit, leads to v: the exit is taken, unless the run has ended.
+pub record Leaving (ws : ℕ → ℕ) (e : Exit) (u v : CodeState) : Type 0 where
+  pub on : u.local.world.over ≡ None → v ≡ leave ws e u
+  pub off : (h : End) → u.local.world.over ≡ Some h → v ≡ u
+
+module _
+    {M : Type 0}
+    (m : Acts M)
+    (l : Listing)
+    (f : Frame)
+    (look : M → Bytes)
+    (ranges : List Varnode)
+    (ws : ℕ → ℕ)
+    (returns : List Stmt → Bool)
+    (is : AsBytes m l look)
+    (unframed : IsUnframed f)
+    (set : Setting l ranges ws)
+    (starts : List Place)
+  where
+    -- what stands at a place from which the run goes on to the next one
+    pub goes_to : (here : Standing) (q : Place) (s : State M) (x : Local) (n : ℕ)
+        → IsPlain l ranges here
+        → turn_in l here ≡ GoesOn
+        → next_in here s.at.index ≡ Some q
+        → s.world.over ≡ None
+        → Sees l ranges look s x
+        → length ranges ≤ n
+        → AreWide ws n (made_in l ranges n here).locals
+        → Meets l ranges look q (step_at m l f here s) (run_all l ws returns (made_in l ranges n here).statements x)
+    goes_to Nothing q s x n h turn next go sees free wide = absurd h
+    goes_to (Passes i) q s x n h turn next go sees free wide = record {
+      sees = record { world = sees.world; holds = sees.holds; bytes = sees.bytes; memory = sees.memory };
+      at = λ _. cc;
+    }
+    goes_to (Does i op) q s x n h turn next go sees free wide =
+        let met = op_meets m l f look ranges ws is set i s x go (unframed s.at 0) sees n free returns op.code op.out
+        op.inputs h turn wide in
+        record { sees = met.sees; at = λ g. let e = met.at g in cc }
+
+    -- ---- the ways to leave
+
+    jump_left : (q : Place) (n : ℕ) (s : State M) (u : CodeState)
+        → Meets l ranges look q s u.local
+        → slice_get starts n ≡ Some q
+        → Left l ranges look starts s (enters n u)
+    jump_left q n s u met e = record {
+      sees = met.sees;
+      at = λ g. (refl, e ∙ ap (λ p. Some p) (sym (met.at g)));
+    }
+
+    jump_by : (q : Place) (n : ℕ) (s : State M) (u v : CodeState) (o : Option End)
+        → s.world.over ≡ o
+        → Meets l ranges look q s u.local
+        → slice_get starts n ≡ Some q
+        → Leaving ws (X.Jump n) u v
+        → Left l ranges look starts s v
+    jump_by q n s u v None go met e leaving =
+        let P : CodeState → Type 0 = λ w. Left l ranges look starts s w in
+        subst P (sym (leaving.on (ap (λ w. w.over) (sym met.sees.world) ∙ go))) (jump_left q n s u met e)
+    jump_by q n s u v (Some h) go met e leaving =
+        let P : CodeState → Type 0 = λ w. Left l ranges look starts s w in
+        subst P (sym (leaving.off h (ap (λ w. w.over) (sym met.sees.world) ∙ go)))
+        (record { sees = met.sees; at = λ g. absurd (cc) })
+
+    leaves_on : (here : Standing) (e : flow_exit.Exit) (s : State M) (x : Local) (u v : CodeState) (n k : ℕ)
+        → IsPlain l ranges here
+        → turn_in l here ≡ GoesOn
+        → JumpsTo starts (next_in here s.at.index) e
+        → s.world.over ≡ None
+        → Sees l ranges look s x
+        → length ranges ≤ n
+        → AreWide ws n (made_in l ranges n here).locals
+        → u.local ≡ run_all l ws returns ((made_in l ranges n here).statements ++ (way_out l ranges k here e).loads) x
+        → Leaving ws (way_out l ranges k here e).exit u v
+        → Left l ranges look starts (step_at m l f here s) v
+    leaves_on here F.Return s x u v n k h turn jump go sees free wide ran leaving = absurd jump
+    leaves_on here (F.Jump b) s x u v n k h turn jump go sees free wide ran leaving =
+        let ss = (made_in l ranges n here).statements in
+        let met = goes_to here jump.0 s x n h turn jump.1.0 go sees free wide in
+        let same : u.local ≡ run_all l ws returns ss x = ran ∙ ap (λ xs. run_all l ws returns xs x) (append-nil ss) in
+        let P : Local → Type 0 = λ y. Meets l ranges look jump.0 (step_at m l f here s) y in
+        jump_by jump.0 b (step_at m l f here s) u v (step_at m l f here s).world.over refl (subst P (sym same) met)
+        jump.1.1 leaving
+    leaves_on here (F.Test a b) s x u v n k h turn jump go sees free wide ran leaving = absurd jump
+    leaves_on here (F.Switch t ns) s x u v n k h turn jump go sees free wide ran leaving = absurd jump
+    leaves_on here F.Stop s x u v n k h turn jump go sees free wide ran leaving = absurd jump
+
+    sees_at : (s : State M) (x y : Local) → y ≡ x → Sees l ranges look s x → Sees l ranges look s y
+    sees_at s x y e sees = let P : Local → Type 0 = λ z. Sees l ranges look s z in subst P (sym e) sees
+
+    sees_moved : (p : Place) (s : State M) (x : Local) → Sees l ranges look s x → Sees l ranges look (moved p s) x
+    sees_moved p s x sees =
+        record { world = sees.world; holds = sees.holds; bytes = sees.bytes; memory = sees.memory }
+
+    -- to a place where a block begins
+    gone_left : (to : Option Place) (n : ℕ) (s : State M) (u : CodeState)
+        → IsStart starts to n
+        → Sees l ranges look s u.local
+        → Left l ranges look starts (gone to s) (enters n u)
+    gone_left to n s u start sees =
+        let P : Option Place → Type 0 = λ o. Left l ranges look starts (gone o s) (enters n u) in
+        subst P (sym start.1.0) (record { sees = sees_moved start.0 s u.local sees; at = λ g. (refl, start.1.1) })
+
+    -- an exit is taken
+    taken : (e : Exit) (s t : State M) (u v : CodeState)
+        → s.world.over ≡ None
+        → Sees l ranges look s u.local
+        → Leaving ws e u v
+        → Left l ranges look starts t (leave ws e u)
+        → Left l ranges look starts t v
+    taken e s t u v go sees leaving left =
+        let P : CodeState → Type 0 = λ w. Left l ranges look starts t w in
+        subst P (sym (leaving.on (ap (λ w. w.over) (sym sees.world) ∙ go))) left
+
+    branch_left : (i : Instruction) (to : Varnode) (e : flow_exit.Exit) (s : State M) (x : Local) (u v : CodeState)
+        (here : Standing) (k : ℕ)
+        → JumpsTo starts (branch_place i s.at.index to) e
+        → s.world.over ≡ None
+        → Sees l ranges look s x
+        → u.local ≡ run_all l ws returns (way_out l ranges k here e).loads x
+        → Leaving ws (way_out l ranges k here e).exit u v
+        → Left l ranges look starts (gone (branch_place i s.at.index to) s) v
+    branch_left i to F.Return s x u v here k jump go sees ran leaving = absurd jump
+    branch_left i to (F.Jump n) s x u v here k jump go sees ran leaving =
+        let there = sees_at s x u.local ran sees in
+        taken (X.Jump n) s (gone (branch_place i s.at.index to) s) u v go there leaving
+        (gone_left (branch_place i s.at.index to) n s u jump there)
+    branch_left i to (F.Test a b) s x u v here k jump go sees ran leaving = absurd jump
+    branch_left i to (F.Switch t ns) s x u v here k jump go sees ran leaving = absurd jump
+    branch_left i to F.Stop s x u v here k jump go sees ran leaving = absurd jump
+
+    -- ---- tests
+
+    some_word : (n : ℕ) → (suc n == 0) ≡ false
+    some_word n = grind (arith, nat_tests)
+
+    -- an operand that is read has a word
+    word_read : (k : SpaceKind) (v : Varnode) (s : State M) → (a : ℕ) × (read_varnode m l k v s ≡ Ok a)
+    word_read Constant v s = (v.offset, refl)
+    word_read Ram v s = (
+      word_in_bytes l v.space v.offset v.size (look s.world.memory),
+      read_is m l look is v.space v.offset v.size s.world.memory,
+    )
+    word_read Register v s = (local_word l v s.local, refl)
+    word_read Unique v s = (local_word l v s.local, refl)
+
+    -- to one of two blocks, which are one
+    same_left : (a b n : ℕ) (to next : Option Place) (s : State M) (u : CodeState)
+        → (a == b) ≡ true
+        → IsStart starts to a
+        → IsStart starts next b
+        → Sees l ranges look s u.local
+        → Left l ranges look starts (gone (if n == 0 then next else to) s) (enters a u)
+    same_left a b zero to next s u same sa sb sees =
+        let e : a ≡ b = grind (arith, nat_tests) in
+        let P : ℕ → Type 0 = λ k. Left l ranges look starts (gone next s) (enters k u) in
+        subst P (sym e) (gone_left next b s u sb sees)
+    same_left a b (suc n) to next s u same sa sb sees =
+        let P : Bool → Type 0 = λ z. Left l ranges look starts (gone (cond z next to) s) (enters a u) in
+        subst P (sym (some_word n)) (gone_left to a s u sa sees)
+
+    -- by the value of a condition
+    value_left : (c : Expr) (a b n : ℕ) (to next : Option Place) (s : State M) (u : CodeState)
+        → IsStart starts to a
+        → IsStart starts next b
+        → Sees l ranges look s u.local
+        → value_of ws u.local.env c ≡ Some n
+        → Left l ranges look starts (gone (if n == 0 then next else to) s) (leave ws (X.Test c a b) u)
+    value_left c a b zero to next s u sa sb sees has =
+        let P : Option ℕ → Type 0 = λ o. Left l ranges look starts (gone next s)
+        (enters_by o u (λ n. enters (tested a b n) u)) in
+        subst P (sym has) (gone_left next b s u sb sees)
+    value_left c a b (suc n) to next s u sa sb sees has =
+        let P : Option ℕ → Type 0 = λ o. Left l ranges look starts (gone to s)
+        (enters_by o u (λ n. enters (tested a b n) u)) in
+        let Q : Bool → Type 0 = λ z. Left l ranges look starts (gone (cond z next to) s)
+        (enters_by (value_of ws u.local.env c) u (λ n. enters (tested a b n) u)) in
+        subst Q (sym (some_word n)) (subst P (sym has) (gone_left to a s u sa sees))
+
+    test_step : (i : Instruction) (to v : Varnode) (s : State M) (a : ℕ)
+        → read_varnode m l (kind_of l v.space) v s ≡ Ok a
+        → step_at m l f (Does i (op_of O.CBranch None (to ∷ v ∷ []))) s
+        ≡ gone (if a == 0 then Some (next_place i s.at.index) else branch_place i s.at.index to) s
+    test_step i to v s a read =
+        ap (λ r. apply m l (next_place i s.at.index)
+        (effect_at l f i (op_of O.CBranch None (to ∷ v ∷ [])) (with_first r (Ok [])) s) s) read
+
+    test_flag : (i : Instruction) (to c : Varnode) (a b : ℕ) (same : Bool) (s : State M) (x : Local) (u v : CodeState)
+        (k : ℕ)
+        → (a == b) ≡ same
+        → IsOperand l ranges c
+        → IsStart starts (branch_place i s.at.index to) a
+        → IsStart starts (Some (next_place i s.at.index)) b
+        → s.world.over ≡ None
+        → Sees l ranges look s x
+        → length ranges ≤ k
+        → (let out = cond same (directly (X.Jump a)) (tests (read_one l ranges k c) a b) in
+        AreWide ws k out.locals
+        → u.local ≡ run_all l ws returns out.loads x
+        → Leaving ws out.exit u v
+        → Left l ranges look starts (step_at m l f (Does i (op_of O.CBranch None (to ∷ c ∷ []))) s) v)
+    test_flag i to c a b true s x u v k flag h sa sb go sees free wide ran leaving =
+        let r = word_read (kind_of l c.space) c s in
+        let there = sees_at s x u.local ran sees in
+        let next = Some (next_place i s.at.index) in
+        let P : State M → Type 0 = λ t. Left l ranges look starts t v in
+        subst P (sym (test_step i to c s r.0 r.1))
+        (taken (X.Jump a) s (gone (if r.0 == 0 then next else branch_place i s.at.index to) s) u v go there leaving
+        (same_left a b r.0 (branch_place i s.at.index to) next s u flag sa sb there))
+    test_flag i to c a b false s x u v k flag h sa sb go sees free wide ran leaving =
+        let one = read_one l ranges k c in
+        let y : Local = run_all l ws returns one.loads x in
+        let r = reads_by m l f look ranges ws is set s go (kind_of l c.space) returns k c x h.0 h.1 free wide sees in
+        let has = r.has y.env r.sees.holds (λ j lt. refl) in
+        let there = sees_at s y u.local ran r.sees in
+        let next = Some (next_place i s.at.index) in
+        let value : value_of ws u.local.env one.word ≡ Some r.word =
+        ap (λ z. value_of ws z.env one.word) ran ∙ has.means.value in
+        let P : State M → Type 0 = λ t. Left l ranges look starts t v in
+        subst P (sym (test_step i to c s r.word has.read))
+        (taken (X.Test one.word a b) s (gone (if r.word == 0 then next else branch_place i s.at.index to) s) u v go
+        there leaving (value_left one.word a b r.word (branch_place i s.at.index to) next s u sa sb there value))
+
+    test_left : (i : Instruction) (to c : Varnode) (e : flow_exit.Exit) (s : State M) (x : Local) (u v : CodeState)
+        (k : ℕ)
+        → IsPlainOp l ranges O.CBranch None (to ∷ c ∷ [])
+        → TestsTo starts (branch_place i s.at.index to) (Some (next_place i s.at.index)) e
+        → s.world.over ≡ None
+        → Sees l ranges look s x
+        → length ranges ≤ k
+        → (let out = way_out l ranges k (Does i (op_of O.CBranch None (to ∷ c ∷ []))) e in
+        AreWide ws k out.locals
+        → u.local ≡ run_all l ws returns out.loads x
+        → Leaving ws out.exit u v
+        → Left l ranges look starts (step_at m l f (Does i (op_of O.CBranch None (to ∷ c ∷ []))) s) v)
+    test_left i to c F.Return s x u v k h to' go sees free wide ran leaving = absurd to'
+    test_left i to c (F.Jump n) s x u v k h to' go sees free wide ran leaving = absurd to'
+    test_left i to c (F.Test a b) s x u v k h to' go sees free wide ran leaving =
+        test_flag i to c a b (a == b) s x u v k refl h.1 to'.0 to'.1 go sees free wide ran leaving
+    test_left i to c (F.Switch t ns) s x u v k h to' go sees free wide ran leaving = absurd to'
+    test_left i to c F.Stop s x u v k h to' go sees free wide ran leaving = absurd to'
+
+    -- ---- returns
+
+    is_local : (k : SpaceKind) (v : Varnode) → IsLocalBy k ranges v → IsIn v ranges
+    is_local Constant v h = absurd h
+    is_local Ram v h = absurd h
+    is_local Register v h = h
+    is_local Unique v h = h
+
+    sees_end : (e : End) (s : State M) (u v : CodeState)
+        → v ≡ at u.block u.position (ends e u.local)
+        → Sees l ranges look s u.local
+        → Left l ranges look starts (in_world (ended e s.world) s) v
+    sees_end e s u v same sees =
+        let P : CodeState → Type 0 = λ w. Left l ranges look starts (in_world (ended e s.world) s) w in
+        subst P (sym same) (record {
+          sees = record {
+            world = ap (ended e) sees.world;
+            holds = sees.holds;
+            bytes = sees.bytes;
+            memory = sees.memory;
+          };
+          at = λ g. absurd (cc);
+        })
+
+    returns_by : (gives : Option Varnode) (s : State M) (u : CodeState)
+        → IsResult l ranges gives
+        → s.world.over ≡ None
+        → Sees l ranges look s u.local
+        → Left l ranges look starts (in_world (ended (Returned (result_of l s.local gives)) s.world) s)
+        (leave ws (X.Return (result_in ranges gives)) u)
+    returns_by None s u h go sees = sees_end (Returned None) s u _ refl sees
+    returns_by (Some v) s u h go sees =
+        let means = variable_has m l f look ranges ws is set s go v u.local.env h.0
+        (is_local (kind_of l v.space) v h.1) sees.holds in
+        sees_end (Returned (Some (local_word l v s.local))) s u _ (ap (λ o. returns_with o u) means.value) sees
+
+    return_step : (i : Instruction) (to : Varnode) (s : State M) (a : ℕ)
+        → read_varnode m l (kind_of l to.space) to s ≡ Ok a
+        → step_at m l f (Does i (op_of O.Return None (to ∷ []))) s
+        ≡ in_world (ended (Returned (result_of l s.local (proto_of l None).gives)) s.world) s
+    return_step i to s a read =
+        ap (λ r. apply m l (next_place i s.at.index)
+        (effect_at l f i (op_of O.Return None (to ∷ [])) (with_first r (Ok [])) s) s) read
+
+    return_left : (i : Instruction) (to : Varnode) (e : flow_exit.Exit) (s : State M) (x : Local) (u v : CodeState)
+        (k : ℕ) (here : Standing)
+        → IsPlainOp l ranges O.Return None (to ∷ [])
+        → e ≡ F.Return
+        → s.world.over ≡ None
+        → Sees l ranges look s x
+        → u.local ≡ run_all l ws returns (way_out l ranges k here e).loads x
+        → Leaving ws (way_out l ranges k here e).exit u v
+        → Left l ranges look starts (step_at m l f (Does i (op_of O.Return None (to ∷ []))) s) v
+    return_left i to e s x u v k here h is_return go sees ran leaving =
+        let R : flow_exit.Exit → Type 0 = λ e. u.local ≡ run_all l ws returns (way_out l ranges k here e).loads x in
+        let Q : flow_exit.Exit → Type 0 = λ e. Leaving ws (way_out l ranges k here e).exit u v in
+        let same : u.local ≡ x = subst R is_return ran in
+        let leave' : Leaving ws (X.Return (result l ranges)) u v = subst Q is_return leaving in
+        let there = sees_at s x u.local same sees in
+        let r = word_read (kind_of l to.space) to s in
+        let t : State M = in_world (ended (Returned (result_of l s.local (proto_of l None).gives)) s.world) s in
+        let P : State M → Type 0 = λ t. Left l ranges look starts t v in
+        subst P (sym (return_step i to s r.0 r.1))
+        (taken (X.Return (result l ranges)) s t u v go there leave'
+        (returns_by (proto_of l None).gives s u h.1 go there))
+
+    -- ---- all
+
+    leaves_op : (t : List TableAt) (i : Instruction) (code : Opcode) (out : Option Varnode) (vs : List Varnode)
+        (e : flow_exit.Exit) (s : State M) (x : Local) (u v : CodeState) (n k : ℕ)
+        → IsPlainOp l ranges code out vs
+        → LeavesBy t starts s.at (Does i (op_of code out vs)) (turn_of l code vs) e
+        → s.world.over ≡ None
+        → Sees l ranges look s x
+        → length ranges ≤ n
+        → length ranges ≤ k
+        → (let here = Does i (op_of code out vs) in
+        let way = way_out l ranges k here e in
+        AreWide ws n (made_in l ranges n here).locals
+        → AreWide ws k way.locals
+        → u.local ≡ run_all l ws returns ((made_in l ranges n here).statements ++ way.loads) x
+        → Leaving ws way.exit u v
+        → Left l ranges look starts (step_at m l f here s) v)
+    leaves_op t i (O.Unary op) out vs e s x u v n k h by go sees free later wide more ran leaving =
+        leaves_on (Does i (op_of (O.Unary op) out vs)) e s x u v n k h refl by go sees free wide ran leaving
+    leaves_op t i (O.Binary op) out vs e s x u v n k h by go sees free later wide more ran leaving =
+        leaves_on (Does i (op_of (O.Binary op) out vs)) e s x u v n k h refl by go sees free wide ran leaving
+    leaves_op t i (O.Divide op) out vs e s x u v n k h by go sees free later wide more ran leaving =
+        leaves_on (Does i (op_of (O.Divide op) out vs)) e s x u v n k h refl by go sees free wide ran leaving
+    leaves_op t i O.Load out vs e s x u v n k h by go sees free later wide more ran leaving =
+        leaves_on (Does i (op_of O.Load out vs)) e s x u v n k h refl by go sees free wide ran leaving
+    leaves_op t i O.Store out vs e s x u v n k h by go sees free later wide more ran leaving =
+        leaves_on (Does i (op_of O.Store out vs)) e s x u v n k h refl by go sees free wide ran leaving
+    leaves_op t i O.Branch None (to ∷ []) e s x u v n k h by go sees free later wide more ran leaving =
+        branch_left i to e s x u v (Does i (op_of O.Branch None (to ∷ []))) k by go sees ran leaving
+    leaves_op t i O.CBranch None (to ∷ c ∷ []) e s x u v n k h by go sees free later wide more ran leaving =
+        test_left i to c e s x u v k h by go sees later more ran leaving
+    leaves_op t i O.Return None (to ∷ []) e s x u v n k h by go sees free later wide more ran leaving =
+        return_left i to e s x u v k (Does i (op_of O.Return None (to ∷ []))) h by go sees ran leaving
+    leaves_op t i code out vs e s x u v n k h by go sees free later wide more ran leaving = absurd h
+
+    pub leaves : (t : List TableAt) (here : Standing) (e : flow_exit.Exit) (s : State M) (x : Local)
+        (u v : CodeState) (n k : ℕ)
+        → IsPlain l ranges here
+        → LeavesBy t starts s.at here (turn_in l here) e
+        → s.world.over ≡ None
+        → Sees l ranges look s x
+        → length ranges ≤ n
+        → length ranges ≤ k
+        → (let way = way_out l ranges k here e in
+        AreWide ws n (made_in l ranges n here).locals
+        → AreWide ws k way.locals
+        → u.local ≡ run_all l ws returns ((made_in l ranges n here).statements ++ way.loads) x
+        → Leaving ws way.exit u v
+        → Left l ranges look starts (step_at m l f here s) v)
+    leaves t Nothing e s x u v n k h by go sees free later wide more ran leaving = absurd h
+    leaves t (Passes i) e s x u v n k h by go sees free later wide more ran leaving =
+        leaves_on (Passes i) e s x u v n k h refl by go sees free wide ran leaving
+    leaves t (Does i op) e s x u v n k h by go sees free later wide more ran leaving =
+        leaves_op t i op.code op.out op.inputs e s x u v n k h by go sees free later wide more ran leaving

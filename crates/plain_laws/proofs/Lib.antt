@@ -1,0 +1,6 @@
+pub mod Agrees
+pub mod Entering
+pub mod Exits
+pub mod Follows
+pub mod Keeps
+pub mod Worked
