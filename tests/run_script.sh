@@ -15,6 +15,7 @@ ln -s -- "$copy/run" link
 
 cat > program <<'END'
 #!/usr/bin/env bash
+case ${*-} in "" | "--stage listing" | --stage=listing) ;; *) echo "pcode2c: bad arguments" >&2; exit 2 ;; esac
 text=$(cat 2>/dev/null) || { echo "pcode2c: read fault" >&2; exit 3; }
 case $text in *bad*) echo "pcode2c: line 1: syntax" >&2; exit 1 ;; esac
 echo "$text" || exit 4
@@ -28,7 +29,7 @@ case \$1 in
     for case in "\$3"/*; do
       if grep -q endless "\$case"; then echo "case=\${case##*/} run=no-answer proved=no" >&2; continue; fi
       echo "== \${case##*/}"
-      "$work/program" < "\$case"
+      "$work/program" "\${@:5}" < "\$case"
       echo "case=\${case##*/} run=ended status=\$? runners=1 proved=no" >&2
     done
     echo "cases=1 ended=1 proved=no" >&2 ;;
@@ -64,6 +65,10 @@ both_ways() {
   must 3 "" "pcode2c: read fault" .
   must 2 "" "bad arguments" --no-such-word
   must 2 "" "bad arguments" --prove good
+  must 0 good "$1" --stage listing good
+  must 0 other "$1" --stage=listing -- -x
+  must 2 "" "bad arguments" --stage none good
+  must 2 "" "bad arguments" --stage
   must 1 $'good\ngood' "^run: bad" good bad nothere -
   PATH=$with ./link good > /dev/full 2> err
   [ $? -eq 4 ] || { wrong=$((wrong + 1)); echo "run_script: a full output isn't status 4"; }

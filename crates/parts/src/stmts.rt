@@ -3,6 +3,7 @@
 ghost use Rattle.std.specs.Prelude.{◌≡◌, ℕ, true, IfOk};
 ghost use Rattle.parts.specs.Tables.{name_in};
 ghost use Rattle.cmeaning.specs.declared.tree.Stmt.TheVariants as S;
+ghost use Rattle.cmeaning.specs.Kinds.{kind_of, calls};
 ghost use Rattle.parts.specs.Exprs.{with_all as all_with, with_each as each_with};
 ghost use Rattle.parts.specs.Stmts.{action_of, is_simple, map_target, changed as changed_of, renamed as renamed_by};
 
@@ -110,26 +111,13 @@ fn call_ind<P: Places>(
     })
 }
 
-/// The simple statement with its target under another name, and what stands in the place of each variable that it reads.
-pub fn changed<P: Places>(alloc: Global, places: &P, s: &Stmt) -> Result<Stmt, Memory>
-    requires { is_simple (action_of s.now) ≡ true }
+/// A call, or a statement that takes what one has left.
+#[tactic(auto, unfolding(cmeaning::specs::Kinds::kind_of))]
+fn changed_call<P: Places>(alloc: Global, places: &P, s: &Stmt) -> Result<Stmt, Memory>
+    requires { calls (kind_of s.now) ≡ true }
     ensures { IfOk result (λ r. r ≡ changed_of (P.name places.now) (P.place places.now) s.now) }
 {
     match s {
-        Stmt::Assign { target, value } => Ok(Stmt::Assign {
-            target: places.target(*target),
-            value: with_all(alloc, places, value)?,
-        }),
-        Stmt::Load {
-            target,
-            space,
-            address,
-        } => load(alloc, places, *target, space, address),
-        Stmt::Store {
-            space,
-            address,
-            value,
-        } => store(alloc, places, space, address, value),
         Stmt::Call {
             target,
             callee,
@@ -157,12 +145,40 @@ pub fn changed<P: Places>(alloc: Global, places: &P, s: &Stmt) -> Result<Stmt, M
             target: places.target(*target),
             offset: *offset,
         }),
+        _ => unreachable!(),
+    }
+}
+
+/// The simple statement with its target under another name, and what stands in the place of each variable that it reads.
+#[tactic(auto, unfolding(cmeaning::specs::Kinds::kind_of))]
+pub fn changed<P: Places>(alloc: Global, places: &P, s: &Stmt) -> Result<Stmt, Memory>
+    requires { is_simple (action_of s.now) ≡ true }
+    ensures { IfOk result (λ r. r ≡ changed_of (P.name places.now) (P.place places.now) s.now) }
+{
+    match s {
+        Stmt::Assign { target, value } => Ok(Stmt::Assign {
+            target: places.target(*target),
+            value: with_all(alloc, places, value)?,
+        }),
+        Stmt::Load {
+            target,
+            space,
+            address,
+        } => load(alloc, places, *target, space, address),
+        Stmt::Store {
+            space,
+            address,
+            value,
+        } => store(alloc, places, space, address, value),
         Stmt::Divide {
             target,
             op,
             left,
             right,
         } => divide(alloc, places, *target, *op, left, right),
+        Stmt::Call { .. } | Stmt::CallInd { .. } | Stmt::Other { .. } | Stmt::Extra { .. } => {
+            changed_call(alloc, places, s)
+        }
         _ => unreachable!(),
     }
 }

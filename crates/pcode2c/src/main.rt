@@ -1,7 +1,7 @@
-//! The program: the words of the command line, the standard streams, and the top call.
+//! The program: the words of the command line, the standard streams, the file system, and the top call.
 #![tactic(auto)]
 
-use outside::{Fails, Files, MemShelf, StdSink, StdSource, words_of};
+use outside::{FileShelf, StdSink, StdSource, words_of};
 use pipeline::decompile_words;
 use std::io::ErrorKind;
 use std::process::ExitCode;
@@ -17,7 +17,7 @@ fn main(rt: HostRuntime) -> ExitCode {
         Err(_) => return ExitCode::from(BAD_ARGUMENTS),
     };
     let mut input = StdSource::new(rt.stdin());
-    let mut shelf = MemShelf::new(Files::new(rt.alloc()), Fails::new(rt.alloc()));
+    let mut shelf = FileShelf::new(&rt);
     let mut out = StdSink::new(rt.stdout());
     let mut err = StdSink::new(rt.stderr());
     let status = decompile_words(

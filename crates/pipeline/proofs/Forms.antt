@@ -28,10 +28,12 @@ use Rattle.refusals.specs.declared.refusal.Refusal.TheVariants as R
 use Rattle.refusals.proofs.Blocks.{few_starts}
 use Rattle.cmeaning.specs.declared.tree.CFunction.{CFunction}
 use Rattle.ctext.specs.Text.{text_of}
-use Rattle.blockcode.specs.Laid.{laid_out}
+use Rattle.naming.specs.declared.head.Head.{Head}
 use Rattle.blockcode.specs.declared.code.Code.{Code}
+use Rattle.layout.specs.Function.{head_of, laid_out}
 use Rattle.plaincode.specs.Form as code
-use Rattle.plaincode.specs.Lowered.{lowered, plain_function, result_width}
+use Rattle.plaincode.specs.Lowered.{lowered, result_width}
+use Rattle.plain_valid.specs.Function.{plain_function}
 use Rattle.plain_valid.proofs.Fit.{plain_fits}
 use Rattle.plain_valid.proofs.Long.{atoms_long}
 use Rattle.plain_valid.proofs.Signature.{plain_inputs}
@@ -67,20 +69,23 @@ module _
     (atoms : List Atom)
     (are : AreAccessed l atoms)
   where
-    form : code.IsPlainForm l [] blocks atoms
+    form : code.IsLowerable l [] blocks atoms
     form = plain_form l good built (formed_is l read good) blocks flow fine few atoms are
 
     are_atoms : AreAtoms l [] no_variables atoms
     are_atoms = accessed_are_atoms l atoms (uncut l read good built) are.listed
+
+    few_variables : length atoms ≤ 2 ^ 32
+    few_variables = omega (arith, are.few)
 
     -- All that is said of the function of the plain lowering.
     pub lowers : Lowers l (plain_function l blocks atoms)
     lowers = record {
       valid = plain_valid l [] blocks atoms form are.listed.in_order
           (atoms_long l [] atoms are_atoms (λ v acc. (accessed_inside l built (formed_is l read good) v acc).low))
-          (omega (arith, are.few)) read.named.func;
-      fits = plain_fits l [] blocks atoms form;
-      agrees = keeps.agrees l (frame_of l no_variables) [] blocks atoms form;
+          few_variables read.named.func;
+      fits = plain_fits l [] blocks atoms form few_variables;
+      agrees = keeps.agrees l (frame_of l no_variables) [] blocks atoms form few_variables;
       form = record {
         name = refl;
         gives = gives_is l read good;
@@ -94,17 +99,19 @@ lowers_to l f g is h = subst (λ (x : CFunction). Lowers l x) (sym is) h
 
 -- the laid out function, by its parts
 pub laid_is : (l : Listing) (blocks : List Block) (atoms : List Atom) (name : List ℕ) (gives : Option Width)
-    (k : Code) (f : CFunction)
-    → f ≡ laid_out name gives k
+    (h : Head) (k : Code) (f : CFunction)
+    → f ≡ laid_out h k
+    → h ≡ head_of name gives k.variables
     → name ≡ l.func.name
     → gives ≡ result_width l
     → k ≡ lowered l blocks atoms
     → f ≡ plain_function l blocks atoms
-laid_is l blocks atoms name gives k f is named given made =
+laid_is l blocks atoms name gives h k f is headed named given made =
     is
-    ∙ ap (λ (x : List ℕ). laid_out x gives k) named
-    ∙ ap (λ (x : Option Width). laid_out l.func.name x k) given
-    ∙ ap (λ (x : Code). laid_out l.func.name (result_width l) x) made
+    ∙ ap (λ (x : Head). laid_out x k) headed
+    ∙ ap (λ (x : List ℕ). laid_out (head_of x gives k.variables) k) named
+    ∙ ap (λ (x : Option Width). laid_out (head_of l.func.name x k.variables) k) given
+    ∙ ap (λ (x : Code). laid_out (head_of l.func.name (result_width l) x.variables) x) made
 
 -- ---- what may be printed
 

@@ -1,7 +1,7 @@
 -- The C function of the plain lowering agrees with the listing: the links of the chain, one behind another.
-use Rattle.std.proofs.Common.{◌≡◌, ◌≢◌, ℕ, Bool, true, false, List, length, Option, Some, None, refl, ap, subst}
+use Rattle.std.proofs.Common.{◌≡◌, ◌≢◌, ◌≤◌, ◌^◌, ℕ, Bool, true, false, List, length, Option, Some, None, refl, sym, ap, ◌∙◌, subst}
 use Rattle.std.specs.Prelude.{Result, Ok, Err}
-use Rattle.machine.specs.Trace.{End, Returned, ReadOnlyWrite, Outside, Undefined, Trace}
+use Rattle.machine.specs.Trace.{End, Returned, ReadOnlyWrite, Outside, BadTarget, Undefined, Trace}
 use Rattle.machine.specs.TwoWay.{TwoWay, NeverEnds, bare, bare_end, seen_as}
 use Rattle.machine.proofs.TwoWay.{two_way_trans, two_way_as, never_ends_along, events_along}
 use Rattle.pcode_model.specs.declared.atoms.Atom.{Atom}
@@ -16,12 +16,16 @@ use Rattle.pcode_model.specs.Step.{first_whole, layout as layout_of, proto_of, r
 use Rattle.pcode_laws.proofs.Ends.{Allows, ends_within}
 use Rattle.cmeaning.specs.Agree.{AgreesWith}
 use Rattle.cmeaning.specs.Step.{seen_c}
+use Rattle.naming.specs.Run.{returns_of}
 use Rattle.blockcode.specs.Run.{seen_code}
+use Rattle.blockcode.specs.CanLay.{has_switch}
 use Rattle.layout_laws.proofs.Keeps as layout
-use Rattle.plaincode.specs.Lowered.{lowered, plain_function, result_width, width_of_result}
-use Rattle.plaincode.specs.Form.{IsPlainForm}
-use Rattle.plaincode.proofs.Laying.{can_lay}
+use Rattle.plaincode.specs.Lowered.{lowered, result_width, width_of_result}
+use Rattle.plain_valid.specs.Function.{plain_head, plain_function}
+use Rattle.plaincode.specs.Form.{IsLowerable}
+use Rattle.plaincode.proofs.Laying.{can_lay, no_switch}
 use Rattle.plaincode.proofs.Keeps as lowering
+use Rattle.plain_valid.proofs.Valid.{plain_covered, plain_declares}
 
 -- ---- how the run of the listing may end
 
@@ -102,15 +106,24 @@ module _
     (t : List TableAt)
     (blocks : List Block)
     (atoms : List Atom)
-    (form : IsPlainForm l t blocks atoms)
+    (form : IsLowerable l t blocks atoms)
+    (few : length atoms ≤ 2 ^ 32)
   where
+    -- no run of this code meets a switch
+    never_switches : (e : Entry)
+        → has_switch (lowered l blocks atoms) ≡ true
+        → NeverEnds BadTarget (seen_code l (lowered l blocks atoms) e)
+    never_switches e has = let no : true ≡ false = sym has ∙ no_switch l blocks atoms in absurd (cc)
+
     -- the listing, the code of the plain lowering, its C function
     chain : (e : Entry) → IsEntry l e → TwoWay (seen_p l f e) (seen_c l (plain_function l blocks atoms) e)
     chain e entry =
         let k = lowered l blocks atoms in
+        let h = plain_head l k in
         two_way_trans (seen_p l f e) (seen_code l k e) (seen_c l (plain_function l blocks atoms) e)
         (lowering.keeps (whole (layout_of l f e)) (λ w. w.bytes) l f t blocks atoms e (first_whole e) form entry refl)
-        (layout.keeps l l.func.name (result_width l) k e (can_lay l t blocks atoms form))
+        (layout.function_keeps l h k e (can_lay (returns_of h) l t blocks atoms form) (plain_declares l blocks atoms)
+        (plain_covered l t blocks atoms form few) (never_switches e))
 
     -- For every entry the listing's run, with any frame, agrees with the run of the C function.
     pub agrees : AgreesWith l f (plain_function l blocks atoms)

@@ -1,16 +1,48 @@
--- What the words of the command line ask for. This project's own.
-use Rattle.std.specs.Prelude.{List, [], ◌∷◌, Option, Some, None}
-use Rattle.pipeline.specs.declared.request.Request as rust
-use Rattle.pipeline.specs.declared.request.Request.TheVariants as request
+-- What the words of the command line ask for, as far as it is built. This project's own.
+use Rattle.std.specs.Prelude.{ℕ, Bool, true, false, not, List, Option, Some, None, is_some}
+use Rattle.std.specs.Option.{option_map}
+use Rattle.words.specs.Request as words
+use Rattle.words.specs.Request.{text_in}
+use Rattle.words.specs.declared.request.Stage.{Stage}
+use Rattle.words.specs.declared.request.Stage.TheVariants as stage
+use Rattle.pipeline.specs.declared.request.Form.{Form}
+use Rattle.pipeline.specs.declared.request.Form.TheVariants.{C, Plain, Listing}
+use Rattle.pipeline.specs.declared.request.Wanted as rust
 
--- Decompile: the input is to be decompiled.
-pub data Asked : Type 0 where
-  Decompile : Asked
+-- the SSA text isn't built
+abbrev pub form_of : Stage → Option Form
+form_of stage.C = Some C
+form_of stage.Ssa = None
+form_of stage.Plain = Some Plain
+form_of stage.Listing = Some Listing
 
--- No word is taken: only the empty list asks for something.
-abbrev pub asked_by : {A : Type 0} → List A → Option Asked
-asked_by [] = Some Decompile
-asked_by (word ∷ words) = None
+-- a text of a file or, without one, of the standard input
+pub record Wanted : Type 0 where
+  pub form : Form
+  pub file : Option (List ℕ)
 
-abbrev pub asked_for : rust.Request → Asked
-asked_for request.Decompile = Decompile
+abbrev pub text_of : Option (List ℕ) → Option Form → Option Wanted
+text_of file form = option_map (λ f. record { form = f; file = file }) form
+
+-- the numbers of a generated listing aren't built
+abbrev pub built : Option words.Asked → Option Wanted
+built None = None
+built (Some (words.Prints stage file)) = text_of file (form_of stage)
+built (Some (words.Numbers n)) = None
+
+abbrev pub asked_by : List (List ℕ) → Option Wanted
+asked_by list = built (words.asked_by list)
+
+abbrev pub wanted_of : rust.Wanted → Wanted
+wanted_of w = record { form = w.form; file = text_in w.file }
+
+-- ---- what is read
+
+-- whether it is the standard input, or a file of the shelf
+abbrev pub reads_input : Option Wanted → Bool
+reads_input None = false
+reads_input (Some w) = not (is_some w.file)
+
+abbrev pub reads_shelf : Option Wanted → Bool
+reads_shelf None = false
+reads_shelf (Some w) = is_some w.file

@@ -1,23 +1,74 @@
 -- The table of statuses. This project's own.
-use Rattle.std.specs.Prelude.{◌≡◌, ℕ, List, codes, Option, Some}
+use Rattle.std.specs.Prelude.{◌≡◌, ℕ, List, codes, Option, Some, None, Result}
 use Rattle.outside.specs.Reading.{Gave}
-use Rattle.outside.specs.Told.{Held, Told}
+use Rattle.outside.specs.Told.{Folder, Held, Told}
+use Rattle.outside.specs.declared.reading.ReadEnd.{ReadEnd}
 use Rattle.pcode_model.specs.Limits.{max_input}
+use Rattle.statuses.specs.Fetched.{Fetched, in_folder}
 use Rattle.statuses.specs.Table as any
 use Rattle.statuses.specs.Told.{Quiet, whole}
 use Rattle.refusals.specs.Good.{Bytes}
 use Rattle.pipeline.specs.Cause.{Because}
-use Rattle.pipeline.specs.Request.{Asked}
+use Rattle.pipeline.specs.Request.{Wanted}
 
 -- what begins each line
 abbrev pub program : List ℕ
 program = codes "pcode2c"
 
--- What each status says, where the input was read so. And where the input's bytes are told and no fault is counted, which
--- is due: 2 where the words are refused; else 6 for more bytes than the limit, 0 for an input that is accepted, and 1 for
--- one that isn't.
-abbrev pub Table : Option Asked → Told → Told → Held → Held → Held → Held → ℕ → Type 0
-Table asked input input_new out out_new err err_new status =
-    any.Table program (Because asked (λ a came. Gave max_input input input_new came))
-    (λ (bytes : Bytes). Quiet input.faults input_new.faults × (input.left ≡ Some bytes))
-    (λ bytes. Because asked (λ a came. came ≡ whole max_input bytes)) out out_new err err_new status
+-- ---- what lies outside, as it tells of itself
+
+pub record Sources : Type 0 where
+  pub input : Told
+  pub shelf : Told
+
+pub record Outside : Type 0 where
+  pub sources : Sources
+  pub out : Held
+  pub err : Held
+
+abbrev pub sources : Told → Told → Sources
+sources input shelf = record { input = input; shelf = shelf }
+
+abbrev pub told : Told → Told → Held → Held → Outside
+told input shelf out err = record { sources = sources input shelf; out = out; err = err }
+
+-- ---- what comes of reading what is wanted, the standard input or a file of the shelf
+
+abbrev pub FileCame : Option (List ℕ) → Sources → Sources → Result Bytes ReadEnd → Type 0
+FileCame None before after came = Gave max_input before.input after.input came
+FileCame (Some name) before after came = Fetched max_input name before.shelf after.shelf came
+
+abbrev pub Came : Sources → Sources → Wanted → Result Bytes ReadEnd → Type 0
+Came before after w came = FileCame w.file before after came
+
+-- ---- what must come where no fault is counted and what is read is told
+
+-- the bytes of the standard input, and the files of the shelf
+pub record Facts : Type 0 where
+  pub bytes : Bytes
+  pub files : Folder
+
+abbrev pub FileTold : Option (List ℕ) → Sources → Sources → Facts → Type 0
+FileTold None before after facts =
+    Quiet before.input.faults after.input.faults × (before.input.left ≡ Some facts.bytes)
+FileTold (Some name) before after facts =
+    Quiet before.shelf.faults after.shelf.faults × (before.shelf.files ≡ Some facts.files)
+
+-- of refused words nothing has to be told
+abbrev pub IsTold : Option Wanted → Sources → Sources → Facts → Type 0
+IsTold None before after facts = Unit {0}
+IsTold (Some w) before after facts = FileTold w.file before after facts
+
+abbrev pub file_due : Facts → Option (List ℕ) → Result Bytes ReadEnd
+file_due facts None = whole max_input facts.bytes
+file_due facts (Some name) = in_folder max_input facts.files name
+
+-- ---- the table
+
+-- What each status says, where what is wanted was read so. And where that is told and no fault is counted, which is due:
+-- 2 where the words are refused; else 3 for a file that is missing, 6 for more bytes than the limit, 0 for an input that
+-- is accepted, and 1 for one that isn't.
+abbrev pub Table : Option Wanted → Outside → Outside → ℕ → Type 0
+Table asked before after status =
+    any.Table program (Because asked (Came before.sources after.sources)) (IsTold asked before.sources after.sources)
+    (λ facts. Because asked (λ w came. came ≡ file_due facts w.file)) before.out after.out before.err after.err status

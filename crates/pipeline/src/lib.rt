@@ -19,6 +19,6 @@ mod verdict;
 
 pub use outcome::work_out;
 pub use passes::{decompile, lower};
-pub use request::{Request, read_words};
+pub use request::{Form, Wanted, wanted};
 pub use top::decompile_words;
 pub use verdict::{Accepted, accept};

@@ -1,45 +1,115 @@
 // What a call comes to.
-ghost use Rattle.std.specs.Prelude.{◌≡◌, ◌≤◌, length, None};
-ghost use Rattle.outside.specs.Reading.{Gave};
+ghost use Rattle.std.specs.Prelude.{◌≡◌, ◌≤◌, true, false, is_some, IfErr, IfOk, length, map, string_bytes, Some};
 ghost use Rattle.pcode_model.specs.Limits.{max_input};
 ghost use Rattle.statuses.specs.Answer.{answer_of};
-ghost use Rattle.pipeline.specs.Cause.{Because, IsConverted, IsRefusal};
-ghost use Rattle.pipeline.specs.Request.{asked_by, Decompile};
+ghost use Rattle.listing_again.specs.Again.{IsCanonicalOf};
+ghost use Rattle.pipeline.specs.declared.request.Form.TheVariants as form;
+ghost use Rattle.pipeline.specs.Cause.{Because, CauseAt, IsConverted, IsRefusal, ShowsAt};
+ghost use Rattle.pipeline.specs.Request.{asked_by, reads_input, reads_shelf, wanted_of};
+ghost use Rattle.pipeline.specs.Table.{Came, FileCame, sources};
+ghost use Rattle.words.specs.Request.{text_in};
 
 use crate::message::refusal_line;
 use crate::passes::decompile;
-use crate::request::{Request, read_words};
-use outside::{ReadEnd, Source, Words, read_all};
-use pcode_model::MAX_INPUT;
+use crate::request::{Form, Wanted, wanted};
+use listing_again::canonical_text;
+use outside::{Bytes, ReadEnd, Shelf, Source, Words, read_all};
+use pcode_model::{MAX_INPUT, Text};
 use refusals::Refusal;
-use statuses::Outcome;
+use statuses::{Outcome, read_file};
 use std::alloc::Global;
 
-/// What the words and the input come to.
-pub fn work_out<S: Source>(alloc: Global, words: &Words, input: &mut S) -> Outcome
-    ensures because { Because (asked_by words.now) (λ a came. Gave max_input (S.told input.old) (S.told input.new) came) (answer_of result) }
-    ensures stays { asked_by words.now ≡ None → input.new ≡ input.old }
-    ensures later { (S.told input.old).faults ≤ (S.told input.new).faults }
-    ensures files { (S.told input.new).files ≡ (S.told input.old).files }
+/// What the words and the input or the file that they name come to.
+pub fn work_out<S: Source, H: Shelf>(
+    alloc: Global,
+    words: &Words,
+    input: &mut S,
+    shelf: &mut H,
+) -> Outcome
+    ensures because { Because (asked_by (map string_bytes words.now)) (Came (sources (S.told input.old) (H.told shelf.old)) (sources (S.told input.new) (H.told shelf.new))) (answer_of result) }
+    ensures input_stays { reads_input (asked_by (map string_bytes words.now)) ≡ false → input.new ≡ input.old }
+    ensures shelf_stays { reads_shelf (asked_by (map string_bytes words.now)) ≡ false → shelf.new ≡ shelf.old }
+    ensures input_later { (S.told input.old).faults ≤ (S.told input.new).faults }
+    ensures shelf_later { (H.told shelf.old).faults ≤ (H.told shelf.new).faults }
 {
-    match read_words(words) {
-        None => Outcome::BadArguments,
-        Some(Request::Decompile) => match read_all(alloc, input, MAX_INPUT as u32) {
-            Ok(bytes) => converted(alloc, bytes.as_slice()),
-            Err(ReadEnd::Fault) => Outcome::ReadFault,
-            Err(ReadEnd::TooLong) => Outcome::TooLong,
-            Err(ReadEnd::Memory) => Outcome::Memory,
-        },
+    match wanted(alloc, words) {
+        Ok(Some(wanted)) => read(alloc, &wanted, input, shelf),
+        Ok(None) => Outcome::BadArguments,
+        Err(_) => Outcome::Memory,
     }
 }
 
-fn converted(alloc: Global, bytes: &[u8]) -> Outcome
-    requires { length bytes.now ≤ max_input }
-    ensures { IsConverted Decompile bytes.now (answer_of result) }
+// What the input or the file that is wanted comes to.
+fn read<S: Source, H: Shelf>(
+    alloc: Global,
+    wanted: &Wanted<'_>,
+    input: &mut S,
+    shelf: &mut H,
+) -> Outcome
+    ensures because { Because (Some (wanted_of wanted.now)) (Came (sources (S.told input.old) (H.told shelf.old)) (sources (S.told input.new) (H.told shelf.new))) (answer_of result) }
+    ensures input_stays { reads_input (Some (wanted_of wanted.now)) ≡ false → input.new ≡ input.old }
+    ensures shelf_stays { reads_shelf (Some (wanted_of wanted.now)) ≡ false → shelf.new ≡ shelf.old }
+    ensures input_later { (S.told input.old).faults ≤ (S.told input.new).faults }
+    ensures shelf_later { (H.told shelf.old).faults ≤ (H.told shelf.new).faults }
 {
-    match decompile(alloc, bytes) {
+    match fetch(alloc, wanted.file, input, shelf) {
+        Ok(bytes) => converted(alloc, wanted.form, bytes.as_slice()),
+        Err(ReadEnd::Fault) => Outcome::ReadFault,
+        Err(ReadEnd::TooLong) => Outcome::TooLong,
+        Err(ReadEnd::Memory) => Outcome::Memory,
+    }
+}
+
+// The bytes of the file, or of the input where there is none.
+fn fetch<S: Source, H: Shelf>(
+    alloc: Global,
+    file: Option<&str>,
+    input: &mut S,
+    shelf: &mut H,
+) -> Result<Bytes, ReadEnd>
+    ensures came { FileCame (text_in file.entry) (sources (S.told input.old) (H.told shelf.old)) (sources (S.told input.new) (H.told shelf.new)) result }
+    ensures short { IfOk result (λ bytes. length bytes ≤ max_input) }
+    ensures input_stays { is_some file.entry ≡ true → input.new ≡ input.old }
+    ensures shelf_stays { is_some file.entry ≡ false → shelf.new ≡ shelf.old }
+    ensures input_later { (S.told input.old).faults ≤ (S.told input.new).faults }
+    ensures shelf_later { (H.told shelf.old).faults ≤ (H.told shelf.new).faults }
+{
+    match file {
+        None => read_all(alloc, input, MAX_INPUT as u32),
+        Some(name) => read_file(alloc, shelf, name, MAX_INPUT as u32),
+    }
+}
+
+fn converted(alloc: Global, form: Form, bytes: &[u8]) -> Outcome
+    requires { length bytes.now ≤ max_input }
+    ensures { IsConverted form bytes.now (answer_of result) }
+{
+    match text_of(alloc, form, bytes) {
         Ok(text) => Outcome::Shown(text),
         Err(refusal) => refused(alloc, &refusal),
+    }
+}
+
+fn text_of(alloc: Global, form: Form, bytes: &[u8]) -> Result<Text, Refusal>
+    requires { length bytes.now ≤ max_input }
+    ensures text { IfOk result (λ text. ShowsAt form bytes.now text.items) }
+    ensures refused { IfErr result (CauseAt form bytes.now) }
+{
+    match form {
+        Form::C => decompile(alloc, bytes),
+        Form::Plain => decompile(alloc, bytes),
+        Form::Listing => canonical(alloc, bytes),
+    }
+}
+
+fn canonical(alloc: Global, bytes: &[u8]) -> Result<Text, Refusal>
+    requires { length bytes.now ≤ max_input }
+    ensures text { IfOk result (λ text. IsCanonicalOf bytes.now text.items) }
+    ensures refused { IfErr result (CauseAt form.Listing bytes.now) }
+{
+    match canonical_text(alloc, bytes) {
+        Ok(text) => Ok(text),
+        Err(fault) => Err(Refusal::from(fault)),
     }
 }
 

@@ -21,7 +21,7 @@ use Rattle.stackvars.specs.Accessed as listed
 use Rattle.stackvars.specs.Accessed.{AreAccessed, AreEqualOrApart, AreSized}
 use Rattle.range_words.specs.Ranges.{IsInside, IsTable}
 use Rattle.range_words.specs.Ranges as table
-use Rattle.plaincode.specs.Form.{AreNarrow, IsLocalStorage, IsPlainForm}
+use Rattle.plaincode.specs.Form.{AreNarrow, IsLocalStorage, IsLowerable}
 use Rattle.plaincode.specs.Lowered.{range_at, range_of, ranges_of}
 use Rattle.plain_form.proofs.Formed.{IsFormed}
 use Rattle.plain_form.proofs.Accessed.{accessed_apart, accessed_inside}
@@ -246,7 +246,7 @@ pub plain_form : (l : Listing)
     → length blocks ≤ 2048
     → (atoms : List Atom)
     → AreAccessed l atoms
-    → IsPlainForm l [] blocks atoms
+    → IsLowerable l [] blocks atoms
 plain_form l good sup formed blocks flow fine few atoms are = record {
   flow = flow;
   few = omega arith;

@@ -35,7 +35,7 @@ use Rattle.layout.specs.Function.{params_of}
 use Rattle.plain_valid.specs.Function.{plain_function, plain_head}
 use Rattle.plain_valid.proofs.Valid.{plain_covered}
 use Rattle.plaincode.specs.Lowered.{assigns, block_of, body_of, lowered, op_statements, range_at, range_of, ranges_of, statements, statements_in, variable_for}
-use Rattle.plaincode.specs.Form.{AreNarrow, IsLocalStorage, IsPlainForm}
+use Rattle.plaincode.specs.Form.{AreNarrow, IsLocalStorage, IsLowerable}
 use Rattle.plaincode.proofs.Nodes.{nearest_is}
 
 module _ (l : Listing) (ws : ℕ → ℕ) where
@@ -168,7 +168,7 @@ in_spaces l (a ∷ atoms) narrow inside =
 
 -- The C function of the plain lowering fits the listing.
 pub plain_fits : (l : Listing) (t : List TableAt) (blocks : List flow_block.Block) (atoms : List Atom)
-    → IsPlainForm l t blocks atoms
+    → IsLowerable l t blocks atoms
     → length atoms ≤ 2 ^ 32
     → Fits l (plain_function l blocks atoms)
 plain_fits l t blocks atoms form few =

@@ -6,7 +6,7 @@ use Rattle.pcode_model.specs.declared.listing.Listing.{Listing}
 use Rattle.pcode_model.specs.declared.tables.TableAt.{TableAt}
 use Rattle.layout.specs.Function.{params_of}
 use Rattle.plaincode.specs.Lowered.{result_width, variable_for}
-use Rattle.plaincode.specs.Form.{AreNarrow, IsPlainForm}
+use Rattle.plaincode.specs.Form.{AreNarrow, IsLowerable}
 use Rattle.plaincode.proofs.Nodes.{nearest_is}
 use Rattle.plain_valid.specs.Function.{plain_function}
 use Rattle.plain_valid.specs.Inputs.{AreInputs}
@@ -30,5 +30,5 @@ inputs (a ∷ atoms) narrow = (
 
 -- Its parameters are one `in_` parameter for each atom, in their order.
 pub plain_inputs : (l : Listing) (t : List TableAt) (blocks : List flow_block.Block) (atoms : List Atom)
-    → IsPlainForm l t blocks atoms → AreInputs atoms (plain_function l blocks atoms).params
+    → IsLowerable l t blocks atoms → AreInputs atoms (plain_function l blocks atoms).params
 plain_inputs l t blocks atoms form = inputs atoms form.narrow

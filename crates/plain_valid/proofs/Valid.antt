@@ -28,7 +28,7 @@ use Rattle.layout_laws.proofs.Obeys.{laid_valid}
 use Rattle.layout.specs.Function.{params_of, locals_of}
 use Rattle.plaincode.specs.Nodes.{width_by}
 use Rattle.plaincode.specs.Lowered.{range_of, ranges_of, variable_of, variable_for, lowered}
-use Rattle.plaincode.specs.Form.{AreNarrow, IsPlainForm}
+use Rattle.plaincode.specs.Form.{AreNarrow, IsLowerable}
 use Rattle.plaincode.proofs.Nodes.{nearest_is}
 use Rattle.plaincode.proofs.Operands.{found}
 use Rattle.plaincode.proofs.Laying.{can_lay}
@@ -155,7 +155,7 @@ module _ (l : Listing) (blocks : List flow_block.Block) (atoms : List Atom) wher
 
   -- ---- the whole
 
-  module _ (t : List TableAt) (form : IsPlainForm l t blocks atoms) (few : length atoms ≤ 2 ^ 32) where
+  module _ (t : List TableAt) (form : IsLowerable l t blocks atoms) (few : length atoms ≤ 2 ^ 32) where
     suit : AllSuit head (lowered l blocks atoms).blocks
     suit = blocks_suit l (ranges_of l atoms) head t (starts_of blocks) (setting form.narrow few) blocks
         (λ q h. form.plain q ((form.flow.each q).0 h)) form.flow.run
@@ -166,7 +166,7 @@ module _ (l : Listing) (blocks : List flow_block.Block) (atoms : List Atom) wher
 
 -- The head of the plain lowering covers its body.
 pub plain_covered : (l : Listing) (t : List TableAt) (blocks : List flow_block.Block) (atoms : List Atom)
-    → IsPlainForm l t blocks atoms
+    → IsLowerable l t blocks atoms
     → length atoms ≤ 2 ^ 32
     → IsCovered (plain_head l (lowered l blocks atoms)) (laid_body (lowered l blocks atoms))
 plain_covered l t blocks atoms form few = covered l blocks atoms t form few
@@ -174,7 +174,7 @@ plain_covered l t blocks atoms form few = covered l blocks atoms t form few
 -- Where the atoms stand in their order, at numbers of 64 bits, are no more than numbers of 32 bits, and the name has the
 -- form of one.
 pub plain_valid : (l : Listing) (t : List TableAt) (blocks : List flow_block.Block) (atoms : List Atom)
-    → IsPlainForm l t blocks atoms
+    → IsLowerable l t blocks atoms
     → InOrder atoms
     → AreLong atoms
     → length atoms ≤ 2 ^ 32

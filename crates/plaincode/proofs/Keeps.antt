@@ -20,7 +20,7 @@ use Rattle.range_words.specs.Ranges.{Holds}
 use Rattle.cmeaning.specs.Step.{word_at}
 use Rattle.blockcode.specs.Run.{widths, width_in, first_word, first_local, start_code, seen_code}
 use Rattle.plaincode.specs.Lowered.{range_at, range_of, ranges_of, variable_for, lowered}
-use Rattle.plaincode.specs.Form.{IsNarrow, IsLocalStorage, AreNarrow, IsPlainForm}
+use Rattle.plaincode.specs.Form.{IsNarrow, IsLocalStorage, AreNarrow, IsLowerable}
 use Rattle.plaincode.proofs.Nodes.{nearest_is}
 use Rattle.plaincode.proofs.Exits.{Left}
 use Rattle.plaincode.proofs.Follows.{Given, follows}
@@ -89,7 +89,7 @@ starts_held l e atoms all n v is =
 -- ---- the run of the listing and that of the code
 
 given : (l : Listing) (t : List TableAt) (blocks : List flow_block.Block) (atoms : List Atom)
-    → IsPlainForm l t blocks atoms
+    → IsLowerable l t blocks atoms
     → Given l t blocks (ranges_of l atoms) (lowered l blocks atoms)
 given l t blocks atoms form = record {
   flow = form.flow;
@@ -101,7 +101,7 @@ given l t blocks atoms form = record {
 -- The run of the code shows what the run of the listing shows, over any memory that holds the entry's bytes.
 pub keeps : {M : Type 0} (m : Acts M) (look : M → Bytes) (l : Listing) (f : Frame) (t : List TableAt)
     (blocks : List flow_block.Block) (atoms : List Atom) (e : Entry) (w : M)
-    → IsPlainForm l t blocks atoms
+    → IsLowerable l t blocks atoms
     → IsEntry l e
     → look w ≡ e.bytes
     → TwoWay (seen (machine m l f) (start l e w)) (seen_code l (lowered l blocks atoms) e)

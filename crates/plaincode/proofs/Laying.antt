@@ -29,8 +29,8 @@ use Rattle.blockcode.specs.declared.code.Block.{Block}
 use Rattle.blockcode.specs.Numbers.{ExitBelow, ExitsBelow}
 use Rattle.blockcode.specs.CanLay.{AllSimple, AreSimple, CanLay, CanLeave, IsSimple, any_switch, has_switch, is_switch}
 use Rattle.plaincode.specs.Lowered.{ranges_of, variable_of, assigns, op_statements, statements_in, statements, body_of, condition_in, exit_by, exit_of, block_of, same_place, place_number, lowered}
-use Rattle.plaincode.specs.Form.{IsPlainOp, IsPlain, IsPlainForm}
-use Rattle.plaincode.proofs.Members.{behind}
+use Rattle.plaincode.specs.Form.{IsPlainOp, IsPlain, IsLowerable}
+use Rattle.instructions.proofs.Members.{behind}
 use Rattle.plaincode.proofs.Follows.{in_block}
 
 -- ---- statements are assignments
@@ -221,7 +221,7 @@ entry_found l t blocks flow = number_found (starts_of blocks) (first_place l)
 
 -- The code can be laid out, whichever callees are said to return: it calls none.
 pub can_lay : (returns : ℕ → Bool) (l : Listing) (t : List TableAt) (blocks : List flow_block.Block) (atoms : List Atom)
-    → IsPlainForm l t blocks atoms
+    → IsLowerable l t blocks atoms
     → CanLay returns (lowered l blocks atoms)
 can_lay returns l t blocks atoms form =
     let ranges = ranges_of l atoms in

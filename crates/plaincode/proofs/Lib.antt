@@ -1,4 +1,3 @@
-pub mod Members
 pub mod Last
 pub mod Nodes
 pub mod Operands

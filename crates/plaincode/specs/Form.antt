@@ -79,7 +79,7 @@ AreNarrow (a ∷ rest) = (IsLocalStorage a.storage × ((0 < a.size) × (a.size �
 
 -- What is asked of a listing with its blocks and its atoms: what stands at each reached place is of the form, and each
 -- range that is accessed is an atom, within its space and apart from the others.
-pub record IsPlainForm (l : Listing) (t : List TableAt) (blocks : List Block) (atoms : List Atom) : Type 0 where
+pub record IsLowerable (l : Listing) (t : List TableAt) (blocks : List Block) (atoms : List Atom) : Type 0 where
   pub flow : IsFlow l t blocks
   pub few : length blocks < 2 ^ 32 - 1
   pub table : IsTable l (ranges_of l atoms)

@@ -1,4 +1,3 @@
 pub mod Nodes
 pub mod Lowered
 pub mod Form
-pub mod Standing

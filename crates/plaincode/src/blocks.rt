@@ -1,31 +1,19 @@
 //! Blocks of code from blocks of the flow.
 
 ghost use Rattle.std.specs.Prelude.{◌≡◌, ◌<◌, ◌^◌, length, IfOk};
-ghost use Rattle.std.specs.Option.{option_copied};
 ghost use Rattle.pcode_model.specs.Flow.{AreApart};
 ghost use Rattle.pcode_model.specs.Places.{standing};
-ghost use Rattle.plaincode.specs.Standing.{op_of};
 ghost use Rattle.plaincode.specs.Lowered.{body_of, exit_of, exit_by, condition_in, result as result_for, block_of};
 
 use crate::expressions::constant;
 use crate::statements::add_op;
-use crate::varnodes::{operand, varnode_at};
+use crate::varnodes::operand;
 use bits_core::Memory;
 use blockcode::{Block, Exit};
 use cmeaning::{Body, Expr};
-use instructions::instruction;
-use pcode_model::{Block as FlowBlock, Exit as FlowExit, Listing, Op, Place, Varnode};
+use instructions::{op_at, result_range};
+use pcode_model::{Block as FlowBlock, Exit as FlowExit, Listing, Place, Varnode};
 use std::alloc::Global;
-
-fn op_at(listing: &Listing, place: Place) -> Option<&Op>
-    requires { AreApart listing.now.code }
-    ensures { option_copied result ≡ op_of (standing listing.now place) }
-{
-    match instruction(listing, u128::from(place.address)) {
-        Some(here) => here.ops.get(place.index as usize),
-        None => None,
-    }
-}
 
 fn body(
     alloc: Global,
@@ -51,11 +39,8 @@ fn result(listing: &Listing, ranges: &[Varnode]) -> Option<Expr>
     requires { length ranges.now < 2 ^ 32 }
     ensures { result ≡ result_for listing.now ranges.now }
 {
-    match listing.protos.get(listing.func.proto as usize) {
-        Some(proto) => match proto.gives {
-            Some(range) => Some(operand(listing, ranges, range)),
-            None => None,
-        },
+    match result_range(listing) {
+        Some(range) => Some(operand(listing, ranges, range)),
         None => None,
     }
 }
@@ -66,7 +51,7 @@ fn condition(listing: &Listing, ranges: &[Varnode], place: Place) -> Expr
     ensures { result ≡ condition_in listing.now ranges.now (standing listing.now place) }
 {
     match op_at(listing, place) {
-        Some(op) => operand(listing, ranges, varnode_at(op.inputs.as_slice(), 1)),
+        Some(op) => operand(listing, ranges, op.input(1)),
         None => constant(1, 0),
     }
 }

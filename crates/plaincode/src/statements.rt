@@ -5,7 +5,7 @@ ghost use Rattle.plaincode.specs.Lowered.{assigns, op_statements};
 
 use crate::expressions::{binary_node, unary_node};
 use crate::variables::variable;
-use crate::varnodes::{operand, size_out, varnode_at};
+use crate::varnodes::operand;
 use bits_core::Memory;
 use cmeaning::{Body, Expr, Stmt};
 use pcode_model::{Listing, Op, Opcode, Varnode};
@@ -38,16 +38,15 @@ pub(crate) fn add_op(
     requires { length ranges.now < 2 ^ 32 }
     ensures { OnOk result (body.new ≡ body.old ++ op_statements listing.now ranges.now op.now.code op.now.out op.now.inputs) }
 {
-    let inputs = op.inputs.as_slice();
     match &op.code {
         Opcode::Unary(code) => {
-            let input = operand(listing, ranges, varnode_at(inputs, 0));
-            let value = unary_node(alloc, *code, size_out(op.out), input)?;
+            let input = operand(listing, ranges, op.input(0));
+            let value = unary_node(alloc, *code, op.size_out(), input)?;
             assign(body, ranges, op.out, value)
         }
         Opcode::Binary(code) => {
-            let left = operand(listing, ranges, varnode_at(inputs, 0));
-            let right = operand(listing, ranges, varnode_at(inputs, 1));
+            let left = operand(listing, ranges, op.input(0));
+            let right = operand(listing, ranges, op.input(1));
             let value = binary_node(alloc, *code, left, right)?;
             assign(body, ranges, op.out, value)
         }

@@ -1,62 +1,24 @@
 -- Which status comes where no fault was counted and the shelf's files are told, and the whole table.
 use Rattle.std.proofs.Common.{◌≡◌, ◌∙◌, ◌⊎◌, ℕ, List, Option, Some, Result, Ok, Err, refl, sym, ap, subst, inl, inr, arith}
-use Rattle.outside.specs.Causes.{Rose}
-use Rattle.outside.specs.Files.{IsFile, IsMissing}
 use Rattle.outside.specs.Told.{Folder, Held, Told}
 use Rattle.outside.specs.declared.reading.ReadEnd.{ReadEnd}
-use Rattle.outside.specs.declared.reading.ReadEnd.TheVariants.{Fault, TooLong, Memory}
+use Rattle.outside.specs.declared.reading.ReadEnd.TheVariants.{Memory}
 use Rattle.pcode_model.specs.Limits.{max_input}
 use Rattle.statuses.specs.Answer as answer
 use Rattle.statuses.specs.Answer.{Answer}
 use Rattle.statuses.specs.Delivery.{Delivers}
+use Rattle.statuses.specs.Fetched.{in_folder}
 use Rattle.statuses.specs.Told.{Quiet}
 use Rattle.statuses.proofs.Cause.{settled}
 use Rattle.statuses.proofs.Table as any
-use Rattle.statuses.proofs.Told.{all_whole, no_fault, too_many}
-use Rattle.runwords.specs.Fetched.{AllFetched, Fetched, all_in, file_whole, in_folder, with_c_text, with_entry, with_listing}
+use Rattle.statuses.proofs.Fetched.{fetched_bytes, fetched_end}
+use Rattle.runwords.specs.Fetched.{AllFetched, all_in, with_c_text, with_entry, with_listing}
 use Rattle.runwords.specs.Request.{Asked}
 use Rattle.runwords.specs.Table.{Because, IsGathered, IsJudged, Table, program}
 use Rattle.runwords.specs.declared.files.Inputs.{Inputs}
 use Rattle.runwords.specs.declared.gathering.Gathered.{Gathered}
 
-ok_not : (bytes : (List ℕ)) (end : ReadEnd) → ◌≡◌ {A = Result (List ℕ) ReadEnd} (Ok bytes) (Err end) → ⊥
-ok_not bytes end h = cc
-
-long_not : ◌≡◌ {A = Result (List ℕ) ReadEnd} (Err TooLong) (Err Fault) → ⊥
-long_not h = cc
-
 module _ (files : Folder) where
-  named : (name : (List ℕ)) (told : Option Folder) (left : Option (List ℕ))
-      → told ≡ Some files
-      → IsFile name told left
-      → IsFile name (Some files) left
-  named name told left is file = subst (λ (f : Option Folder). IsFile name f left) is file
-
-  ok_is : (name : (List ℕ)) (old new : Told) (bytes : (List ℕ))
-      → old.files ≡ Some files
-      → Fetched name old new (Ok bytes)
-      → (in_folder files name ≡ Ok bytes) × (new.faults ≡ old.faults)
-  ok_is name old new bytes is (inl (mid, (selected, gave))) =
-      let file = named name old.files mid.left is selected.chosen in
-      (ap file_whole file.1 ∙ sym (all_whole max_input mid new file.0 file.2 bytes gave), gave.3 ∙ selected.kept)
-  ok_is name old new bytes is (inr (e, why)) = absurd (ok_not bytes Fault e)
-
-  err_is : (name : (List ℕ)) (old new : Told) (end : ReadEnd)
-      → old.files ≡ Some files
-      → Quiet old.faults new.faults
-      → Fetched name old new (Err end)
-      → (end ≡ Memory) ⊎ (in_folder files name ≡ Err end)
-  err_is name old new Memory is quiet fetched = inl refl
-  err_is name old new Fault is quiet (inl (mid, (selected, gave))) =
-      no_fault old.faults new.faults quiet (let P : ℕ → Type 0 = λ n. Rose n new.faults in subst P selected.kept gave.1)
-  err_is name old new Fault is quiet (inr (e, inl rose)) = no_fault old.faults new.faults quiet rose
-  err_is name old new Fault is quiet (inr (e, inr missing)) =
-      inr (ap file_whole (subst (λ (f : Option Folder). IsMissing name f) is missing))
-  err_is name old new TooLong is quiet (inl (mid, (selected, gave))) =
-      let file = named name old.files mid.left is selected.chosen in
-      inr (ap file_whole file.1 ∙ sym (too_many max_input mid new file.0 file.2 gave))
-  err_is name old new TooLong is quiet (inr (e, why)) = absurd (long_not e)
-
   on : (old new : Told) (n : ℕ) → new.faults ≡ old.faults → Quiet old.faults n → Quiet new.faults n
   on old new n same quiet = (omega (arith, same, quiet.0), quiet.1 ∙ sym same)
 
@@ -87,28 +49,28 @@ module _ (files : Folder) where
         → AllFetched a old new came
         → (came ≡ Err Memory) ⊎ (all_in files a ≡ came)
     all_is (Ok inputs) (first, (second, (p, (q, r)))) =
-        let one = ok_is a.listing old first inputs.listing told p.0 in
-        let two = ok_is a.c_text first second inputs.c_text (p.1 ∙ told) q.0 in
-        let three = ok_is a.entry second new inputs.entry (q.1 ∙ p.1 ∙ told) r.0 in
+        let one = fetched_bytes max_input files a.listing old first told inputs.listing p.0 in
+        let two = fetched_bytes max_input files a.c_text first second (p.1 ∙ told) inputs.c_text q.0 in
+        let three = fetched_bytes max_input files a.entry second new (q.1 ∙ p.1 ∙ told) inputs.entry r.0 in
         inr (ap (with_listing files a) one.0 ∙ ap (with_c_text files a inputs.listing) two.0
         ∙ ap (with_entry inputs.listing inputs.c_text) three.0)
     all_is (Err end) (inl f) = stopped a end (Err end) refl
-        (lift end (with_listing files a) (in_folder files a.listing) refl (err_is a.listing old new end told quiet f))
+        (lift end (with_listing files a) (in_folder max_input files a.listing) refl (fetched_end max_input files a.listing old new told end quiet f))
     all_is (Err end) (inr (inl (first, (bytes, (p, f))))) =
-        let one = ok_is a.listing old first bytes told p.0 in
-        let two = err_is a.c_text first new end (p.1 ∙ told) (on old first new.faults one.1 quiet) f in
+        let one = fetched_bytes max_input files a.listing old first told bytes p.0 in
+        let two = fetched_end max_input files a.c_text first new (p.1 ∙ told) end (on old first new.faults one.1 quiet) f in
         stopped a end (Err end) refl (or_on end (all_in files a)
-        (with_c_text files a bytes (in_folder files a.c_text)) (ap (with_listing files a) one.0)
-        (lift end (with_c_text files a bytes) (in_folder files a.c_text) refl two))
+        (with_c_text files a bytes (in_folder max_input files a.c_text)) (ap (with_listing files a) one.0)
+        (lift end (with_c_text files a bytes) (in_folder max_input files a.c_text) refl two))
     all_is (Err end) (inr (inr (first, (second, (bytes, (more, (p, (q, f)))))))) =
-        let one = ok_is a.listing old first bytes told p.0 in
-        let two = ok_is a.c_text first second more (p.1 ∙ told) q.0 in
-        let three = err_is a.entry second new end (q.1 ∙ p.1 ∙ told)
+        let one = fetched_bytes max_input files a.listing old first told bytes p.0 in
+        let two = fetched_bytes max_input files a.c_text first second (p.1 ∙ told) more q.0 in
+        let three = fetched_end max_input files a.entry second new (q.1 ∙ p.1 ∙ told) end
         (on first second new.faults two.1 (on old first new.faults one.1 quiet)) f in
-        let is : all_in files a ≡ with_entry bytes more (in_folder files a.entry) = ap (with_listing files a) one.0
+        let is : all_in files a ≡ with_entry bytes more (in_folder max_input files a.entry) = ap (with_listing files a) one.0
         ∙ ap (with_c_text files a bytes) two.0 in
-        stopped a end (Err end) refl (or_on end (all_in files a) (with_entry bytes more (in_folder files a.entry)) is
-        (lift end (with_entry bytes more) (in_folder files a.entry) refl three))
+        stopped a end (Err end) refl (or_on end (all_in files a) (with_entry bytes more (in_folder max_input files a.entry)) is
+        (lift end (with_entry bytes more) (in_folder max_input files a.entry) refl three))
 
 -- what isn't want of memory was read so
 sure : (came expected : Result Inputs ReadEnd)
@@ -145,6 +107,6 @@ module _ (Shows : Inputs → ℕ → List ℕ → Type 0) (Faults : Inputs → L
       (λ files known. settled (λ (a : Asked) (i : Inputs) text. Shows i a.steps text)
       (λ (a : Asked) (i : Inputs) line. Faults i line) asked (λ a came. AllFetched a shelf shelf_new came)
       (λ a came. came ≡ all_in files a)
-      (λ a came read not. sure came (all_in files a) not
+      (λ a is came read not. sure came (all_in files a) not
       (all_is files a shelf shelf_new known.1 known.0 came read)))
       o status why told

@@ -3,11 +3,12 @@
 ghost use Rattle.std.specs.Prelude.{◌≡◌, ◌≤◌, length, IfOk};
 ghost use Rattle.runwords.specs.Request.{plan_of};
 ghost use Rattle.pcode_model.specs.Limits.{max_input};
-ghost use Rattle.runwords.specs.Fetched.{AllFetched, AreShort, Fetched};
+ghost use Rattle.runwords.specs.Fetched.{AllFetched, AreShort};
 
 use crate::plan::Plan;
-use outside::{Bytes, ReadEnd, Shelf, read_all};
+use outside::{Bytes, ReadEnd, Shelf};
 use pcode_model::MAX_INPUT;
+use statuses::read_file;
 use std::alloc::Global;
 
 /// The bytes of the three files.
@@ -18,19 +19,6 @@ pub struct Inputs {
     pub entry: Bytes,
 }
 
-// The bytes of a file, if these are at most `MAX_INPUT`.
-fn fetch_one<H: Shelf>(alloc: Global, shelf: &mut H, name: &str) -> Result<Bytes, ReadEnd>
-    ensures fetched { Fetched name.now (H.told shelf.old) (H.told shelf.new) result }
-    ensures short { IfOk result (λ bytes. length bytes ≤ max_input) }
-    ensures files { (H.told shelf.new).files ≡ (H.told shelf.old).files }
-    ensures later { (H.told shelf.old).faults ≤ (H.told shelf.new).faults }
-{
-    match shelf.select(name) {
-        Ok(()) => read_all(alloc, shelf, MAX_INPUT as u32),
-        Err(_) => Err(ReadEnd::Fault),
-    }
-}
-
 /// The bytes of the three files, which are read one after the other. The first that fails or is too long ends it.
 pub fn fetch<H: Shelf>(alloc: Global, shelf: &mut H, plan: &Plan) -> Result<Inputs, ReadEnd>
     ensures fetched { AllFetched (plan_of plan.now) (H.told shelf.old) (H.told shelf.new) result }
@@ -38,15 +26,15 @@ pub fn fetch<H: Shelf>(alloc: Global, shelf: &mut H, plan: &Plan) -> Result<Inpu
     ensures files { (H.told shelf.new).files ≡ (H.told shelf.old).files }
     ensures later { (H.told shelf.old).faults ≤ (H.told shelf.new).faults }
 {
-    let listing = match fetch_one(alloc, shelf, plan.listing) {
+    let listing = match read_file(alloc, shelf, plan.listing, MAX_INPUT as u32) {
         Ok(bytes) => bytes,
         Err(end) => return Err(end),
     };
-    let c_text = match fetch_one(alloc, shelf, plan.c_text) {
+    let c_text = match read_file(alloc, shelf, plan.c_text, MAX_INPUT as u32) {
         Ok(bytes) => bytes,
         Err(end) => return Err(end),
     };
-    let entry = match fetch_one(alloc, shelf, plan.entry) {
+    let entry = match read_file(alloc, shelf, plan.entry, MAX_INPUT as u32) {
         Ok(bytes) => bytes,
         Err(end) => return Err(end),
     };

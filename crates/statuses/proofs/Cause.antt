@@ -43,13 +43,13 @@ module _ {A I : Type 0} (Shows Faults : A → I → List ℕ → Type 0) (asked 
 
   -- the same of what must come of reading, where this comes unless memory ran out
   pub settled : (must : A → Result I ReadEnd → Type 0)
-      → ((a : A) (came : Result I ReadEnd) → reads a came → (came ≡ Err Memory → ⊥) → must a came)
+      → ((a : A) → asked ≡ Some a → (came : Result I ReadEnd) → reads a came → (came ≡ Err Memory → ⊥) → must a came)
       → (o : Answer) → Because Shows Faults asked reads o → Because Shows Faults asked must o
   settled must comes (answer.Shown text) (a, (i, (is, (read, h)))) =
-      (a, (i, (is, (comes a (Ok i) read (ok_memory i), h))))
+      (a, (i, (is, (comes a is (Ok i) read (ok_memory i), h))))
   settled must comes (answer.Refused line) (a, (i, (is, (read, h)))) =
-      (a, (i, (is, (comes a (Ok i) read (ok_memory i), h))))
+      (a, (i, (is, (comes a is (Ok i) read (ok_memory i), h))))
   settled must comes answer.BadArguments h = h
-  settled must comes answer.ReadFault (a, (is, read)) = (a, (is, comes a (Err Fault) read fault_memory))
-  settled must comes answer.TooLong (a, (is, read)) = (a, (is, comes a (Err end.TooLong) read long_memory))
+  settled must comes answer.ReadFault (a, (is, read)) = (a, (is, comes a is (Err Fault) read fault_memory))
+  settled must comes answer.TooLong (a, (is, read)) = (a, (is, comes a is (Err end.TooLong) read long_memory))
   settled must comes answer.Memory h = tt

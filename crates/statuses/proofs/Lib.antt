@@ -3,3 +3,4 @@ pub mod Told
 pub mod Cause
 pub mod Rows
 pub mod Table
+pub mod Fetched

@@ -3,3 +3,4 @@ pub mod Delivery
 pub mod Cause
 pub mod Told
 pub mod Table
+pub mod Fetched

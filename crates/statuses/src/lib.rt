@@ -12,7 +12,9 @@
 #![tactic(auto)]
 
 mod delivery;
+mod fetching;
 mod outcome;
 
 pub use delivery::deliver;
+pub use fetching::read_file;
 pub use outcome::Outcome;

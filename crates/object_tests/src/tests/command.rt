@@ -1,7 +1,7 @@
 //! The top call over streams in memory that fail.
 
 use super::{failing, made};
-use outside::{Bytes, Fails, Files, MemShelf, MemSink, MemSource, Words};
+use outside::{Bytes, Fails, File, Files, MemShelf, MemSink, MemSource, Words};
 use pipeline::decompile_words;
 use std::alloc::Global;
 use std::process::Abort;
@@ -42,6 +42,17 @@ fn sink(rt: &impl Abort, alloc: Global, room: u32, write: u32) -> MemSink {
     made(rt, MemSink::new(alloc, room, failing(rt, alloc, write)))
 }
 
+/// A shelf with the one file `a.txt`.
+fn shelf(rt: &impl Abort, alloc: Global) -> MemShelf {
+    let mut files = Files::new(alloc);
+    let file = File {
+        name: made(rt, String::from_str(alloc, "a.txt")),
+        bytes: bytes(rt, alloc, LISTING),
+    };
+    made(rt, files.push(file));
+    MemShelf::new(files, Fails::new(alloc))
+}
+
 /// Runs the command.
 fn told(
     rt: &impl Abort,
@@ -51,7 +62,7 @@ fn told(
     mut out: MemSink,
     mut err: MemSink,
 ) -> Ended {
-    let mut shelf = MemShelf::new(Files::new(alloc), Fails::new(alloc));
+    let mut shelf = shelf(rt, alloc);
     let status = decompile_words(alloc, words, &mut input, &mut shelf, &mut out, &mut err);
     Ended {
         status,
@@ -111,7 +122,7 @@ struct Row {
     err: &'static [u8],
 }
 
-const ROWS: [Row; 6] = [
+const ROWS: [Row; 10] = [
     Row {
         words: &[],
         text: LISTING,
@@ -131,7 +142,43 @@ const ROWS: [Row; 6] = [
         err: b"",
     },
     Row {
-        words: &["x"],
+        words: &["a.txt"],
+        text: b"",
+        read: NEVER,
+        write: NEVER,
+        status: 0,
+        out: ITS_C,
+        err: b"",
+    },
+    Row {
+        words: &["b.txt"],
+        text: LISTING,
+        read: NEVER,
+        write: NEVER,
+        status: 3,
+        out: b"",
+        err: b"pcode2c: read fault\n",
+    },
+    Row {
+        words: &["--stage", "plain", "-"],
+        text: LISTING,
+        read: NEVER,
+        write: NEVER,
+        status: 0,
+        out: ITS_C,
+        err: b"",
+    },
+    Row {
+        words: &["a.txt", "--stage=listing"],
+        text: b"",
+        read: NEVER,
+        write: NEVER,
+        status: 0,
+        out: LISTING,
+        err: b"",
+    },
+    Row {
+        words: &["--stage", "x"],
         text: LISTING,
         read: NEVER,
         write: NEVER,
@@ -140,8 +187,8 @@ const ROWS: [Row; 6] = [
         err: b"pcode2c: bad arguments\n",
     },
     Row {
-        words: &["--stage", "c"],
-        text: b"",
+        words: &["--gen", "1", "a.txt"],
+        text: LISTING,
         read: NEVER,
         write: NEVER,
         status: 2,
@@ -182,7 +229,7 @@ fn a_write_that_fails_is_told(rt: HostRuntime) {
     let alloc = rt.alloc();
     for row in &ROWS {
         let words = words_of(&rt, alloc, row.words);
-        for room in 0..64u32 {
+        for room in [0, 1, 22, 23, 54, 55, 56, 200, 220, 230u32] {
             let input = MemSource::new(bytes(&rt, alloc, row.text), failing(&rt, alloc, row.read));
             let out = sink(&rt, alloc, room, row.write);
             let ended = told(

@@ -1,0 +1,5 @@
+pub mod Layers
+pub mod Same
+pub mod Seen
+pub mod Trees
+pub mod Widths

@@ -1,0 +1,60 @@
+-- What the function of a family of rules answers about a node that is seen: whether a rule of the family matches, in the
+-- order in which the family names its operands, and what it makes.
+use Rattle.std.specs.Prelude.{ℕ}
+use Rattle.cmeaning.specs.declared.tree.Expr.{Expr}
+use Rattle.rule_views.specs.declared.nodes.Single.{Single}
+use Rattle.rule_views.specs.declared.nodes.Pair.{Pair}
+use Rattle.rule_views.specs.declared.view.Made.{Made}
+use Rattle.rule_views.specs.Nodes.{single_node, pair_node}
+use Rattle.rule_views.specs.Sees.{Sight, IsSized}
+use Rattle.rule_views.specs.Makes.{Makes}
+
+-- the rules of a family, by the widths of the variables
+abbrev pub Family : Type 1
+Family = (ℕ → ℕ) → Expr → Expr → Type 0
+
+-- ---- a node with two operands
+
+-- whatever is seen at the operands agrees as the node asks
+abbrev pub AreSized : {S : Type 0} → Sight S → Pair → S → S → (ℕ → ℕ) → Type 0
+AreSized sees p a b ws = (x y : Expr) → sees ws a x → sees ws b y → IsSized ws (pair_node p x y)
+
+-- no rule matches
+abbrev pub NoneOfPair : {S : Type 0} → Family → Sight S → Pair → S → S → Type 0
+NoneOfPair family sees p a b = (ws : ℕ → ℕ) (x y r : Expr) → IsSized ws (pair_node p x y)
+    → family ws (pair_node p x y) r → sees ws a x → sees ws b y → ⊥
+
+-- a rule has a left side that is seen, and its right side is made
+pub record PairFires {S : Type 0} (family : Family) (sees : Sight S) (p : Pair) (a b : S) (made : Made S) (ws : ℕ → ℕ) : Type 0 where
+  pub x : Expr
+  pub y : Expr
+  pub r : Expr
+  pub left : sees ws a x
+  pub right : sees ws b y
+  pub rule : family ws (pair_node p x y) r
+  pub makes : Makes (sees ws) made r
+
+-- wherever the operands are seen as anything
+abbrev pub FiredOfPair : {S : Type 0} → Family → Sight S → Pair → S → S → Made S → Type 0
+FiredOfPair family sees p a b made = (ws : ℕ → ℕ) (x y : Expr) → AreSized sees p a b ws
+    → sees ws a x → sees ws b y → PairFires family sees p a b made ws
+
+-- ---- a node with one operand
+
+abbrev pub IsSizedOver : {S : Type 0} → Sight S → Single → S → (ℕ → ℕ) → Type 0
+IsSizedOver sees s a ws = (x : Expr) → sees ws a x → IsSized ws (single_node s x)
+
+abbrev pub NoneOfSingle : {S : Type 0} → Family → Sight S → Single → S → Type 0
+NoneOfSingle family sees s a = (ws : ℕ → ℕ) (x r : Expr) → IsSized ws (single_node s x)
+    → family ws (single_node s x) r → sees ws a x → ⊥
+
+pub record SingleFires {S : Type 0} (family : Family) (sees : Sight S) (s : Single) (a : S) (made : Made S) (ws : ℕ → ℕ) : Type 0 where
+  pub x : Expr
+  pub r : Expr
+  pub operand : sees ws a x
+  pub rule : family ws (single_node s x) r
+  pub makes : Makes (sees ws) made r
+
+abbrev pub FiredOfSingle : {S : Type 0} → Family → Sight S → Single → S → Made S → Type 0
+FiredOfSingle family sees s a made = (ws : ℕ → ℕ) (x : Expr) → IsSizedOver sees s a ws
+    → sees ws a x → SingleFires family sees s a made ws

@@ -1,0 +1,5 @@
+pub mod Fires
+pub mod InTree
+pub mod Makes
+pub mod Nodes
+pub mod Sees

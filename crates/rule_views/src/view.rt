@@ -1,0 +1,51 @@
+//! A place at which a node stands.
+
+ghost use Rattle.std.specs.Prelude.{◌≡◌, ℕ, IsTrue, MatchOption};
+ghost use Rattle.cmeaning.specs.declared.tree.Expr.{Expr};
+ghost use Rattle.rules.specs.Letters.{IsAtom};
+ghost use Rattle.rule_views.specs.Sees as S;
+
+use crate::nodes::{Pair, Single};
+use bits_core::{Width, Word};
+
+/// A place in a tree or in a graph.
+pub trait View: Copy {
+    /// By the widths of the variables: the expressions that may stand for what is at this place.
+    ghost Sees: { (ℕ → ℕ) → Self → Expr → Type 0 };
+
+    /// The word of a constant.
+    fn constant(self) -> Option<Word>
+        ensures { MatchOption result (S.NoConstant Sees self) (S.IsConstant Sees self) };
+
+    /// A node with one operand.
+    fn single(self) -> Option<(Single, Self)>
+        ensures { MatchOption result (S.NoSingle Sees self) (λ p. S.IsSingle Sees self p.0 p.1) };
+
+    /// A node with two operands.
+    fn pair(self) -> Option<(Pair, Self, Self)>
+        ensures { MatchOption result (S.NoPair Sees self) (λ p. S.IsPair Sees self p.0 p.1 p.2) };
+
+    /// The width of what is here.
+    fn width(self) -> Width
+        ensures { S.IsWideAt Sees self result.bytes };
+
+    /// Whether both are one variable or one constant.
+    fn same(self, other: Self) -> bool
+        ensures yes { IsTrue result → S.IsSame Sees self other }
+        ensures no { (ws : ℕ → ℕ) (e : Expr) → IsAtom e → Sees ws self e → Sees ws other e → IsTrue result };
+}
+
+/// An operand of what a rule makes.
+#[derive(Clone, Copy)]
+pub enum Arg<P> {
+    Place(P),
+    Const(Word),
+}
+
+/// What a rule makes.
+#[derive(Clone, Copy)]
+pub enum Made<P> {
+    Is(Arg<P>),
+    Single(Single, Arg<P>),
+    Pair(Pair, Arg<P>, Arg<P>),
+}
