@@ -1,7 +1,8 @@
 -- The state of a code's run beside that of the listing's.
-use Rattle.std.proofs.Common.{◌≡◌, ℕ, zero, suc, ◌+◌, ◌≤◌, Bool, true, false, List, [], ◌∷◌, ◌++◌, length, Some, None, refl, sym, ap, ◌∙◌, subst, arith, ⊎_elim}
+use Rattle.std.proofs.Common.{◌≡◌, ℕ, suc, ◌+◌, ◌≤◌, Bool, true, false, List, [], ◌∷◌, ◌++◌, length, Some, None, refl, sym, ap, ◌∙◌, subst, arith, ⊎_elim}
 use Rattle.std.specs.Prelude.{slice_get, cond}
 use Rattle.std.proofs.lemmas.Bool.Decides.{nat_tests}
+use Rattle.std.proofs.lemmas.Option.{slice_get_past}
 use Rattle.pcode_model.specs.declared.listing.Varnode.{Varnode}
 use Rattle.pcode_model.specs.declared.listing.Place.{Place}
 use Rattle.pcode_model.specs.declared.listing.Listing.{Listing}
@@ -83,11 +84,6 @@ pub found : (ranges : List Varnode) (v : Varnode) → IsIn v ranges → slice_ge
 found [] v h = absurd h
 found (a ∷ rest) v h = found_at (same_range a v) a v rest refl (found rest v) h
 
-past_end : {A : Type 0} (xs : List A) (n : ℕ) → length xs ≤ n → slice_get xs n ≡ None
-past_end [] n h = refl
-past_end (x ∷ xs) zero h = absurd (omega (arith, h))
-past_end (x ∷ xs) (suc n) h = past_end xs n (omega (arith, h))
-
 -- a local is assigned
 pub sees_local : {M : Type 0} (l : Listing) (ranges : List Varnode) (look : M → Bytes) (s : State M) (x : Local)
     (v n : ℕ)
@@ -96,7 +92,7 @@ pub sees_local : {M : Type 0} (l : Listing) (ranges : List Varnode) (look : M �
     → Sees l ranges look s (assigned v n x)
 sees_local l ranges look s x v n behind sees = record {
   world = sees.world;
-  holds = holds_other l ranges v (past_end ranges v behind) (Some n) s.local x.env sees.holds;
+  holds = holds_other l ranges v (slice_get_past ranges v behind) (Some n) s.local x.env sees.holds;
   bytes = sees.bytes;
   memory = sees.memory;
 }

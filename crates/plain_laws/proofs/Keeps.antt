@@ -4,6 +4,7 @@ use Rattle.std.specs.Prelude.{slice_get}
 use Rattle.std.specs.Option.{option_map}
 use Rattle.std.proofs.Math.Seq.{drop-append_seam}
 use Rattle.std.proofs.lemmas.Option.{slice_get-map}
+use Rattle.std.proofs.lemmas.List.{length-map}
 use Rattle.machine.specs.TwoWay.{TwoWay}
 use Rattle.machine.specs.Machine.{seen}
 use Rattle.pcode_model.specs.declared.listing.Varnode.{Varnode}
@@ -85,15 +86,11 @@ wide_from vs [] n e = tt
 wide_from vs (y ∷ ys) n e =
     (ap width_in (get_of_drop vs n y ys e), wide_from vs ys (suc n) (rest_of_drop vs n y ys e))
 
-map_long : {A B : Type 0} (f : A → B) (xs : List A) → length (map f xs) ≡ length xs
-map_long f [] = refl
-map_long f (x ∷ xs) = ap suc (map_long f xs)
-
 locals_wide : (atoms : List Atom) (locals : List Variable)
     → AreWide (widths (map variable_for atoms ++ locals)) (length atoms) locals
 locals_wide atoms locals =
     wide_from (map variable_for atoms ++ locals) locals (length atoms)
-    (ap (λ n. drop n (map variable_for atoms ++ locals)) (sym (map_long variable_for atoms))
+    (ap (λ n. drop n (map variable_for atoms ++ locals)) (sym (length-map atoms variable_for))
     ∙ drop-append_seam (map variable_for atoms) locals)
 
 -- ---- the start
@@ -128,7 +125,7 @@ given l t blocks atoms form =
       setting = record { table = form.table; widths = widths_are l atoms locals form.narrow };
       plain = form.plain;
       blocks_are = refl;
-      free = omega (arith, map_long (range_of l) atoms);
+      free = omega (arith, length-map atoms (range_of l));
       wide = locals_wide atoms locals;
     }
 
