@@ -1,6 +1,5 @@
 -- What an input comes to, and the table of a call.
-use Rattle.std.proofs.Common.{◌≡◌, ℕ, List, Option, Some, None, Result, Ok, Err, subst, sym}
-use Rattle.std.specs.Prelude.{IfOk, OnOk}
+use Rattle.std.proofs.Common.{◌≡◌, ℕ, List, Option, Some, None, Result, Err, subst, sym}
 use Rattle.outside.specs.declared.reading.ReadEnd.{ReadEnd}
 use Rattle.outside.specs.declared.reading.ReadEnd.TheVariants.{Memory}
 use Rattle.pcode_model.specs.Limits.{max_input}
@@ -20,7 +19,7 @@ use Rattle.refusals.specs.Refused.{of_text}
 use Rattle.refusals.specs.declared.refusal.Refusal.{Refusal}
 use Rattle.refusals.specs.declared.refusal.Refusal.TheVariants as R
 use Rattle.pipeline.specs.declared.request.Form.{Form}
-use Rattle.pipeline.specs.declared.request.Form.TheVariants.{C, Listing}
+use Rattle.pipeline.specs.declared.request.Form.TheVariants.{C, Listing, Plain}
 use Rattle.pipeline.specs.Cause.{Because, CauseAt, Faults, IsConverted, IsRefusal, Shows}
 use Rattle.pipeline.specs.Request.{Wanted}
 use Rattle.pipeline.specs.Table.{Came, Facts, FileCame, FileTold, IsTold, Outside, Sources, Table, file_due, program}
@@ -37,6 +36,14 @@ accepted_never bytes (R.Op fault) cause = (cause, (λ fine. never_both bytes (R.
 accepted_never bytes R.NotBuilt cause = (cause, (λ fine. never_both bytes R.NotBuilt fine cause))
 accepted_never bytes (R.Flow fault) cause = (cause, (λ fine. never_both bytes (R.Flow fault) fine cause))
 accepted_never bytes (R.Atoms fault) cause = (cause, (λ fine. never_both bytes (R.Atoms fault) fine cause))
+
+pub plain_never : (bytes : Bytes) (fault : Refusal) → CauseAt C bytes fault → CauseAt Plain bytes fault
+plain_never bytes R.Memory cause = cause
+plain_never bytes (R.Text fault) cause = cause
+plain_never bytes (R.Op fault) cause = cause
+plain_never bytes R.NotBuilt cause = cause
+plain_never bytes (R.Flow fault) cause = cause
+plain_never bytes (R.Atoms fault) cause = cause
 
 -- a fault of the text, where the canonical text is wanted
 pub text_refused : (bytes : Bytes) (fault : TextFault)
@@ -86,16 +93,6 @@ refused_so form bytes (R.Atoms fault) (answer.Shown text) cause is = absurd is
 refused_so form bytes (R.Atoms fault) answer.BadArguments cause is = absurd is
 refused_so form bytes (R.Atoms fault) answer.ReadFault cause is = absurd is
 refused_so form bytes (R.Atoms fault) answer.TooLong cause is = absurd is
-
--- ---- what is shown
-
--- what holds of a text that came
-pub both_so : {T E : Type 0} (r : Result T E) (P : Type 0) (Q : T → Type 0)
-    → OnOk r P
-    → IfOk r Q
-    → IfOk r (λ text. P × Q text)
-both_so (Ok text) P Q p q = (p, q)
-both_so (Err e) P Q p q = tt
 
 -- ---- the table
 
