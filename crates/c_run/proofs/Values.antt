@@ -13,7 +13,7 @@ use Rattle.machine.specs.Trace.{Undefined}
 use Rattle.cvalue.specs.Held.{number_in}
 use Rattle.run_world.specs.Meaning.{value_of as number_of}
 use Rattle.c_run.specs.States.{all_of, before, numbers_in}
-use Rattle.run_world.proofs.Effects.{rest_at}
+use Rattle.pcode_model.proofs.Members.{rest_at}
 
 first_true : (a b : Bool) → a && b ≡ true → a ≡ true
 first_true true b h = refl

@@ -13,7 +13,7 @@ use Rattle.cmeaning.proofs.Flat.{branch_of, branch_is, piece_of_if, piece_of_if_
 use Rattle.flatcode.specs.declared.draft.Draft.{Draft}
 use Rattle.flatcode.specs.Steps.{flat_steps, place_in, arm_of, arms_of}
 use Rattle.flatcode.specs.Adds.{Adds, pair_of, Puts, PutsAll, PutsArm, PutsArms}
-use Rattle.run_world.proofs.Effects.{rest_at}
+use Rattle.pcode_model.proofs.Members.{rest_at}
 
 abbrev Labels : Type 0
 Labels = List (ℕ × ℕ)

@@ -3,7 +3,7 @@ use Rattle.std.proofs.Common.{◌≡◌, ℕ, ◌+◌, ◌<◌, Bool, List, ◌+
 use Rattle.cmeaning.specs.declared.tree.Arm.{Arm}
 use Rattle.cmeaning.specs.Flat.{arm_cases, arm_span, arm_spans, cases_at}
 use Rattle.flatcode.specs.declared.step.Case.{Case}
-use Rattle.run_world.proofs.Effects.{rest_at}
+use Rattle.pcode_model.proofs.Members.{rest_at}
 use Rattle.flatcode.specs.Steps.{arm_of, arms_of, case_of}
 
 pub sum_turn : (returns : ℕ → Bool) (arms : List Arm) (i : ℕ) (x : Arm) (sum span n whole : ℕ)

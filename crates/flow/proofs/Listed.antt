@@ -12,7 +12,7 @@ use Rattle.pcode_model.specs.Flow.{IsIn, Rising, AreApart, stands, stands_by}
 use Rattle.flow.specs.Slots.{slots_of, slots, indices, ArePlaces}
 use Rattle.flow.proofs.Order.{rising_both}
 use Rattle.instructions.proofs.Apart.{apart_rest, apart_head, found_in, long, number_in, found_at}
-use Rattle.instructions.proofs.Members.{behind, in_either, in_front, same_place}
+use Rattle.pcode_model.proofs.Members.{behind, in_either, in_front, same_place}
 
 -- ---- the places of one instruction
 

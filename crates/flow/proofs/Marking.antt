@@ -16,7 +16,7 @@ use Rattle.flow.specs.Slots.{at, Marked, ArePlaces, MarksReached, MarksStarts, p
 use Rattle.flow.specs.Edges.{AllMean, targets_of}
 use Rattle.flow.specs.Marks.{Marks, MarksBranch}
 use Rattle.flow.proofs.Order.{at_before, in_at, rising_both}
-use Rattle.instructions.proofs.Members.{behind, in_either, in_front}
+use Rattle.pcode_model.proofs.Members.{behind, in_either, in_front}
 use Rattle.flow.proofs.Rounds.{marked_back, marked_set}
 use Rattle.flow.proofs.Reaching.{at_once, targets_lead, leads_targets, lead_stands, none_marked}
 

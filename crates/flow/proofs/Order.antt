@@ -7,7 +7,7 @@ use Rattle.pcode_model.specs.declared.listing.Place.{Place}
 use Rattle.pcode_model.specs.Places.{place}
 use Rattle.pcode_model.specs.Flow.{IsIn, IsBefore, Rising}
 use Rattle.flow.specs.Slots.{at, IsLowerBound}
-use Rattle.instructions.proofs.Members.{in_either, same_place}
+use Rattle.pcode_model.proofs.Members.{in_either, same_place}
 
 -- the order of places is transitive
 pub before_trans : (p q r : Place) → IsBefore p q → IsBefore q r → IsBefore p r

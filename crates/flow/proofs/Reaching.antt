@@ -25,7 +25,7 @@ use Rattle.flow.specs.Edges.{Means, AllMean, targets_of, edge_targets, Inside, E
 use Rattle.flow.specs.Steps.{Noted, Expanded}
 use Rattle.flow.proofs.Order.{at_before, not_before, in_at, at_in}
 use Rattle.flow.proofs.Adjacent.{lead_same}
-use Rattle.instructions.proofs.Members.{behind, in_either, in_front}
+use Rattle.pcode_model.proofs.Members.{behind, in_either, in_front}
 use Rattle.flow.proofs.Rounds.{marked_back}
 
 -- ---- places that edges lead to stand

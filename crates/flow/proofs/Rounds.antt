@@ -5,7 +5,7 @@ use Rattle.std.proofs.lemmas.List.{get_or-set_same, get_or-set_other}
 use Rattle.std.proofs.lemmas.Bool.{cases_eq}
 use Rattle.flow.specs.Slots.{Marked}
 use Rattle.flow.specs.Steps.{unmarked, Noted, Expanded}
-use Rattle.instructions.proofs.Members.{behind, in_either, in_front}
+use Rattle.pcode_model.proofs.Members.{behind, in_either, in_front}
 
 pub unmarked_set : (seen : List Bool) (m : ℕ)
     → m < length seen

@@ -6,7 +6,7 @@ use Rattle.std.proofs.lemmas.Option.{slice_get_within}
 use Rattle.pcode_model.specs.declared.listing.Instruction.{Instruction}
 use Rattle.pcode_model.specs.Places.{instruction_in}
 use Rattle.pcode_model.specs.Flow.{IsIn, AreApart}
-use Rattle.instructions.proofs.Members.{member_at}
+use Rattle.pcode_model.proofs.Members.{member_at}
 
 -- the instructions behind the first stay apart
 pub apart_rest : (i : Instruction) (code : List Instruction) → AreApart (i ∷ code) → AreApart code

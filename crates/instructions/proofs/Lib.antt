@@ -1,3 +1,2 @@
 pub mod Apart
 pub mod Indices
-pub mod Members

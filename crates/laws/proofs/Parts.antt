@@ -13,7 +13,8 @@ field n j k =
     let e : 8 * (j + k) ≡ 8 * j + 8 * k = omega arith in
     rw (limit_is (j + k), limit_is j, limit_is k) (ap (λ b. n % 2 ^ b / 2 ^ (8 * k)) e ∙ field_of n (8 * j) (8 * k))
 
-narrower : (n j k : ℕ) → n % limit (j + k) % limit k ≡ n % limit k
+-- a narrower word of a word's low bytes
+pub narrower : (n j k : ℕ) → n % limit (j + k) % limit k ≡ n % limit k
 narrower n j k =
     let e : 8 * (j + k) ≡ 8 * j + 8 * k = omega arith in
     rw (limit_is (j + k), limit_is k) (ap (λ b. n % 2 ^ b % 2 ^ (8 * k)) e ∙ mod-mod-pow n (8 * j) (8 * k))

@@ -62,7 +62,8 @@ binary_word B.BoolAnd u v w a b some s p q = and_word w a b (subst (λ n. a < li
 binary_word B.BoolOr u v w a b some s p q = or_word w a b (subst (λ n. a < limit n) (s.0 ∙ sym s.2) p) (subst (λ n. b < limit n) (s.1 ∙ sym s.2) q)
 binary_word B.BoolXor u v w a b some s p q = xor_word w a b (subst (λ n. a < limit n) (s.0 ∙ sym s.2) p) (subst (λ n. b < limit n) (s.1 ∙ sym s.2) q)
 
-divided_word : (op : Divide) (w a b : ℕ) → a < limit w → quotient_or_rest op w a b < limit w
+-- a quotient or a rest is a word
+pub divided_word : (op : Divide) (w a b : ℕ) → a < limit w → quotient_or_rest op w a b < limit w
 unfolding div rem sdiv srem
 divided_word D.Quotient w a b p = omega (arith, div-le_self a b)
 divided_word D.SignedQuotient w a b p = word_below w _

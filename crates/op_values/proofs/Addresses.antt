@@ -1,13 +1,12 @@
 -- The value of an address is the byte address that the offset counts, in its space.
 use Rattle.std.proofs.Common.{◌≡◌, ℕ, ◌+◌, ◌-◌, ◌*◌, ◌%◌, ◌<◌, ◌≤◌, Bool, true, false, Option, refl, sym, ap, ◌∙◌, arith}
 use Rattle.std.specs.Prelude.{◌==◌, cond, nat_lt}
-use Rattle.std.proofs.Math.Nat.{mod-lt, mod-eq_of_lt, mul-add-mod_self_right}
 use Rattle.std.proofs.lemmas.Bool.Decides.{nat_tests}
 use Rattle.bits_core.specs.declared.ops.Unary.TheVariants as U
 use Rattle.bits_core.specs.declared.ops.Binary.TheVariants as B
 use Rattle.bits_core.specs.Value.{limit, mul, zext, binary_value, unary_value}
-use Rattle.bits_core.proofs.Limits.{limit_pos, limit_least}
-use Rattle.laws.proofs.Parts.{both}
+use Rattle.bits_core.proofs.Limits.{limit_least}
+use Rattle.laws.proofs.Parts.{narrower}
 use Rattle.cmeaning.specs.declared.tree.ArithmeticOp.TheVariants.{Mul}
 use Rattle.cmeaning.specs.declared.tree.ExtendOp.TheVariants.{Zext}
 use Rattle.cmeaning.specs.declared.tree.Expr.{Expr}
@@ -22,11 +21,6 @@ pub record Addresses (ws : ℕ → ℕ) (env : ℕ → Option ℕ) (s : ℕ) (e 
   pub word : ℕ
   pub means : Means ws env e width word
   pub is : word % limit s ≡ at % limit s
-
--- a narrower word of a word's low bytes
-narrower : (n j k : ℕ) → n % limit (j + k) % limit k ≡ n % limit k
-narrower n j k = ap (λ m. m % limit k) (both n j k) ∙ mul-add-mod_self_right _ (limit k) (n % limit k)
-    ∙ mod-eq_of_lt (mod-lt n (limit_pos k))
 
 low_of : (n s w : ℕ) → s ≤ w → n % limit w % limit s ≡ n % limit s
 low_of n s w h =

@@ -10,7 +10,7 @@ use Rattle.run_world.specs.declared.trace.End.{End}
 use Rattle.run_world.specs.declared.log.Log.{Log}
 use Rattle.run_world.specs.Meaning.{written, hidden, answer_of, end_of}
 use Rattle.run_world.specs.Log.{world_of}
-use Rattle.run_world.proofs.Effects.{rest_at}
+use Rattle.pcode_model.proofs.Members.{rest_at}
 use Rattle.pcode_memory.specs.Effects.{concealed, end_by, first_end, first_refused, poked}
 
 -- ---- stores

@@ -59,10 +59,11 @@ HaveWords spaces = (n : ℕ) (s : Space) → slice_get spaces n ≡ Some s → (
 
 -- ---- ranges
 
--- at least one byte, all in the register space
+-- at least one byte, all in the register space, in a size of at most five decimal digits
 pub record IsRegister (spaces : List Space) (v : Varnode) : Type 0 where
   pub kind : is_kind Register spaces v.space ≡ true
   pub some : 0 < v.size
+  pub few : v.size < 10 ^ 5
   pub inside : leaves spaces v.space v.offset v.size ≡ false
 
 -- the stack pointer is as wide as the first ram space's offsets, and has at least 2 bytes
@@ -80,9 +81,10 @@ abbrev pub IsArgument : List Space → Option Varnode → Storage → Type 0
 IsArgument spaces stack (At v) = IsStorage spaces v
 IsArgument spaces stack (Stack offset size) = (0 < size) × (size ≤ 16) × (offset ≤ 0xffff) × IsSome stack
 
--- a constant is reduced to its size
+-- at least one byte, in a size of at most five decimal digits; a constant is reduced to its size
 pub record IsOperand (v : Varnode) : Type 0 where
   pub some : 0 < v.size
+  pub few : v.size < 10 ^ 5
   pub reduced : v.space ≡ 0 → v.offset < 256 ^ v.size
 
 -- two register ranges share no byte
@@ -155,6 +157,10 @@ pub record IsOp (op : Op) : Type 0 where
 abbrev pub HasOps : Instruction → Type 0
 HasOps i = AllByRecursion IsOp i.ops
 
+-- its length has at most five decimal digits
+abbrev pub IsShort : Instruction → Type 0
+IsShort i = i.length < 10 ^ 5
+
 -- a range of the constant space or of a declared one
 abbrev pub IsKnown : List Space → Varnode → Type 0
 IsKnown spaces v = v.space < length spaces
@@ -203,6 +209,7 @@ pub record IsWellFormed (l : Listing) : Type 0 where
   -- at least one instruction; each has a length and ends before the next one begins or where it begins
   pub some : 0 < length l.code
   pub apart : AreApart l.code
+  pub short : AllByRecursion IsShort l.code
   pub few : HasFewOps l.code
   pub ops : AllByRecursion HasOps l.code
   pub known : AllByRecursion (HasKnownOps l.spaces) l.code

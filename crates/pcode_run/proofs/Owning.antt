@@ -15,7 +15,7 @@ use Rattle.pcode_model.specs.declared.frame.FrameAccess.{FrameAccess}
 use Rattle.pcode_model.specs.Frame.{frame_of, no_variables, own_in, wrapped}
 use Rattle.pcode_memory.specs.Frame.{IsOrdered}
 use Rattle.pcode_run.specs.Run.{LiesInRam, OwnsFirstRam, accesses, by_pointer, lies_in_ram}
-use Rattle.instructions.proofs.Members.{same_place}
+use Rattle.pcode_model.proofs.Members.{same_place}
 
 in_space : (b : Bool) (m n : ℕ) → b ≡ true → or (not b) (m == n) ≡ true → m ≡ n
 in_space true m n is h = eqb-true m n h

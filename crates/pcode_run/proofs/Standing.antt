@@ -10,7 +10,7 @@ use Rattle.pcode_model.specs.Rules.{HasFewOps, first_bad}
 use Rattle.pcode_model.specs.WellFormed.{HasOps, IsOp, IsWellFormed}
 use Rattle.pcode_laws.proofs.Rules.{in_code}
 use Rattle.instructions.proofs.Apart.{found_in}
-use Rattle.instructions.proofs.Members.{member_at, of_member}
+use Rattle.pcode_model.proofs.Members.{member_at, of_member}
 use Rattle.pcode_run.specs.Steps.{Obeys}
 
 few_in : (i : Instruction) (code : List Instruction) → HasFewOps code → IsIn i code → length i.ops < 2 ^ 32

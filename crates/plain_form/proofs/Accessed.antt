@@ -20,7 +20,7 @@ use Rattle.pcode_model.specs.Atoms.{Accesses, IsLocal, further_ranges, one_range
 use Rattle.supported.specs.Ranges as named
 use Rattle.supported.specs.Ranges.{code_ranges, is_local, is_local_kind, local_of, locals_of, named_ranges, ops_ranges, output_of, result_range, storage_ranges}
 use Rattle.supported.specs.Supported.{IsSupported, is_supported_code}
-pub use Rattle.instructions.proofs.Members.{in_front, behind, in_either}
+pub use Rattle.pcode_model.proofs.Members.{in_front, behind, in_either}
 use Rattle.plain_form.proofs.Standing.{StandsIn, stands_in, supported_in}
 use Rattle.plain_form.proofs.Formed.{Inside, IsFormed}
 

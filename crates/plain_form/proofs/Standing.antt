@@ -9,7 +9,7 @@ use Rattle.pcode_model.specs.declared.listing.Listing.{Listing}
 use Rattle.pcode_model.specs.Flow.{IsIn}
 use Rattle.pcode_model.specs.Places.{Does, instruction_in, op_in, standing, standing_in, standing_of}
 use Rattle.instructions.proofs.Apart.{found_in}
-use Rattle.instructions.proofs.Members.{member_at}
+use Rattle.pcode_model.proofs.Members.{member_at}
 use Rattle.supported.specs.Supported.{are_supported_ops, is_supported_code_of, is_supported_op}
 
 -- the op that stands here is one of these instructions'

@@ -29,7 +29,7 @@ use Rattle.op_code.proofs.Sees.{AreWide, Sees, Setting, wide_back, wide_front}
 use Rattle.plain_laws.specs.Blocks.{block_made, blocks_made, place_made, places_made, way_out}
 use Rattle.plain_laws.specs.Form.{IsPlain, IsUnframed}
 use Rattle.plain_laws.proofs.Exits.{Left, Leaving, goes_to, leaves}
-use Rattle.instructions.proofs.Members.{in_front, behind}
+use Rattle.pcode_model.proofs.Members.{in_front, behind}
 
 -- ---- blocks of the flow
 

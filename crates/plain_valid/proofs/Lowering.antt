@@ -34,7 +34,7 @@ use Rattle.plaincode.specs.Form.{IsNarrow, IsOperandBy, IsOperand, IsOutputBy, I
 use Rattle.plaincode.proofs.Nodes.{nearest_is}
 use Rattle.plain_valid.proofs.Shapes.{Fits, variable_fits, constant_fits, unary_fits, binary_fits}
 use Rattle.plain_valid.proofs.Statements.{assign_suits, knows_below, suits_append, suits_none}
-use Rattle.instructions.proofs.Members.{in_front, behind}
+use Rattle.pcode_model.proofs.Members.{in_front, behind}
 use Rattle.plaincode.proofs.Operands.{output_in}
 
 -- a range's variable is a parameter of its width

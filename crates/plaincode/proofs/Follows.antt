@@ -29,7 +29,7 @@ use Rattle.blockcode.proofs.Straight.{step_in, still, Stands, arrives, returns_i
 use Rattle.plaincode.specs.Lowered.{statements, body_of, exit_by, exit_of, block_of}
 use Rattle.plaincode.specs.Form.{IsPlain}
 use Rattle.plaincode.proofs.Operands.{Sees, Setting}
-use Rattle.instructions.proofs.Members.{in_front, behind}
+use Rattle.pcode_model.proofs.Members.{in_front, behind}
 use Rattle.plaincode.proofs.Exits.{Left, Leaving, goes_to, leaves}
 
 -- ---- blocks of the flow

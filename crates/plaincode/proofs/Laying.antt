@@ -30,7 +30,7 @@ use Rattle.blockcode.specs.Numbers.{ExitBelow, ExitsBelow}
 use Rattle.blockcode.specs.CanLay.{AllSimple, AreSimple, CanLay, CanLeave, IsSimple, any_switch, has_switch, is_switch}
 use Rattle.plaincode.specs.Lowered.{ranges_of, variable_of, assigns, op_statements, statements_in, statements, body_of, condition_in, exit_by, exit_of, block_of, same_place, place_number, lowered}
 use Rattle.plaincode.specs.Form.{IsPlainOp, IsPlain, IsLowerable}
-use Rattle.instructions.proofs.Members.{behind}
+use Rattle.pcode_model.proofs.Members.{behind}
 use Rattle.plaincode.proofs.Follows.{in_block}
 
 -- ---- statements are assignments

@@ -2,17 +2,16 @@
 -- a value.
 use Rattle.std.proofs.Common.{◌≡◌, ℕ, ◌+◌, ◌<◌, ◌==◌, nat_lt, nat_le, Bool, true, false, if◌then◌else◌, Option, Some, None, refl, sym, ap, ◌∙◌, subst, arith}
 use Rattle.std.proofs.lemmas.Bool.{eqb-true, ltb-true}
-use Rattle.std.proofs.Math.Nat.{mod-lt, mod-le, div-le_self}
+use Rattle.std.proofs.Math.Nat.{mod-lt}
 use Rattle.bits_core.specs.declared.word.Width.{Width}
 use Rattle.bits_core.specs.declared.word.Word.{Word}
 use Rattle.bits_core.specs.declared.ops.Unary.{Unary}
 use Rattle.bits_core.specs.declared.ops.Binary.{Binary}
 use Rattle.bits_core.specs.declared.ops.Binary.TheVariants as B
 use Rattle.bits_core.specs.declared.ops.Divide.{Divide}
-use Rattle.bits_core.specs.declared.ops.Divide.TheVariants as D
 use Rattle.bits_core.proofs.Limits.{limit_pos}
-use Rattle.bits_core.specs.Value.{limit, part, div, rem, sdiv, srem, IsUnarySized, IsBinarySized, unary_value, binary_value, quotient_or_rest}
-use Rattle.laws.proofs.Words.{word_below, unary_word, binary_word}
+use Rattle.bits_core.specs.Value.{limit, part, IsUnarySized, IsBinarySized, unary_value, binary_value, quotient_or_rest}
+use Rattle.laws.proofs.Words.{unary_word, binary_word, divided_word}
 use Rattle.cmeaning.specs.declared.tree.UnaryOp.{UnaryOp}
 use Rattle.cmeaning.specs.declared.tree.UnaryOp.TheVariants.{Neg, Not}
 use Rattle.cmeaning.specs.declared.tree.ArithmeticOp.{ArithmeticOp}
@@ -131,15 +130,8 @@ part_fits : (w x k n : ℕ) → Some (part x k w) ≡ Some n → n < limit w
 unfolding part
 part_fits w x k n at = subst (λ z. z < limit w) (some_is _ _ at) (mod-lt _ (limit_pos w))
 
-quotient_word : (op : Divide) (w a b : ℕ) → a < limit w → quotient_or_rest op w a b < limit w
-unfolding div rem sdiv srem
-quotient_word D.Quotient w a b p = omega (arith, div-le_self a b)
-quotient_word D.SignedQuotient w a b p = word_below w _
-quotient_word D.Remainder w a b p = omega (arith, mod-le a b)
-quotient_word D.SignedRemainder w a b p = word_below w _
-
 quotient_fits : (op : Divide) (w a b n : ℕ) → a < limit w → quotient_or_rest op w a b ≡ n → n < limit w
-quotient_fits op w a b n p is = subst (λ z. z < limit w) is (quotient_word op w a b p)
+quotient_fits op w a b n p is = subst (λ z. z < limit w) is (divided_word op w a b p)
 
 unary_sized : (op : UnaryOp) (u : ℕ) → IsUnarySized (unary_of op) u u
 unary_sized Neg u = refl

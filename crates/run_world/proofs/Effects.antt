@@ -1,5 +1,5 @@
 -- The effects on a world whose memory is bytes alone.
-use Rattle.std.proofs.Common.{◌≡◌, ℕ, ◌+◌, ◌<◌, ◌||◌, Bool, true, false, List, [], ◌∷◌, ◌++◌, length, drop, get_or, map, Option, Result, Ok, Err, refl, sym, ap, ◌∙◌}
+use Rattle.std.proofs.Common.{◌≡◌, ℕ, ◌+◌, ◌<◌, ◌||◌, Bool, true, false, List, [], ◌∷◌, ◌++◌, length, drop, get_or, map, Option, Result, Ok, Err, refl, ap, ◌∙◌}
 use Rattle.std.proofs.lemmas.List.{drop_more, map-append}
 use Rattle.std.specs.List.{list_any}
 use Rattle.machine.specs.Trace.{Store, End, ReadOnlyWrite}
@@ -32,13 +32,6 @@ pub any_later : {A : Type 0} (f : A → Bool) (xs : List A) (i : ℕ) (d : A)
     → list_any f (drop i xs) ≡ list_any f (drop (i + 1) xs)
 any_later f xs i d more isnt =
     ap (list_any f) (drop_more xs i d more) ∙ ap (λ b. b || list_any f (drop (i + 1) xs)) isnt
-
--- what is left of a list, by its first item
-pub rest_at : {A : Type 0} (xs : List A) (i : ℕ) (x : A)
-    → i < length xs
-    → x ≡ get_or xs i x
-    → drop i xs ≡ x ∷ drop (i + 1) xs
-rest_at xs i x more is = drop_more xs i x more ∙ ap (λ y. y ∷ drop (i + 1) xs) (sym is)
 
 -- ---- read-only bytes
 

@@ -7,7 +7,7 @@ use Rattle.std.proofs.lemmas.Option.{slice_get-get_or}
 use Rattle.pcode_model.specs.declared.listing.Fixed.{Fixed}
 use Rattle.pcode_model.specs.Spaces.{put_in, fixed_in}
 use Rattle.run_world.specs.Maps.{over}
-use Rattle.run_world.proofs.Effects.{rest_at}
+use Rattle.pcode_model.proofs.Members.{rest_at}
 
 -- one more byte of a range
 pub over_point : (space offset k : ℕ) (bytes : List ℕ) (b : ℕ) (f : ℕ → ℕ → Option ℕ)

@@ -16,7 +16,7 @@ use Rattle.pcode_model.specs.declared.atoms.Atom.{Atom}
 use Rattle.pcode_model.specs.Spaces.{register_space, unique_space}
 use Rattle.pcode_model.specs.Flow.{IsFlow, IsIn, places_of}
 use Rattle.pcode_model.specs.Atoms.{Accesses, IsLocal, ranges_at}
-use Rattle.instructions.proofs.Members.{behind, in_either, in_front, of_member}
+use Rattle.pcode_model.proofs.Members.{behind, in_either, in_front, of_member}
 use Rattle.stackvars.specs.Accessed.{range, range_at, range_of}
 use Rattle.stackvars.specs.Collected.{atom_at, atom_of, atoms_at, atoms_in, atoms_of, storage_of}
 
