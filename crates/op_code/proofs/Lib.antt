@@ -5,3 +5,4 @@ pub mod Sees
 pub mod Sets
 pub mod Steps
 pub mod Worked
+pub mod WorkedBlocks

@@ -1,3 +1,6 @@
 pub mod Form
 pub mod Made
+pub mod Lowered
+pub mod Lowerable
 pub mod Worked
+pub mod WorkedBlocks

@@ -19,8 +19,8 @@ use Rattle.pcode_laws.proofs.AsBytes.{apart_as_bytes}
 use Rattle.pcode_laws.proofs.Ends.{Allows, ends_within}
 use Rattle.blockcode.specs.Run.{seen_code}
 use Rattle.frame_law.proofs.Keeps.{law_without_frame}
-use Rattle.plain_laws.specs.Blocks.{lowered}
-use Rattle.plain_laws.specs.Form.{IsLowerable}
+use Rattle.op_code.specs.Lowered.{lowered}
+use Rattle.op_code.specs.Lowerable.{IsLowerable}
 use Rattle.plain_laws.proofs.Keeps.{keeps}
 
 abbrev Defined : End → Type 0

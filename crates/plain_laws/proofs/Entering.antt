@@ -9,7 +9,7 @@ use Rattle.pcode_model.specs.declared.tables.TableAt.{TableAt}
 use Rattle.pcode_model.specs.declared.flow.Block as flow_block
 use Rattle.pcode_model.specs.Step.{first_place}
 use Rattle.pcode_model.specs.Flow.{IsFlow, IsIn, Entry, starts_of}
-use Rattle.plain_laws.specs.Blocks.{place_number, same_place}
+use Rattle.op_code.specs.Lowered.{place_number, same_place}
 
 same_by : (p q : Place) → same_place p q ≡ true → p ≡ q
 same_by p q t =

@@ -38,8 +38,8 @@ use Rattle.op_code.proofs.Operands.{reads_by, variable_has}
 use Rattle.op_code.proofs.Ops.{op_meets}
 use Rattle.op_code.proofs.Sees.{AreWide, Meets, Sees, Setting}
 use Rattle.op_code.proofs.Steps.{op_of}
-use Rattle.plain_laws.specs.Blocks.{directly, made_in, result, result_in, tests, way_out}
-use Rattle.plain_laws.specs.Form.{IsPlain, IsUnframed}
+use Rattle.op_code.specs.Lowered.{directly, made_in, result, result_in, tests, way_out}
+use Rattle.op_code.specs.Lowerable.{IsPlain, IsUnframed}
 
 -- Both have left the block: they go together, and the code stands where the block begins that begins at the place.
 pub record Left {M : Type 0} (l : Listing) (ranges : List Varnode) (look : M → Bytes) (starts : List Place)

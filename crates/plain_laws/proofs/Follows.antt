@@ -26,8 +26,8 @@ use Rattle.blockcode.specs.Run.{CodeState, widths, leave, code_step, code_machin
 use Rattle.blockcode.proofs.Grows.{code_grows}
 use Rattle.blockcode.proofs.Straight.{step_in, still, Stands, arrives, returns_in}
 use Rattle.op_code.proofs.Sees.{AreWide, Sees, Setting, wide_back, wide_front}
-use Rattle.plain_laws.specs.Blocks.{block_made, blocks_made, place_made, places_made, way_out}
-use Rattle.plain_laws.specs.Form.{IsPlain, IsUnframed}
+use Rattle.op_code.specs.Lowered.{block_made, blocks_made, place_made, places_made, way_out}
+use Rattle.op_code.specs.Lowerable.{IsPlain, IsUnframed}
 use Rattle.plain_laws.proofs.Exits.{Left, Leaving, goes_to, leaves}
 use Rattle.pcode_model.proofs.Members.{in_front, behind}
 

@@ -27,8 +27,8 @@ use Rattle.blockcode.proofs.Straight.{get_of_drop, rest_of_drop}
 use Rattle.op_values.proofs.Means.{nearest_is}
 use Rattle.op_code.specs.Form.{IsNarrow}
 use Rattle.op_code.proofs.Sees.{AreWide}
-use Rattle.plain_laws.specs.Blocks.{blocks_made, lowered, range_at, range_of, ranges_of, variable_for}
-use Rattle.plain_laws.specs.Form.{AreNarrow, IsLocalStorage, IsLowerable, IsUnframed}
+use Rattle.op_code.specs.Lowered.{blocks_made, lowered, range_at, range_of, ranges_of, variable_for}
+use Rattle.op_code.specs.Lowerable.{AreNarrow, IsLocalStorage, IsLowerable, IsUnframed}
 use Rattle.plain_laws.proofs.Entering.{entry_found}
 use Rattle.plain_laws.proofs.Exits.{Left}
 use Rattle.plain_laws.proofs.Follows.{Given, follows}

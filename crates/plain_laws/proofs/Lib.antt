@@ -3,4 +3,3 @@ pub mod Entering
 pub mod Exits
 pub mod Follows
 pub mod Keeps
-pub mod Worked

@@ -1,3 +1,0 @@
-pub mod Blocks
-pub mod Form
-pub mod Worked

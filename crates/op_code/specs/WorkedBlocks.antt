@@ -19,7 +19,7 @@ use Rattle.cmeaning.specs.declared.tree.Stmt.TheVariants as S
 use Rattle.blockcode.specs.declared.code.Exit.TheVariants as X
 use Rattle.op_values.specs.Nodes.{constant}
 use Rattle.op_code.specs.Made.{local_of}
-use Rattle.plain_laws.specs.Blocks.{directly, lowered, variable_for, way_out}
+use Rattle.op_code.specs.Lowered.{directly, lowered, variable_for, way_out}
 
 abbrev pub varnode : ℕ → ℕ → ℕ → Varnode
 varnode space offset size = record { space = space; offset = offset; size = size }

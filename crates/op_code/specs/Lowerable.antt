@@ -13,7 +13,7 @@ use Rattle.pcode_model.specs.Memory.{Frame}
 use Rattle.pcode_model.specs.Places.{Standing, Nothing, Passes, Does, standing}
 use Rattle.range_words.specs.Ranges.{IsTable}
 use Rattle.op_code.specs.Form.{IsPlainOp}
-use Rattle.plain_laws.specs.Blocks.{ranges_of}
+use Rattle.op_code.specs.Lowered.{ranges_of}
 
 abbrev pub IsPlain : Listing → List Varnode → Standing → Type 0
 IsPlain l ranges Nothing = ⊥

@@ -1,6 +1,7 @@
 -- The plain lowering's code: each atom is a variable, each block of the flow a block of code, and the locals that the
 -- blocks need stand behind the atoms. This project's own.
 use Rattle.std.specs.Prelude.{ℕ, suc, ◌+◌, ◌==◌, ◌&&◌, Bool, if◌then◌else◌, List, [], ◌∷◌, ◌++◌, length, map, Option, Some, None}
+use Rattle.bits_core.specs.declared.word.Width.{Width}
 use Rattle.pcode_model.specs.declared.listing.Varnode.{Varnode}
 use Rattle.pcode_model.specs.declared.listing.Place.{Place}
 use Rattle.pcode_model.specs.declared.listing.Listing.{Listing}
@@ -147,3 +148,13 @@ lowered l blocks atoms = record {
   blocks = (blocks_made l (ranges_of l atoms) (length atoms) blocks).blocks;
   entry = place_number (starts_of blocks) (first_place l);
 }
+
+-- ---- the result
+
+abbrev pub width_of_result : Option Varnode → Option Width
+width_of_result None = None
+width_of_result (Some v) = Some (width_by v.size)
+
+-- the function's result has the width that its prototype says
+abbrev pub result_width : Listing → Option Width
+result_width l = width_of_result (proto_of l None).gives
