@@ -12,3 +12,14 @@
 //! states again, or to the same end. A local is no range, so it changes nothing that is asked of the variables; and
 //! where an op ends the run before its last statement, the statements behind do nothing.
 #![tactic(auto)]
+
+mod locals;
+mod memory;
+mod outputs;
+mod reads;
+mod statements;
+mod table;
+
+pub use reads::read;
+pub use statements::add_op;
+pub use table::Table;
