@@ -1,6 +1,6 @@
 use Rattle.std.proofs.Common.{◌≡◌, ◌+◌, ◌≤◌, drop}
 use Rattle.pcode_model.specs.Flow.{starts_of}
-use Rattle.plaincode.specs.Lowered.{place_number}
+use Rattle.op_code.specs.Lowered.{place_number}
 use Rattle.plaincode.proofs.lowering.block_number.Given as goal
 
 abbrev pub invariant-loop-block : goal.invariant-loop-block

@@ -1,5 +1,5 @@
 use Rattle.std.proofs.Common.{◌≡◌, ◌++◌, drop}
-use Rattle.plaincode.specs.Lowered.{ranges_of}
+use Rattle.op_code.specs.Lowered.{ranges_of}
 use Rattle.plaincode.proofs.variables.ranges.Given as goal
 
 abbrev pub invariant-loop-atom : goal.invariant-loop-atom
