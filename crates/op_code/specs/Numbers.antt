@@ -1,5 +1,5 @@
--- The table of the variables that stand for ranges. No part of what an op means, but how the code looks variables up: in
--- proofs/Numbers.antt the place by key is the number that variable_of of Made.antt gives.
+-- The table of the variables that stand for ranges. No part of what an op means, but how the code looks variables up:
+-- in proofs/Numbers.antt the place by key is the number that variable_of of Made.antt gives.
 use Rattle.std.specs.Prelude.{◌≡◌, ℕ, ◌^◌, ◌<◌, Bool, List, length}
 use Rattle.std.specs.declared.cmp.Ordering.{Ordering}
 use Rattle.std.specs.Ordering.{is_eq, nat_cmp, ordering_then}
