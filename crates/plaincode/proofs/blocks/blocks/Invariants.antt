@@ -3,8 +3,11 @@ use Rattle.op_code.specs.Lowered.{blocks_made}
 use Rattle.plaincode.proofs.blocks.blocks.Given as goal
 
 abbrev pub invariant-loop-from : goal.invariant-loop-from
-invariant-loop-from l = record {
-  blocks : l.blocks ++ (blocks_made l.listing l.table (length l.variables) (drop l.from-index l.flow)).blocks ≡ (blocks_made l.listing l.table (length l.initial.variables) l.flow).blocks;
-  locals : l.variables ++ (blocks_made l.listing l.table (length l.variables) (drop l.from-index l.flow)).locals ≡ l.initial.variables ++ (blocks_made l.listing l.table (length l.initial.variables) l.flow).locals;
-  few : length l.variables ≤ 2 ^ 32;
-}
+invariant-loop-from l =
+    let all = blocks_made l.listing l.table (length l.initial.variables) l.flow in
+    let rest = blocks_made l.listing l.table (length l.variables) (drop l.from-index l.flow) in
+    record {
+      blocks : l.blocks ++ rest.blocks ≡ all.blocks;
+      locals : l.variables ++ rest.locals ≡ l.initial.variables ++ all.locals;
+      few : length l.variables ≤ 2 ^ 32;
+    }
