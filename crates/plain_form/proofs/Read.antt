@@ -271,8 +271,8 @@ module _ (l : Listing) (read : IsWellFormed l) (good : first_bad l ≡ None) whe
     formed = of_member IsOp op i.ops (of_member HasOps i l.code read.ops stand.code_has) stand.ops_have
 
     known : IsKnownOp l.spaces op
-    known = of_member (IsKnownOp l.spaces) op i.ops (of_member (HasKnownOps l.spaces) i l.code read.known stand.code_has)
-        stand.ops_have
+    known = of_member (IsKnownOp l.spaces) op i.ops
+        (of_member (HasKnownOps l.spaces) i l.code read.known stand.code_has) stand.ops_have
 
     pub input : (v : Varnode) → IsIn v op.inputs → IsInput l v
     input v is =

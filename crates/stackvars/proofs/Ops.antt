@@ -99,8 +99,8 @@ supported_in : (code : List Instruction) (a n : ℕ) (op : Op)
     → is_supported_code op.code ≡ true
 supported_in [] a n op h e = absurd (cc)
 supported_in (i ∷ rest) a n op h e =
-    (elim (i.address == a) as
-    (λ b. op_of (standing_of (cond b (Some i) (instruction_in rest a)) n) ≡ Some op → is_supported_code op.code ≡ true) [
+    let P : Option Instruction → Type 0 = λ j. op_of (standing_of j n) ≡ Some op → is_supported_code op.code ≡ true in
+    (elim (i.address == a) as (λ b. P (cond b (Some i) (instruction_in rest a))) [
       | true ↦ λ k. supported_slice i.ops n op (and_parts _ _ h).0 (sym (standing_op i i.ops n) ∙ k)
       | false ↦ λ k. supported_in rest a n op (and_parts _ _ h).1 k
     ]) e
