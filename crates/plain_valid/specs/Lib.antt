@@ -1,3 +1,2 @@
 pub mod Long
 pub mod Inputs
-pub mod Function
