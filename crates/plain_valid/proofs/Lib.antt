@@ -1,3 +1,5 @@
-pub mod Long
 pub mod Shapes
 pub mod Expressions
+pub mod EachKind
+pub mod Blocks
+pub mod Long
