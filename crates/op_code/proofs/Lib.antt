@@ -5,6 +5,7 @@ pub mod Ops
 pub mod Sees
 pub mod Sets
 pub mod Steps
+pub mod Unstored
 pub mod Variables
 pub mod Worked
 pub mod WorkedBlocks

@@ -29,13 +29,13 @@ use Rattle.blockcode.specs.declared.code.Exit.TheVariants as X
 use Rattle.op_values.specs.Nodes.{binary_node, constant, divides_by, division_node, nearest, statement_of, unary_node}
 use Rattle.op_values.proofs.Means.{nearest_is}
 use Rattle.op_code.specs.Made.{Read, ReadOne, address, address_of, computes, divides, divides_at, local_of, locals_by, name_of, offset_bytes, op_made, read_by, read_one, reads, set_by, sets, stores, variable_of}
-use Rattle.op_code.specs.Form.{IsDirect, IsMemory, IsNarrow, IsOperand, IsOperandBy, IsOutput, IsOutputBy, IsPlainOp, IsResult}
+use Rattle.op_code.specs.Form.{IsDirect, IsLocalBy, IsMemory, IsNarrow, IsOperand, IsOperandBy, IsOutput, IsOutputBy, IsPlainOp, IsResult}
 use Rattle.op_code.specs.Lowered.{WayOut, block_made, blocks_made, condition_in, directly, made_in, place_made, places_made, tests, way_out}
 use Rattle.op_code.specs.Lowerable.{IsPlain}
 use Rattle.op_code.proofs.Sees.{Setting, found}
 use Rattle.plain_valid.proofs.Shapes.{Fits, as_wide, constant_fits, variable_fits}
 use Rattle.plain_valid.proofs.Expressions.{IsAddress, address_fits, binary_fits, division_node_fits, unary_fits}
-use Rattle.plain_valid.proofs.EachKind.{AllHold, AreLocals, IsVariable, Kinds, locals_back, locals_front}
+use Rattle.plain_valid.proofs.EachKind.{AllHold, AreLocals, Gives, IsVariable, Kinds, locals_back, locals_front}
 
 module _
     (l : Listing)
@@ -337,13 +337,24 @@ module _
     test_right next c here to behind (F.Switch t ns) is byte h by are = absurd by
     test_right next c here to behind F.Stop is byte h by are = absurd by
 
+    is_local : (k : SpaceKind) (v : Varnode) → IsLocalBy k ranges v → IsIn v ranges
+    is_local Constant v h = absurd h
+    is_local Ram v h = absurd h
+    is_local Register v h = h
+    is_local Unique v h = h
+
+    gives_right : (o : Option Varnode) → IsResult l ranges o → Gives ranges ws n o
+    gives_right None h = tt
+    gives_right (Some v) h =
+        (h.0, of_variable _ v.size (range_variable v h.0 (is_local (kind_of l v.space) v h.1)))
+
     return_right : (next : ℕ) (here : Standing) (e : flow_exit.Exit)
         → IsResult l ranges (proto_of l None).gives
         → e ≡ F.Return
         → Leaves (way_out l ranges next here e)
     return_right next here e h is =
         let R : flow_exit.Exit → Type 0 = λ x. Leaves (way_out l ranges next here x) in
-        subst R (sym is) (kinds.none, kinds.returns h)
+        subst R (sym is) (kinds.none, kinds.returns (gives_right (proto_of l None).gives h))
 
     op_leaves : (t : List TableAt) (next : ℕ) (p : Place) (here : Standing) (code : Opcode) (out : Option Varnode)
         (vs : List Varnode) (e : flow_exit.Exit)

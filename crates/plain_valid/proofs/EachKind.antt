@@ -1,9 +1,10 @@
 -- What is asked of each kind of statement and of exit that the plain lowering makes, so that it holds of all its blocks.
-use Rattle.std.proofs.Common.{◌≡◌, ℕ, ◌+◌, ◌<◌, ◌≤◌, List, [], ◌∷◌, ◌++◌, length, length-append, None, arith}
+use Rattle.std.proofs.Common.{◌≡◌, ℕ, ◌+◌, ◌<◌, ◌≤◌, List, [], ◌∷◌, ◌++◌, length, length-append, Option, Some, None, arith}
 use Rattle.pcode_model.specs.declared.listing.Varnode.{Varnode}
 use Rattle.pcode_model.specs.declared.listing.Listing.{Listing}
 use Rattle.pcode_model.specs.Step.{proto_of}
 use Rattle.cmeaning.specs.declared.tree.Expr.{Expr}
+use Rattle.cmeaning.specs.declared.tree.Expr.TheVariants as E
 use Rattle.cmeaning.specs.declared.tree.Stmt.{Stmt}
 use Rattle.cmeaning.specs.declared.tree.Stmt.TheVariants as S
 use Rattle.cmeaning.specs.declared.tree.StatementDivision.{StatementDivision}
@@ -11,8 +12,8 @@ use Rattle.blockcode.specs.declared.code.Block.{Block}
 use Rattle.blockcode.specs.declared.code.Exit.{Exit}
 use Rattle.blockcode.specs.declared.code.Exit.TheVariants as X
 use Rattle.blockcode.specs.declared.code.Variable.{Variable}
-use Rattle.op_code.specs.Made.{name_of}
-use Rattle.op_code.specs.Form.{IsMemory, IsResult}
+use Rattle.op_code.specs.Made.{name_of, variable_of}
+use Rattle.op_code.specs.Form.{IsMemory, IsNarrow}
 use Rattle.op_code.specs.Lowered.{result}
 use Rattle.op_code.proofs.Sees.{AreWide, wide_back, wide_front}
 use Rattle.plain_valid.proofs.Shapes.{Fits}
@@ -27,6 +28,11 @@ pub record IsVariable (ws : ℕ → ℕ) (n v w : ℕ) : Type 0 where
 pub record AreLocals (ws : ℕ → ℕ) (n next : ℕ) (vs : List Variable) : Type 0 where
   pub wide : AreWide ws next vs
   pub within : next + length vs ≤ n
+
+-- what a function of these ranges gives, if it gives a result
+abbrev pub Gives : List Varnode → (ℕ → ℕ) → ℕ → Option Varnode → Type 0
+Gives ranges ws n None = Unit {0}
+Gives ranges ws n (Some v) = IsNarrow v × Fits ws n (E.Var (variable_of ranges v)) v.size 1
 
 -- Of statements and exits that name n variables with these widths, and blocks below a number: what holds of each kind.
 pub record Kinds (l : Listing) (ranges : List Varnode) (ws : ℕ → ℕ) (n blocks : ℕ) (P : List Stmt → Type 0)
@@ -55,7 +61,7 @@ pub record Kinds (l : Listing) (ranges : List Varnode) (ws : ℕ → ℕ) (n blo
       → taken < blocks
       → other < blocks
       → Q (X.Test c taken other)
-  pub returns : IsResult l ranges (proto_of l None).gives → Q (X.Return (result l ranges))
+  pub returns : Gives ranges ws n (proto_of l None).gives → Q (X.Return (result l ranges))
 
 -- each block's statements and its exit
 abbrev pub AllHold : (List Stmt → Type 0) → (Exit → Type 0) → List Block → Type 0

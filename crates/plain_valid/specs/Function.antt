@@ -1,0 +1,17 @@
+-- The C function of the plain lowering. This project's own.
+use Rattle.std.specs.Prelude.{List}
+use Rattle.pcode_model.specs.declared.atoms.Atom.{Atom}
+use Rattle.pcode_model.specs.declared.flow.Block as flow_block
+use Rattle.pcode_model.specs.declared.listing.Listing.{Listing}
+use Rattle.cmeaning.specs.declared.tree.CFunction.{CFunction}
+use Rattle.naming.specs.declared.head.Head.{Head}
+use Rattle.blockcode.specs.declared.code.Code.{Code}
+use Rattle.layout.specs.Function.{head_of, laid_out}
+use Rattle.op_code.specs.Lowered.{lowered, result_width}
+
+-- the listing's name, and the result that its prototype says
+abbrev pub plain_head : Listing → Code → Head
+plain_head l k = head_of l.func.name (result_width l) k.variables
+
+abbrev pub plain_function : Listing → List flow_block.Block → List Atom → CFunction
+plain_function l blocks atoms = laid_out (plain_head l (lowered l blocks atoms)) (lowered l blocks atoms)
