@@ -42,6 +42,6 @@ pub count_declared : (vs : List Variable) (ps : List Param) (xs : List Local)
 count_declared [] [] [] d = refl
 count_declared [] [] (x ∷ xs) d = absurd d
 count_declared [] (p ∷ ps) xs d = absurd d
-count_declared (v ∷ vs) (p ∷ ps) xs d = ap suc (count_declared vs ps xs d.1)
+count_declared (v ∷ vs) (p ∷ ps) xs d = omega (arith, count_declared vs ps xs d.1)
 count_declared (v ∷ vs) [] [] d = absurd d
-count_declared (v ∷ vs) [] (x ∷ xs) d = ap suc (count_declared vs [] xs d.1)
+count_declared (v ∷ vs) [] (x ∷ xs) d = omega (arith, count_declared vs [] xs d.1)

@@ -4,4 +4,9 @@ pub mod EachKind
 pub mod Blocks
 pub mod Whole
 pub mod Laying
+pub mod Statements
+pub mod Valid
+pub mod Suits
+pub mod Fit
+pub mod Signature
 pub mod Long

@@ -1,0 +1,122 @@
+-- The statements of the plain lowering fit its listing, and so do the parameters.
+use Rattle.std.proofs.Common.{◌≡◌, ℕ, suc, ◌≤◌, ◌^◌, Bool, true, false, List, [], ◌∷◌, length, map, Option, Some, None, refl, sym, ap, ◌∙◌, subst, arith}
+use Rattle.std.specs.Prelude.{◌==◌, ◌&&◌, cond, not, slice_get}
+use Rattle.std.proofs.lemmas.Bool.Decides.{nat_tests}
+use Rattle.pcode_model.specs.declared.atoms.Atom.{Atom}
+use Rattle.pcode_model.specs.declared.flow.Block as flow_block
+use Rattle.pcode_model.specs.declared.listing.Listing.{Listing}
+use Rattle.pcode_model.specs.declared.listing.SpaceKind.{SpaceKind}
+use Rattle.pcode_model.specs.declared.listing.SpaceKind.TheVariants.{Ram}
+use Rattle.pcode_model.specs.declared.listing.Varnode.{Varnode}
+use Rattle.pcode_model.specs.declared.storage.ParamStorage.{ParamStorage}
+use Rattle.pcode_model.specs.declared.storage.ParamStorage.TheVariants as P
+use Rattle.pcode_model.specs.declared.tables.TableAt.{TableAt}
+use Rattle.pcode_model.specs.Ranges.{is_kind}
+use Rattle.pcode_model.specs.Spaces.{first_ram, kind_of, same_kind}
+use Rattle.range_words.specs.Ranges.{IsInside}
+use Rattle.cmeaning.specs.declared.tree.Stmt.TheOpen.{Stmt-F}
+use Rattle.cmeaning.specs.declared.tree.Stmt.TheVariants as S
+use Rattle.cmeaning.specs.Do.{accessed}
+use Rattle.cmeaning.specs.Fits.{names_ram, params_fit, storage_fits}
+use Rattle.blockcode.specs.declared.code.Block.{Block}
+use Rattle.blockcode.specs.declared.code.Exit.{Exit}
+use Rattle.naming.specs.Run.{widths_of}
+use Rattle.layout.specs.Fitting.{BlocksFit, BodyFits}
+use Rattle.layout.specs.Function.{params_of}
+use Rattle.layout.proofs.Fitting.{append_fits, fits_layer, one_fits}
+use Rattle.op_values.proofs.Means.{nearest_is}
+use Rattle.op_code.specs.Made.{name_in, name_of}
+use Rattle.op_code.specs.Form.{IsMemory}
+use Rattle.op_code.specs.Lowered.{lowered, range_at, range_of, ranges_of, variable_for}
+use Rattle.op_code.specs.Lowerable.{AreNarrow, IsLocalStorage, IsLowerable}
+use Rattle.plain_valid.specs.Function.{plain_head}
+use Rattle.plain_valid.proofs.EachKind.{AllHold, Kinds}
+use Rattle.plain_valid.proofs.Suits.{below_head}
+use Rattle.plain_valid.proofs.Valid.{plain_params}
+
+-- ---- spaces that statements name
+
+-- a name other than the first ram space's names a ram space
+named_by : (l : Listing) (s : ℕ) (name : List ℕ) (t : Bool)
+    → (s == first_ram l) ≡ t
+    → kind_of l s ≡ Ram
+    → accessed l (cond t None (Some name)) ≡ s
+    → names_ram l (cond t None (Some name)) ≡ true
+named_by l s name true e ram is = refl
+named_by l s name false e ram is =
+    let R : ℕ → Type 0 = λ k. (is_kind Ram l.spaces k && not (k == first_ram l)) ≡ true in
+    subst R (sym is)
+    (ap (λ k. same_kind Ram k && not (s == first_ram l)) ram ∙ ap (λ b. not b) e)
+
+space_fits : (l : Listing) (s : ℕ) → IsMemory l s → names_ram l (name_of l s) ≡ true
+space_fits l s is = named_by l s (name_in (slice_get l.spaces s)) (s == first_ram l) refl is.ram is.name
+
+-- ---- statements
+
+abbrev Any : Exit → Type 0
+Any e = Unit {0}
+
+fit_kinds : (l : Listing) (ranges : List Varnode) (ws : ℕ → ℕ) (n m : ℕ) → Kinds l ranges ws n m (BodyFits l ws) Any
+fit_kinds l ranges ws n m = record {
+  none = refl;
+  append = append_fits l ws;
+  assign = λ v w d e is f. one_fits l ws (S.Assign v e)
+      (fits_layer l ws (S.Assign v e) (Stmt-F.Assign v e) (S.rolls-Assign v e));
+  load = λ v w s u d e is mem f.
+      let x = S.Load v (name_of l s) e in
+      one_fits l ws x
+      (fits_layer l ws x (Stmt-F.Load v (name_of l s) e) (S.rolls-Load v (name_of l s) e) ∙ space_fits l s mem);
+  store = λ s u d w c a e mem f g.
+      let x = S.Store (name_of l s) a e in
+      one_fits l ws x
+      (fits_layer l ws x (Stmt-F.Store (name_of l s) a e) (S.rolls-Store (name_of l s) a e) ∙ space_fits l s mem);
+  divide = λ op v w a b is f g. one_fits l ws (S.Divide v op a b)
+      (fits_layer l ws (S.Divide v op a b) (Stmt-F.Divide v op a b) (S.rolls-Divide v op a b));
+  jump = λ to below. tt;
+  test = λ c taken other f low high. tt;
+  returns = λ given. tt;
+}
+
+all_fit : (l : Listing) (ws : ℕ → ℕ) (xs : List Block) → AllHold (BodyFits l ws) Any xs → BlocksFit l ws xs
+all_fit l ws [] all = tt
+all_fit l ws (x ∷ xs) all = (all.0.0, all_fit l ws xs all.1)
+
+-- The statements name no spaces but ram spaces of the listing.
+pub plain_body_fits : (l : Listing) (t : List TableAt) (blocks : List flow_block.Block) (atoms : List Atom)
+    → IsLowerable l t blocks atoms
+    → length (lowered l blocks atoms).variables ≤ 2 ^ 32
+    → BlocksFit l (widths_of (plain_head l (lowered l blocks atoms))) (lowered l blocks atoms).blocks
+plain_body_fits l t blocks atoms form few =
+    let h = plain_head l (lowered l blocks atoms) in
+    let ws = widths_of h in
+    all_fit l ws (lowered l blocks atoms).blocks
+    (below_head l t blocks atoms (BodyFits l ws) Any form few (fit_kinds l (ranges_of l atoms) ws _ (length blocks)))
+
+-- ---- parameters
+
+in_space : (l : Listing) (s : ParamStorage) (k : ℕ)
+    → IsLocalStorage s
+    → IsInside l (range_at l s k)
+    → storage_fits l k s ≡ true
+in_space l (P.Register o) k h inside = grind (arith, nat_tests)
+in_space l (P.Unique o) k h inside = grind (arith, nat_tests)
+in_space l (P.Stack o) k h inside = absurd h
+
+in_spaces : (l : Listing) (atoms : List Atom)
+    → AreNarrow atoms
+    → ((n : ℕ) (v : Varnode) → slice_get (ranges_of l atoms) n ≡ Some v → IsInside l v)
+    → params_fit l (params_of (map variable_for atoms)) ≡ true
+in_spaces l [] narrow inside = refl
+in_spaces l (a ∷ atoms) narrow inside =
+    let width = nearest_is a.size (narrow.0.1).0 (narrow.0.1).1 in
+    ap (λ n. storage_fits l n a.storage && params_fit l (params_of (map variable_for atoms))) width
+    ∙ ap (λ b. b && params_fit l (params_of (map variable_for atoms)))
+    (in_space l a.storage a.size narrow.0.0 (inside 0 (range_of l a) refl))
+    ∙ in_spaces l atoms narrow.1 (λ n. inside (suc n))
+
+-- The parameters lie in their spaces.
+pub plain_params_fit : (l : Listing) (t : List TableAt) (blocks : List flow_block.Block) (atoms : List Atom)
+    → IsLowerable l t blocks atoms
+    → params_fit l (plain_head l (lowered l blocks atoms)).params ≡ true
+plain_params_fit l t blocks atoms form =
+    ap (params_fit l) (plain_params l blocks atoms) ∙ in_spaces l atoms form.narrow form.table.inside

@@ -1,0 +1,187 @@
+-- The statements and exits of the plain lowering suit a head that has the variables which they name.
+use Rattle.std.proofs.Common.{◌≡◌, ℕ, ◌+◌, ◌<◌, ◌≤◌, ◌^◌, Bool, true, false, List, [], ◌∷◌, ◌++◌, length, map, Option, Some, None, refl, sym, ap, ◌∙◌, subst, arith}
+use Rattle.std.specs.Prelude.{◌==◌, ◌&&◌, cond, nat_lt, slice_get}
+use Rattle.std.specs.List.{AllByRecursion}
+use Rattle.std.proofs.lemmas.Bool.Decides.{nat_tests}
+use Rattle.pcode_model.specs.declared.listing.Space.{Space}
+use Rattle.pcode_model.specs.declared.listing.SpaceKind.TheVariants.{Ram}
+use Rattle.pcode_model.specs.declared.listing.Varnode.{Varnode}
+use Rattle.pcode_model.specs.declared.listing.Listing.{Listing}
+use Rattle.pcode_model.specs.Spaces.{first_ram, kind_in}
+use Rattle.pcode_model.specs.Step.{proto_of}
+use Rattle.pcode_model.specs.WellFormed.{IsNamedSpace}
+use Rattle.pcode_model.proofs.Members.{member_at, of_member}
+use Rattle.cmeaning.specs.declared.shape.Shape.{Shape}
+use Rattle.cmeaning.specs.declared.tree.Arm.{Arm}
+use Rattle.cmeaning.specs.declared.tree.Expr.{Expr}
+use Rattle.cmeaning.specs.declared.tree.Expr.TheVariants as E
+use Rattle.cmeaning.specs.declared.tree.Stmt.{Stmt, map-Stmt, roll-Stmt}
+use Rattle.cmeaning.specs.declared.tree.Stmt.TheOpen.{Stmt-F}
+use Rattle.cmeaning.specs.declared.tree.Stmt.TheVariants as S
+use Rattle.cmeaning.specs.Shape.{has_width, is_condition, is_right, shape_of}
+use Rattle.cmeaning.specs.Mentions.{Mention, Variable, Callee, LabelLine, in_expr, in_option, in_stmt}
+use Rattle.cmeaning.specs.Valid.{Cased, Rule, is_assigned, is_name, is_returned, is_space, is_variable, plainly}
+use Rattle.cmeaning.proofs.Mentions.{in_statement}
+use Rattle.naming.specs.declared.head.Head.{Head}
+use Rattle.naming.specs.Rules.{own_cased, own_rule, own_step}
+use Rattle.naming.specs.Run.{widths_of}
+use Rattle.naming.proofs.Rules.{rule_is}
+use Rattle.layout.specs.Suits.{BodySuits, ExitSuits, Knows}
+use Rattle.layout.proofs.Suiting.{knows_one, obey_one, suits_append, suits_none}
+use Rattle.op_values.specs.Nodes.{nearest}
+use Rattle.op_values.proofs.Means.{nearest_is}
+use Rattle.op_code.specs.Made.{name_in, name_of, variable_of}
+use Rattle.op_code.specs.Form.{IsMemory}
+use Rattle.op_code.specs.Lowered.{result, result_in, result_width, width_of_result}
+use Rattle.plain_valid.proofs.Shapes.{AllBelow, Fits, below_append}
+use Rattle.plain_valid.proofs.EachKind.{Gives, IsVariable, Kinds}
+
+-- ---- names of spaces
+
+named_at : (spaces : List Space) (s : ℕ) (o : Option Space)
+    → slice_get spaces s ≡ o
+    → kind_in o ≡ Ram
+    → AllByRecursion IsNamedSpace spaces
+    → is_name (name_in o) ≡ true
+named_at spaces s None e ram all = absurd (cc)
+named_at spaces s (Some x) e ram all = of_member IsNamedSpace x spaces all (member_at spaces s x e)
+
+-- a ram space is the first one or has a name
+space_named : (l : Listing) (s : ℕ)
+    → AllByRecursion IsNamedSpace l.spaces
+    → IsMemory l s
+    → is_space (name_of l s) ≡ true
+space_named l s all is = by (s == first_ram l)
+  where
+    by : (t : Bool) → is_space (cond t None (Some (name_in (slice_get l.spaces s)))) ≡ true
+    by true = refl
+    by false = named_at l.spaces s (slice_get l.spaces s) refl is.ram all
+
+-- ---- variables and expressions
+
+module _ (ws : ℕ → ℕ) (n : ℕ) where
+  variable_is : (v w : ℕ) → n ≤ 2 ^ 32 → IsVariable ws n v w → is_variable ws v ≡ true
+  variable_is v w few is =
+      let below : v < 2 ^ 32 = omega (arith, is.within, few) in
+      let some : 0 < ws v = omega (arith, is.width, is.some) in
+      grind (arith, nat_tests)
+
+  width_is : (e : Expr) (w d : ℕ) → Fits ws n e w d → has_width w (shape_of ws e) ≡ true
+  width_is e w d f =
+      let same : w ≡ (f.shape).width = sym f.width in
+      ap (has_width w) f.is ∙ (let t : ((f.shape).width == w) ≡ true = grind (arith, nat_tests) in t)
+
+  right_is : (e : Expr) (w d : ℕ) → Fits ws n e w d → is_right (shape_of ws e) ≡ true
+  right_is e w d f = ap is_right f.is
+
+  -- what has a variable's width
+  as_wide_as : (v w d : ℕ) (e : Expr)
+      → IsVariable ws n v w
+      → Fits ws n e w d
+      → has_width (ws v) (shape_of ws e) ≡ true
+  as_wide_as v w d e is f = ap (λ k. has_width k (shape_of ws e)) is.width ∙ width_is e w d f
+
+  assigned_is : (v w d : ℕ) (e : Expr)
+      → n ≤ 2 ^ 32
+      → IsVariable ws n v w
+      → Fits ws n e w d
+      → is_assigned ws v (shape_of ws e) ≡ true
+  assigned_is v w d e few is f =
+      ap (λ b. b && has_width (ws v) (shape_of ws e)) (variable_is v w few is) ∙ as_wide_as v w d e is f
+
+  -- a leaf as a condition
+  condition_is : (c : Expr) (w : ℕ) → Fits ws n c w 1 → is_condition (shape_of ws c) ≡ true
+  condition_is c w f = ap is_condition f.is ∙ by (f.shape).comparison
+    where
+      by : (b : Bool) → cond b true (nat_lt (f.shape).depth 64) ≡ true
+      by true = refl
+      by false = let deep : (f.shape).depth < 64 = omega (arith, f.depth) in grind (arith, nat_tests)
+
+-- ---- below a head
+
+module _ (h : Head) where
+  abbrev pub variables : ℕ
+  variables = length h.params + length h.locals
+
+  knows_below : (xs : List Mention) → AllBelow variables xs → Knows h xs
+  knows_below [] b = tt
+  knows_below (Variable v ∷ xs) b = (b.0, knows_below xs b.1)
+  knows_below (Callee address ∷ xs) b = absurd b.0
+  knows_below (LabelLine n ∷ xs) b = absurd b.0
+
+  -- a statement without statements in it, that mentions variables
+  one_suits : (s : Stmt) (y : Stmt-F Stmt Arm) (xs : List Mention) (right : Bool)
+      → roll-Stmt y ≡ s
+      → in_stmt s ≡ xs
+      → AllBelow variables xs
+      → ((leads : ℕ → Bool)
+      → own_step h leads (map-Stmt Stmt Arm Rule Cased (own_rule h leads) (own_cased h leads) y) ≡ plainly right)
+      → right ≡ true
+      → BodySuits h (s ∷ [])
+  one_suits s y xs right is mentions below step holds = record {
+    knows = knows_one h s xs mentions (knows_below xs below);
+    obey = λ leads. obey_one h leads s
+        (λ after. ap (λ (r : Rule). r.holds after false 255) (rule_is h leads s y is ∙ step leads) ∙ holds);
+  }
+
+-- The kinds of statements and exits suit a head, where the listing's spaces are named and the head gives the result.
+pub suit_kinds : (l : Listing) (ranges : List Varnode) (h : Head) (m : ℕ)
+    → length h.params + length h.locals ≤ 2 ^ 32
+    → AllByRecursion IsNamedSpace l.spaces
+    → h.gives ≡ result_width l
+    → Kinds l ranges (widths_of h) (length h.params + length h.locals) m (BodySuits h) (ExitSuits h)
+suit_kinds l ranges h m few named gives =
+    let ws = widths_of h in
+    let n = length h.params + length h.locals in
+    record {
+      none = suits_none h;
+      append = suits_append h;
+      assign = λ v w d e is f.
+          let s = S.Assign v e in
+          let y = Stmt-F.Assign v e in
+          one_suits h s y (Variable v ∷ in_expr e) _ (S.rolls-Assign v e) (in_statement s y (S.rolls-Assign v e))
+          (is.within, f.mentions) (λ leads. refl) (assigned_is ws n v w d e few is f);
+      load = λ v w s u d e is mem f.
+          let x = S.Load v (name_of l s) e in
+          let y = Stmt-F.Load v (name_of l s) e in
+          let rolls = S.rolls-Load v (name_of l s) e in
+          one_suits h x y (Variable v ∷ in_expr e) _ rolls (in_statement x y rolls) (is.within, f.mentions)
+          (λ leads. refl)
+          (ap (λ b. b && (is_space (name_of l s) && is_right (shape_of ws e))) (variable_is ws n v w few is)
+          ∙ ap (λ b. b && is_right (shape_of ws e)) (space_named l s named mem) ∙ right_is ws n e u d f);
+      store = λ s u d w c a e mem f g.
+          let x = S.Store (name_of l s) a e in
+          let y = Stmt-F.Store (name_of l s) a e in
+          let rolls = S.rolls-Store (name_of l s) a e in
+          one_suits h x y (in_expr a ++ in_expr e) _ rolls (in_statement x y rolls)
+          (below_append n (in_expr a) (in_expr e) f.mentions g.mentions) (λ leads. refl)
+          (ap (λ b. b && (is_right (shape_of ws a) && is_right (shape_of ws e))) (space_named l s named mem)
+          ∙ ap (λ b. b && is_right (shape_of ws e)) (right_is ws n a u d f) ∙ right_is ws n e w c g);
+      divide = λ op v w a b is f g.
+          let x = S.Divide v op a b in
+          let y = Stmt-F.Divide v op a b in
+          let rolls = S.rolls-Divide v op a b in
+          one_suits h x y (Variable v ∷ (in_expr a ++ in_expr b)) _ rolls (in_statement x y rolls)
+          (is.within, below_append n (in_expr a) (in_expr b) f.mentions g.mentions) (λ leads. refl)
+          (ap (λ t. t && has_width (ws v) (shape_of ws b)) (assigned_is ws n v w 1 a few is f)
+          ∙ as_wide_as ws n v w 1 b is g);
+      jump = λ to below. tt;
+      test = λ c taken other f low high. (condition_is ws n c 1 f, knows_below h (in_expr c) f.mentions);
+      returns = λ given.
+          let r = given_suits (proto_of l None).gives given in
+          (ap (λ g. is_returned ws g (result l ranges)) gives ∙ r.0, r.1);
+    }
+  where
+    given_suits : (o : Option Varnode)
+        → Gives ranges (widths_of h) (length h.params + length h.locals) o
+        → (is_returned (widths_of h) (width_of_result o) (result_in ranges o) ≡ true)
+        × Knows h (in_option (result_in ranges o))
+    given_suits None given = (refl, tt)
+    given_suits (Some v) given =
+        let ws = widths_of h in
+        let n = length h.params + length h.locals in
+        let e = E.Var (variable_of ranges v) in (
+          ap (λ k. has_width k (shape_of ws e)) (nearest_is v.size (given.0).0 (given.0).1)
+              ∙ width_is ws n e v.size 1 given.1,
+          knows_below h (in_expr e) (given.1).mentions,
+        )
