@@ -1,5 +1,5 @@
 -- What holds of each kind of statement and of exit holds of all blocks of the plain lowering.
-use Rattle.std.proofs.Common.{◌≡◌, ℕ, ◌+◌, ◌<◌, ◌≤◌, ◌^◌, Bool, true, false, List, [], ◌∷◌, ◌++◌, length, Option, Some, None, refl, sym, ap, ◌∙◌, subst, arith, inl, inr}
+use Rattle.std.proofs.Common.{◌≡◌, ℕ, ◌+◌, ◌<◌, ◌≤◌, ◌^◌, Bool, true, false, List, [], ◌∷◌, length, Option, Some, None, refl, sym, ◌∙◌, subst, arith, inl, inr}
 use Rattle.std.specs.Prelude.{cond, ◌==◌}
 use Rattle.std.proofs.lemmas.Option.{slice_get_within}
 use Rattle.bits_core.specs.declared.ops.Divide.{Divide}
@@ -28,7 +28,7 @@ use Rattle.blockcode.specs.declared.code.Exit.{Exit}
 use Rattle.blockcode.specs.declared.code.Exit.TheVariants as X
 use Rattle.op_values.specs.Nodes.{binary_node, constant, divides_by, division_node, nearest, statement_of, unary_node}
 use Rattle.op_values.proofs.Means.{nearest_is}
-use Rattle.op_code.specs.Made.{Read, ReadOne, address, address_of, computes, divides, divides_at, local_of, locals_by, name_of, offset_bytes, op_made, read_by, read_one, reads, set_by, sets, stores, variable_of}
+use Rattle.op_code.specs.Made.{Read, ReadOne, address, address_of, computes, divides, divides_at, local_of, name_of, offset_bytes, op_made, read_by, read_one, reads, set_by, sets, variable_of}
 use Rattle.op_code.specs.Form.{IsDirect, IsLocalBy, IsMemory, IsNarrow, IsOperand, IsOperandBy, IsOutput, IsOutputBy, IsPlainOp, IsResult}
 use Rattle.op_code.specs.Lowered.{WayOut, block_made, blocks_made, condition_in, directly, made_in, place_made, places_made, tests, way_out}
 use Rattle.op_code.specs.Lowerable.{IsPlain}

@@ -1,11 +1,10 @@
 -- The statements of the plain lowering fit its listing, and so do the parameters.
-use Rattle.std.proofs.Common.{◌≡◌, ℕ, suc, ◌≤◌, ◌^◌, Bool, true, false, List, [], ◌∷◌, length, map, Option, Some, None, refl, sym, ap, ◌∙◌, subst, arith}
+use Rattle.std.proofs.Common.{◌≡◌, ℕ, suc, ◌≤◌, ◌^◌, Bool, true, false, List, [], ◌∷◌, length, map, Some, None, refl, sym, ap, ◌∙◌, subst, arith}
 use Rattle.std.specs.Prelude.{◌==◌, ◌&&◌, cond, not, slice_get}
 use Rattle.std.proofs.lemmas.Bool.Decides.{nat_tests}
 use Rattle.pcode_model.specs.declared.atoms.Atom.{Atom}
 use Rattle.pcode_model.specs.declared.flow.Block as flow_block
 use Rattle.pcode_model.specs.declared.listing.Listing.{Listing}
-use Rattle.pcode_model.specs.declared.listing.SpaceKind.{SpaceKind}
 use Rattle.pcode_model.specs.declared.listing.SpaceKind.TheVariants.{Ram}
 use Rattle.pcode_model.specs.declared.listing.Varnode.{Varnode}
 use Rattle.pcode_model.specs.declared.storage.ParamStorage.{ParamStorage}

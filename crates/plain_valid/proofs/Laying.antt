@@ -1,5 +1,5 @@
 -- The code of the plain lowering can be laid out, and has no switch.
-use Rattle.std.proofs.Common.{◌≡◌, ℕ, zero, suc, ◌+◌, ◌<◌, ◌≤◌, ◌^◌, Bool, true, false, List, [], ◌∷◌, ◌++◌, length, map, Option, Some, None, refl, sym, ap, ◌∙◌, subst, arith}
+use Rattle.std.proofs.Common.{◌≡◌, ℕ, zero, suc, ◌+◌, ◌≤◌, ◌^◌, Bool, true, false, List, [], ◌∷◌, ◌++◌, length, Some, None, refl, sym, ap, ◌∙◌, subst, arith}
 use Rattle.std.specs.Prelude.{slice_get, ◌==◌, cond}
 use Rattle.std.proofs.lemmas.Option.{none-some, slice_get_within}
 use Rattle.pcode_model.specs.declared.listing.Varnode.{Varnode}
@@ -30,7 +30,7 @@ use Rattle.op_code.specs.Lowered.{block_made, blocks_made, condition_in, directl
 use Rattle.op_code.specs.Lowerable.{IsLowerable}
 use Rattle.op_code.proofs.Entering.{as_many, entry_found}
 use Rattle.plain_valid.proofs.EachKind.{AllHold, Kinds}
-use Rattle.plain_valid.proofs.Whole.{Named, each_block}
+use Rattle.plain_valid.proofs.Whole.{each_block}
 
 -- ---- statements: they call nothing
 

@@ -1,5 +1,5 @@
 -- The statements and exits of the plain lowering suit a head that has the variables which they name.
-use Rattle.std.proofs.Common.{◌≡◌, ℕ, ◌+◌, ◌<◌, ◌≤◌, ◌^◌, Bool, true, false, List, [], ◌∷◌, ◌++◌, length, map, Option, Some, None, refl, sym, ap, ◌∙◌, subst, arith}
+use Rattle.std.proofs.Common.{◌≡◌, ℕ, ◌+◌, ◌<◌, ◌≤◌, ◌^◌, Bool, true, false, List, [], ◌∷◌, ◌++◌, length, Option, Some, None, refl, sym, ap, ◌∙◌, arith}
 use Rattle.std.specs.Prelude.{◌==◌, ◌&&◌, cond, nat_lt, slice_get}
 use Rattle.std.specs.List.{AllByRecursion}
 use Rattle.std.proofs.lemmas.Bool.Decides.{nat_tests}
@@ -11,10 +11,10 @@ use Rattle.pcode_model.specs.Spaces.{first_ram, kind_in}
 use Rattle.pcode_model.specs.Step.{proto_of}
 use Rattle.pcode_model.specs.WellFormed.{IsNamedSpace}
 use Rattle.pcode_model.proofs.Members.{member_at, of_member}
-use Rattle.cmeaning.specs.declared.shape.Shape.{Shape}
 use Rattle.cmeaning.specs.declared.tree.Arm.{Arm}
 use Rattle.cmeaning.specs.declared.tree.Expr.{Expr}
 use Rattle.cmeaning.specs.declared.tree.Expr.TheVariants as E
+use Rattle.cmeaning.specs.declared.tree.StatementDivision.{StatementDivision}
 use Rattle.cmeaning.specs.declared.tree.Stmt.{Stmt, map-Stmt, roll-Stmt}
 use Rattle.cmeaning.specs.declared.tree.Stmt.TheOpen.{Stmt-F}
 use Rattle.cmeaning.specs.declared.tree.Stmt.TheVariants as S
@@ -26,9 +26,9 @@ use Rattle.naming.specs.declared.head.Head.{Head}
 use Rattle.naming.specs.Rules.{own_cased, own_rule, own_step}
 use Rattle.naming.specs.Run.{widths_of}
 use Rattle.naming.proofs.Rules.{rule_is}
+use Rattle.blockcode.specs.declared.code.Exit.TheVariants as X
 use Rattle.layout.specs.Suits.{BodySuits, ExitSuits, Knows}
 use Rattle.layout.proofs.Suiting.{knows_one, obey_one, suits_append, suits_none}
-use Rattle.op_values.specs.Nodes.{nearest}
 use Rattle.op_values.proofs.Means.{nearest_is}
 use Rattle.op_code.specs.Made.{name_in, name_of, variable_of}
 use Rattle.op_code.specs.Form.{IsMemory}
@@ -75,11 +75,11 @@ module _ (ws : ℕ → ℕ) (n : ℕ) where
   right_is e w d f = ap is_right f.is
 
   -- what has a variable's width
-  as_wide_as : (v w d : ℕ) (e : Expr)
+  has_its_width : (v w d : ℕ) (e : Expr)
       → IsVariable ws n v w
       → Fits ws n e w d
       → has_width (ws v) (shape_of ws e) ≡ true
-  as_wide_as v w d e is f = ap (λ k. has_width k (shape_of ws e)) is.width ∙ width_is e w d f
+  has_its_width v w d e is f = ap (λ k. has_width k (shape_of ws e)) is.width ∙ width_is e w d f
 
   assigned_is : (v w d : ℕ) (e : Expr)
       → n ≤ 2 ^ 32
@@ -87,7 +87,7 @@ module _ (ws : ℕ → ℕ) (n : ℕ) where
       → Fits ws n e w d
       → is_assigned ws v (shape_of ws e) ≡ true
   assigned_is v w d e few is f =
-      ap (λ b. b && has_width (ws v) (shape_of ws e)) (variable_is v w few is) ∙ as_wide_as v w d e is f
+      ap (λ b. b && has_width (ws v) (shape_of ws e)) (variable_is v w few is) ∙ has_its_width v w d e is f
 
   -- a leaf as a condition
   condition_is : (c : Expr) (w : ℕ) → Fits ws n c w 1 → is_condition (shape_of ws c) ≡ true
@@ -100,7 +100,7 @@ module _ (ws : ℕ → ℕ) (n : ℕ) where
 -- ---- below a head
 
 module _ (h : Head) where
-  abbrev pub variables : ℕ
+  abbrev variables : ℕ
   variables = length h.params + length h.locals
 
   knows_below : (xs : List Mention) → AllBelow variables xs → Knows h xs
@@ -124,64 +124,111 @@ module _ (h : Head) where
         (λ after. ap (λ (r : Rule). r.holds after false 255) (rule_is h leads s y is ∙ step leads) ∙ holds);
   }
 
--- The kinds of statements and exits suit a head, where the listing's spaces are named and the head gives the result.
-pub suit_kinds : (l : Listing) (ranges : List Varnode) (h : Head) (m : ℕ)
-    → length h.params + length h.locals ≤ 2 ^ 32
-    → AllByRecursion IsNamedSpace l.spaces
-    → h.gives ≡ result_width l
-    → Kinds l ranges (widths_of h) (length h.params + length h.locals) m (BodySuits h) (ExitSuits h)
-suit_kinds l ranges h m few named gives =
-    let ws = widths_of h in
-    let n = length h.params + length h.locals in
-    record {
-      none = suits_none h;
-      append = suits_append h;
-      assign = λ v w d e is f.
-          let s = S.Assign v e in
-          let y = Stmt-F.Assign v e in
-          one_suits h s y (Variable v ∷ in_expr e) _ (S.rolls-Assign v e) (in_statement s y (S.rolls-Assign v e))
-          (is.within, f.mentions) (λ leads. refl) (assigned_is ws n v w d e few is f);
-      load = λ v w s u d e is mem f.
-          let x = S.Load v (name_of l s) e in
-          let y = Stmt-F.Load v (name_of l s) e in
-          let rolls = S.rolls-Load v (name_of l s) e in
-          one_suits h x y (Variable v ∷ in_expr e) _ rolls (in_statement x y rolls) (is.within, f.mentions)
-          (λ leads. refl)
-          (ap (λ b. b && (is_space (name_of l s) && is_right (shape_of ws e))) (variable_is ws n v w few is)
-          ∙ ap (λ b. b && is_right (shape_of ws e)) (space_named l s named mem) ∙ right_is ws n e u d f);
-      store = λ s u d w c a e mem f g.
-          let x = S.Store (name_of l s) a e in
-          let y = Stmt-F.Store (name_of l s) a e in
-          let rolls = S.rolls-Store (name_of l s) a e in
-          one_suits h x y (in_expr a ++ in_expr e) _ rolls (in_statement x y rolls)
-          (below_append n (in_expr a) (in_expr e) f.mentions g.mentions) (λ leads. refl)
-          (ap (λ b. b && (is_right (shape_of ws a) && is_right (shape_of ws e))) (space_named l s named mem)
-          ∙ ap (λ b. b && is_right (shape_of ws e)) (right_is ws n a u d f) ∙ right_is ws n e w c g);
-      divide = λ op v w a b is f g.
-          let x = S.Divide v op a b in
-          let y = Stmt-F.Divide v op a b in
-          let rolls = S.rolls-Divide v op a b in
-          one_suits h x y (Variable v ∷ (in_expr a ++ in_expr b)) _ rolls (in_statement x y rolls)
-          (is.within, below_append n (in_expr a) (in_expr b) f.mentions g.mentions) (λ leads. refl)
-          (ap (λ t. t && has_width (ws v) (shape_of ws b)) (assigned_is ws n v w 1 a few is f)
-          ∙ as_wide_as ws n v w 1 b is g);
-      jump = λ to below. tt;
-      test = λ c taken other f low high. (condition_is ws n c 1 f, knows_below h (in_expr c) f.mentions);
-      returns = λ given.
-          let r = given_suits (proto_of l None).gives given in
-          (ap (λ g. is_returned ws g (result l ranges)) gives ∙ r.0, r.1);
-    }
-  where
-    given_suits : (o : Option Varnode)
-        → Gives ranges (widths_of h) (length h.params + length h.locals) o
-        → (is_returned (widths_of h) (width_of_result o) (result_in ranges o) ≡ true)
-        × Knows h (in_option (result_in ranges o))
-    given_suits None given = (refl, tt)
-    given_suits (Some v) given =
-        let ws = widths_of h in
-        let n = length h.params + length h.locals in
-        let e = E.Var (variable_of ranges v) in (
-          ap (λ k. has_width k (shape_of ws e)) (nearest_is v.size (given.0).0 (given.0).1)
-              ∙ width_is ws n e v.size 1 given.1,
-          knows_below h (in_expr e) (given.1).mentions,
-        )
+module _ (l : Listing) (ranges : List Varnode) (h : Head) (few : length h.params + length h.locals ≤ 2 ^ 32) where
+  abbrev Shaped : Expr → ℕ → ℕ → Type 0
+  Shaped e w d = Fits (widths_of h) (variables h) e w d
+
+  abbrev IsOwn : ℕ → ℕ → Type 0
+  IsOwn v w = IsVariable (widths_of h) (variables h) v w
+
+  -- ---- statements
+
+  assign_suits : (v w d : ℕ) (e : Expr) → IsOwn v w → Shaped e w d → BodySuits h (S.Assign v e ∷ [])
+  assign_suits v w d e is f =
+      let ws = widths_of h in
+      let s = S.Assign v e in
+      let y = Stmt-F.Assign v e in
+      one_suits h s y (Variable v ∷ in_expr e) (is_assigned ws v (shape_of ws e)) (S.rolls-Assign v e)
+      (in_statement s y (S.rolls-Assign v e)) (is.within, f.mentions) (λ leads. refl)
+      (assigned_is ws (variables h) v w d e few is f)
+
+  -- from a space without a name, or with a right one
+  load_suits : (v w u d : ℕ) (space : Option (List ℕ)) (e : Expr)
+      → IsOwn v w
+      → is_space space ≡ true
+      → Shaped e u d
+      → BodySuits h (S.Load v space e ∷ [])
+  load_suits v w u d space e is named f =
+      let ws = widths_of h in
+      let s = S.Load v space e in
+      let y = Stmt-F.Load v space e in
+      let right = is_right (shape_of ws e) in
+      one_suits h s y (Variable v ∷ in_expr e) (is_variable ws v && (is_space space && right)) (S.rolls-Load v space e)
+      (in_statement s y (S.rolls-Load v space e)) (is.within, f.mentions) (λ leads. refl)
+      (ap (λ b. b && (is_space space && right)) (variable_is ws (variables h) v w few is)
+      ∙ ap (λ b. b && right) named ∙ right_is ws (variables h) e u d f)
+
+  store_suits : (u d w c : ℕ) (space : Option (List ℕ)) (a e : Expr)
+      → is_space space ≡ true
+      → Shaped a u d
+      → Shaped e w c
+      → BodySuits h (S.Store space a e ∷ [])
+  store_suits u d w c space a e named f g =
+      let ws = widths_of h in
+      let n = variables h in
+      let s = S.Store space a e in
+      let y = Stmt-F.Store space a e in
+      let first = is_right (shape_of ws a) in
+      let second = is_right (shape_of ws e) in
+      one_suits h s y (in_expr a ++ in_expr e) (is_space space && (first && second)) (S.rolls-Store space a e)
+      (in_statement s y (S.rolls-Store space a e)) (below_append n (in_expr a) (in_expr e) f.mentions g.mentions)
+      (λ leads. refl)
+      (ap (λ b. b && (first && second)) named ∙ ap (λ b. b && second) (right_is ws n a u d f) ∙ right_is ws n e w c g)
+
+  divide_suits : (op : StatementDivision) (v w : ℕ) (a b : Expr)
+      → IsOwn v w
+      → Shaped a w 1
+      → Shaped b w 1
+      → BodySuits h (S.Divide v op a b ∷ [])
+  divide_suits op v w a b is f g =
+      let ws = widths_of h in
+      let n = variables h in
+      let s = S.Divide v op a b in
+      let y = Stmt-F.Divide v op a b in
+      let wide = has_width (ws v) (shape_of ws b) in
+      one_suits h s y (Variable v ∷ (in_expr a ++ in_expr b)) (is_assigned ws v (shape_of ws a) && wide)
+      (S.rolls-Divide v op a b) (in_statement s y (S.rolls-Divide v op a b))
+      (is.within, below_append n (in_expr a) (in_expr b) f.mentions g.mentions) (λ leads. refl)
+      (ap (λ t. t && wide) (assigned_is ws n v w 1 a few is f) ∙ has_its_width ws n v w 1 b is g)
+
+  -- ---- the result
+
+  result_suits : (o : Option Varnode)
+      → Gives ranges (widths_of h) (variables h) o
+      → (is_returned (widths_of h) (width_of_result o) (result_in ranges o) ≡ true)
+      × Knows h (in_option (result_in ranges o))
+  result_suits None given = (refl, tt)
+  result_suits (Some v) given =
+      let ws = widths_of h in
+      let e = E.Var (variable_of ranges v) in (
+        ap (λ k. has_width k (shape_of ws e)) (nearest_is v.size (given.0).0 (given.0).1)
+            ∙ width_is ws (variables h) e v.size 1 given.1,
+        knows_below h (in_expr e) (given.1).mentions,
+      )
+
+  return_suits : h.gives ≡ result_width l
+      → Gives ranges (widths_of h) (variables h) (proto_of l None).gives
+      → ExitSuits h (X.Return (result l ranges))
+  return_suits gives given =
+      let r = result_suits (proto_of l None).gives given in
+      (ap (λ g. is_returned (widths_of h) g (result l ranges)) gives ∙ r.0, r.1)
+
+  -- The kinds of statements and exits suit a head, where the listing's spaces are named and the head gives the result.
+  pub suit_kinds : (m : ℕ)
+      → AllByRecursion IsNamedSpace l.spaces
+      → h.gives ≡ result_width l
+      → Kinds l ranges (widths_of h) (length h.params + length h.locals) m (BodySuits h) (ExitSuits h)
+  suit_kinds m named gives = record {
+    none = suits_none h;
+    append = suits_append h;
+    assign = assign_suits;
+    load = λ v w s u d e is mem f. load_suits v w u d (name_of l s) e is (space_named l s named mem) f;
+    store = λ s u d w c a e mem f g. store_suits u d w c (name_of l s) a e (space_named l s named mem) f g;
+    divide = divide_suits;
+    jump = λ to below. tt;
+    test = λ c taken other f low high. (
+      condition_is (widths_of h) (variables h) c 1 f,
+      knows_below h (in_expr c) f.mentions,
+    );
+    returns = return_suits gives;
+  }

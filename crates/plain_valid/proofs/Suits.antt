@@ -1,5 +1,5 @@
 -- The blocks of the plain lowering suit its head.
-use Rattle.std.proofs.Common.{◌≡◌, ℕ, ◌+◌, ◌≤◌, ◌^◌, List, [], ◌∷◌, length, refl, sym, subst, arith}
+use Rattle.std.proofs.Common.{ℕ, ◌+◌, ◌≤◌, ◌^◌, List, [], ◌∷◌, length, refl, sym, subst}
 use Rattle.std.specs.List.{AllByRecursion}
 use Rattle.pcode_model.specs.declared.listing.Listing.{Listing}
 use Rattle.pcode_model.specs.declared.tables.TableAt.{TableAt}
@@ -11,14 +11,13 @@ use Rattle.naming.specs.declared.head.Head.{Head}
 use Rattle.naming.specs.Run.{widths_of}
 use Rattle.blockcode.specs.declared.code.Block.{Block}
 use Rattle.blockcode.specs.declared.code.Exit.{Exit}
-use Rattle.blockcode.specs.Run.{widths}
 use Rattle.layout.specs.Suits.{AllSuit, BodySuits, ExitSuits}
 use Rattle.op_code.specs.Lowered.{lowered, ranges_of}
 use Rattle.op_code.specs.Lowerable.{IsLowerable}
 use Rattle.plain_valid.specs.Function.{plain_head}
 use Rattle.plain_valid.proofs.EachKind.{AllHold, Kinds}
 use Rattle.plain_valid.proofs.Statements.{suit_kinds}
-use Rattle.plain_valid.proofs.Valid.{head, variables_declared, widths_kept}
+use Rattle.plain_valid.proofs.Valid.{few_declared, head, variables_declared, widths_kept}
 use Rattle.plain_valid.proofs.Whole.{each_block}
 
 -- What holds of each kind of statement and exit by the head's variables holds of all blocks.
@@ -52,5 +51,4 @@ plain_suits l t blocks atoms form few named =
     let h = plain_head l (lowered l blocks atoms) in
     all_suit h (lowered l blocks atoms).blocks
     (below_head l t blocks atoms (BodySuits h) (ExitSuits h) form few
-    (suit_kinds l (ranges_of l atoms) h (length blocks) (omega (arith, few, variables_declared l blocks atoms)) named
-    refl))
+    (suit_kinds l (ranges_of l atoms) h (few_declared l blocks atoms few) (length blocks) named refl))

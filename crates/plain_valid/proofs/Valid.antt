@@ -1,5 +1,5 @@
 -- The head of the plain lowering declares its variables, and its parameters are right.
-use Rattle.std.proofs.Common.{◌≡◌, ℕ, suc, ◌+◌, ◌≤◌, ◌^◌, true, false, List, [], ◌∷◌, ◌++◌, length, map, Option, None, refl, sym, ap, ◌∙◌, subst, arith}
+use Rattle.std.proofs.Common.{◌≡◌, ◌+◌, ◌≤◌, ◌^◌, true, false, List, [], ◌∷◌, ◌++◌, length, map, Option, refl, sym, ap, ◌∙◌, subst, arith}
 use Rattle.std.specs.Prelude.{Bool, ℤ, ◌&&◌, ◌<ℤ◌}
 use Rattle.std.specs.Int.Signed.{lt_z}
 use Rattle.std.proofs.lemmas.Bool.Decides.{nat_tests}
@@ -81,6 +81,11 @@ module _ (l : Listing) (blocks : List flow_block.Block) (atoms : List Atom) wher
   -- The head has as many variables as the code.
   pub variables_declared : length (lowered l blocks atoms).variables ≡ length head.params + length head.locals
   variables_declared = count_declared (lowered l blocks atoms).variables head.params head.locals plain_declares
+
+  -- They have numbers of 32 bits where those of the code do.
+  pub few_declared : length (lowered l blocks atoms).variables ≤ 2 ^ 32
+      → length head.params + length head.locals ≤ 2 ^ 32
+  few_declared few = omega (arith, few, variables_declared)
 
   -- They have the same widths.
   pub widths_kept : widths (lowered l blocks atoms).variables ≡ widths_of head
