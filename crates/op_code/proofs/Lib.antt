@@ -1,5 +1,6 @@
 pub mod Access
 pub mod Entering
+pub mod Numbers
 pub mod Operands
 pub mod Ops
 pub mod Sees
