@@ -3,3 +3,10 @@ pub mod Members
 pub mod Order
 pub mod Listed
 pub mod Coarsest
+pub mod Swept
+pub mod Passed
+pub mod Marked
+pub mod Placed
+pub mod Reach
+pub mod Found
+pub mod Worked
