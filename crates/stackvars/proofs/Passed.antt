@@ -7,8 +7,7 @@ use Rattle.pcode_model.specs.declared.listing.Storage.TheVariants.{At, Stack}
 use Rattle.pcode_model.specs.declared.listing.Varnode.{Varnode}
 use Rattle.pcode_model.specs.declared.atoms.Atom.{Atom}
 use Rattle.pcode_model.specs.Atoms.{further_ranges, one_range, op_ranges, ranges_read}
-use Rattle.pcode_model.specs.Rules.{past_first}
-use Rattle.pcode_model.specs.Step.{all_but_first, all_read, arguments, operands}
+use Rattle.pcode_model.specs.Step.{arguments, operands}
 use Rattle.stackvars.specs.Accesses.{passed}
 use Rattle.stackvars.specs.Collected.{atoms_of}
 use Rattle.stackvars.proofs.Ops.{atoms_of_both}
@@ -18,14 +17,6 @@ pub reads_passed : (n : ℕ) (args : List Storage) → ranges_read (arguments n 
 reads_passed n [] = refl
 reads_passed n (At v ∷ args) = ap (λ (vs : List Varnode). v ∷ vs) (reads_passed (suc n) args)
 reads_passed n (Stack offset size ∷ args) = reads_passed (suc n) args
-
-pub reads_all : (vs : List Varnode) → ranges_read (all_read vs) ≡ vs
-reads_all [] = refl
-reads_all (v ∷ vs) = ap (λ (xs : List Varnode). v ∷ xs) (reads_all vs)
-
-pub reads_rest : (vs : List Varnode) → ranges_read (all_but_first vs) ≡ past_first vs
-reads_rest [] = refl
-reads_rest (v ∷ vs) = reads_all vs
 
 -- the operands of an op, its output, and what it accesses further
 pub parts_pushed : (l : Listing) (op : Op) (out : List Atom)

@@ -23,16 +23,16 @@ use Rattle.stackvars.proofs.Marked.{Accessed, Bounds, OffStack, Over, access_mar
 
 -- ---- areas
 
-registers_uniques : Registers ≡ Uniques → ⊥
+pub registers_uniques : Registers ≡ Uniques → ⊥
 registers_uniques e = cc
 
-registers_stacked : Registers ≡ Stacked → ⊥
+pub registers_stacked : Registers ≡ Stacked → ⊥
 registers_stacked e = cc
 
-uniques_stacked : Uniques ≡ Stacked → ⊥
+pub uniques_stacked : Uniques ≡ Stacked → ⊥
 uniques_stacked e = cc
 
-same_number : (m n : ℕ) → pos m ≡ pos n → m ≡ n
+pub same_number : (m n : ℕ) → pos m ≡ pos n → m ≡ n
 same_number m n e = cc
 
 -- ---- a piece's storage

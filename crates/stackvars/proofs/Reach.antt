@@ -36,6 +36,7 @@ use Rattle.pcode_laws.proofs.Rules.{breaks_none, neither}
 use Rattle.instructions.proofs.Apart.{found_in}
 use Rattle.stackvars.specs.Accesses.{passed}
 use Rattle.stackvars.specs.Cuts.{AreInReach, IsInReach}
+use Rattle.stackvars.proofs.Ops.{read_all, read_past}
 use Rattle.stackvars.proofs.Passed.{reads_passed}
 use Rattle.stackvars.proofs.Marked.{OneOf, all_kept, argument_at, kept_at, of}
 
@@ -118,13 +119,10 @@ record GoodProto (p : Proto) : Type 0 where
 
 -- a varnode of what is read
 read_back : (vs : List Varnode) (v : Varnode) → IsIn v (ranges_read (all_read vs)) → IsIn v vs
-read_back [] v is = absurd is
-read_back (x ∷ vs) v (inl e) = inl e
-read_back (x ∷ vs) v (inr is) = inr (read_back vs v is)
+read_back vs v is = subst (λ (xs : List Varnode). IsIn v xs) (read_all vs) is
 
 read_rest : (vs : List Varnode) (v : Varnode) → IsIn v (ranges_read (all_but_first vs)) → IsIn v (past_first vs)
-read_rest [] v is = absurd is
-read_rest (x ∷ vs) v is = read_back vs v is
+read_rest vs v is = subst (λ (xs : List Varnode). IsIn v xs) (read_past vs) is
 
 of_rest : (vs : List Varnode) (v : Varnode) → IsIn v (past_first vs) → IsIn v vs
 of_rest [] v is = absurd is

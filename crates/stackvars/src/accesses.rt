@@ -101,7 +101,7 @@ fn push_indirect_call(
     }
 }
 
-#[tactic(auto, using(crate::proofs::Passed::reads_all, crate::proofs::Passed::reads_rest))]
+#[tactic(auto, using(crate::proofs::Ops::read_all, crate::proofs::Ops::read_past))]
 fn push_operands(out: &mut Vec<Atom>, listing: &Listing, op: &Op) -> Result<(), Memory>
     ensures { OnOk result (out.new.items
         ≡ out.old.items ++ atoms_of listing.now (ranges_read (operands listing.now op.now.code op.now.inputs))) }

@@ -10,10 +10,10 @@
 //! atom that lies in an access begins and ends where the access does.
 //!
 //! The atoms of any listing without frame variables are found in `cuts` by one sweep. Both ends of each access, of each
-//! register argument and of each kept range become marks of one line, which has the register space and, past all its ends,
-//! the unique space. The mark where an access begins says how far the access goes. The marks are sorted, and a walk over them
-//! carries the last mark and how far the accesses so far go: from one mark to the next there is an atom exactly where that
-//! is past the last mark. So it takes n log n steps.
+//! register argument and of each kept range become marks of one line, which has the register space and, past all its
+//! ends, the unique space. The mark where an access begins says how far the access goes. The marks are sorted, and a walk
+//! over them carries the last mark and how far the accesses so far go: from one mark to the next there is an atom exactly
+//! where that is past the last mark. So it takes n log n steps.
 #![tactic(auto)]
 
 mod accessed;
