@@ -144,7 +144,8 @@ cuts_end (x ∷ vs) v (inr is) = inr (inr (cuts_end vs v is))
 
 pub cuts_of_both : (vs ws : List Varnode) → more_cuts (vs ++ ws) ≡ more_cuts vs ++ more_cuts ws
 cuts_of_both [] ws = refl
-cuts_of_both (v ∷ vs) ws = ap (λ (ms : List Mark). mark v.offset 0 ∷ mark (v.offset + v.size) 0 ∷ ms) (cuts_of_both vs ws)
+cuts_of_both (v ∷ vs) ws =
+    ap (λ (ms : List Mark). mark v.offset 0 ∷ mark (v.offset + v.size) 0 ∷ ms) (cuts_of_both vs ws)
 
 -- what any of these prototypes keeps
 abbrev pub all_kept : List Proto → List Varnode
@@ -182,12 +183,14 @@ pub argument_at : (args : List Storage) (s : ParamStorage) (k : ℕ)
 argument_at [] s k off is = absurd is
 argument_at (At x ∷ args) s k off (inl e) = (x, (inl refl, e))
 argument_at (At x ∷ args) s k off (inr is) = more_of x (passed args) (model.range s k) (argument_at args s k off is)
-argument_at (Stack offset size ∷ args) (P.Register o) k off (inl e) = absurd (not_stacked (ap (λ (r : Range). r.storage) e)) where
-  not_stacked : P.Register o ≡ P.Stack (pos offset) → ⊥
-  not_stacked h = cc
-argument_at (Stack offset size ∷ args) (P.Unique o) k off (inl e) = absurd (not_stacked (ap (λ (r : Range). r.storage) e)) where
-  not_stacked : P.Unique o ≡ P.Stack (pos offset) → ⊥
-  not_stacked h = cc
+argument_at (Stack offset size ∷ args) (P.Register o) k off (inl e) =
+    absurd (not_stacked (ap (λ (r : Range). r.storage) e)) where
+      not_stacked : P.Register o ≡ P.Stack (pos offset) → ⊥
+      not_stacked h = cc
+argument_at (Stack offset size ∷ args) (P.Unique o) k off (inl e) =
+    absurd (not_stacked (ap (λ (r : Range). r.storage) e)) where
+      not_stacked : P.Unique o ≡ P.Stack (pos offset) → ⊥
+      not_stacked h = cc
 argument_at (Stack offset size ∷ args) (P.Stack o) k off (inl e) = absurd off
 argument_at (Stack offset size ∷ args) s k off (inr is) = argument_at args s k off is
 
@@ -233,7 +236,8 @@ module _ (l : Listing) (bs : List Block) (flow : IsFlow l [] bs) (differ : regis
   line = marks l (atoms_in l bs)
 
   in_accesses : (m : Mark) → IsIn m accesses → IsIn m line
-  in_accesses m is = in_front (accesses ++ more_cuts own) (kept_marks l.protos) m (in_front accesses (more_cuts own) m is)
+  in_accesses m is =
+      in_front (accesses ++ more_cuts own) (kept_marks l.protos) m (in_front accesses (more_cuts own) m is)
 
   in_own : (m : Mark) → IsIn m (more_cuts own) → IsIn m line
   in_own m is = in_front (accesses ++ more_cuts own) (kept_marks l.protos) m (behind accesses (more_cuts own) m is)

@@ -229,8 +229,10 @@ module _
         accessed = acc;
         inside = (refl, (p.begin - o, (ap pos (omega arith), omega arith)));
       } in (
-        (some, (omega arith, ((λ less. omega arith), omega arith))),
-        subst (IsAtom l [] no_variables) (sym (atom_is p (P.Register p.begin) size (register_at p.begin (omega arith)) refl)) made,
+        record { some = some; narrow = omega arith; register = λ less. omega arith; unique = omega arith },
+        subst (IsAtom l [] no_variables)
+            (sym (atom_is p (P.Register p.begin) size (register_at p.begin (omega arith)) refl))
+            made,
       )
 
   unique_piece : (p : Piece) (o k : ℕ)
@@ -258,8 +260,10 @@ module _
         accessed = acc;
         inside = (refl, (at - o, (ap pos (omega arith), omega arith)));
       } in (
-        (some, (omega arith, ((λ less. absurd (omega arith)), omega arith))),
-        subst (IsAtom l [] no_variables) (sym (atom_is p (P.Unique at) size (unique_at p.begin (omega arith)) refl)) made,
+        record { some = some; narrow = omega arith; register = λ less. absurd (omega arith); unique = omega arith },
+        subst (IsAtom l [] no_variables)
+            (sym (atom_is p (P.Unique at) size (unique_at p.begin (omega arith)) refl))
+            made,
       )
 
   placed_by : (p : Piece) (s : ParamStorage) (k : ℕ)

@@ -214,7 +214,10 @@ module _ (l : Listing) (read : IsWellFormed l) (checked : first_bad l ≡ None) 
 
   -- ---- an op
 
-  off_space : (v : Varnode) → IsLocal l v.space → leaves_space l v ≡ false → leaves l.spaces v.space v.offset v.size ≡ false
+  off_space : (v : Varnode)
+      → IsLocal l v.space
+      → leaves_space l v ≡ false
+      → leaves l.spaces v.space v.offset v.size ≡ false
   off_space v is e =
       subst (λ (b : Bool). (not b && leaves l.spaces v.space v.offset v.size) ≡ false) (local_space l read v.space is) e
 
@@ -331,7 +334,10 @@ module _ (l : Listing) (read : IsWellFormed l) (checked : first_bad l ≡ None) 
       let r = by_place l v (instruction_in l.code acc.at.address) acc.at.index acc.range in
       good_op r.0 (found_in l.code acc.at.address r.0 r.1.0).0 r.1.1.0 r.1.1.1.0 v acc.is_local r.1.1.1.1
 
-  good_one : (vs : List Varnode) (o k : ℕ) → AllGood vs → OneOf vs (model.range (P.Register o) k) → Good (model.varnode 0 o k)
+  good_one : (vs : List Varnode) (o k : ℕ)
+      → AllGood vs
+      → OneOf vs (model.range (P.Register o) k)
+      → Good (model.varnode 0 o k)
   good_one vs o k all one =
       let same : model.range (P.Register o) k ≡ of one.0 = one.1.1 in
       let at : o ≡ one.0.offset = same_offset o one.0.offset (ap (λ (r : model.Range). r.storage) same) in
@@ -360,7 +366,8 @@ module _ (l : Listing) (read : IsWellFormed l) (checked : first_bad l ≡ None) 
   reach_by (P.Unique o) k (inr (inl is)) =
       absurd (no_unique (passed (proto_of l None).args) o k (argument_at (proto_of l None).args (P.Unique o) k tt is))
   reach_by (P.Register o) k (inr (inr is)) =
-      good_one (all_kept l.protos) o k (good_kept l.protos read.protos) (kept_at l.protos (model.range (P.Register o) k) is)
+      good_one (all_kept l.protos) o k (good_kept l.protos read.protos)
+      (kept_at l.protos (model.range (P.Register o) k) is)
   reach_by (P.Unique o) k (inr (inr is)) =
       absurd (no_unique (all_kept l.protos) o k (kept_at l.protos (model.range (P.Unique o) k) is))
   reach_by (P.Stack o) k cuts = tt

@@ -22,7 +22,8 @@ mark n r = record { position = n; reach = r }
 abbrev pub swept : ℕ → ℕ → List Mark → List Piece
 swept a r [] = []
 swept a r (m ∷ ms) =
-    if nat_lt a m.position && nat_lt a r then piece a m.position ∷ swept m.position (max r m.reach) ms else swept m.position (max r m.reach) ms
+    if nat_lt a m.position && nat_lt a r then piece a m.position ∷ swept m.position (max r m.reach) ms
+    else swept m.position (max r m.reach) ms
 
 -- no mark stands before the one before it
 abbrev pub Climbs : ℕ → List Mark → Type 0
@@ -95,8 +96,10 @@ module _
   marked_there n le (x, (inr (inr is), at)) = (x, (inr is, at))
 
   from_there : (n : ℕ) → IsMarked there n → m.position ≤ n
-  from_there n (x, (inl e, at)) = let f : x.position ≡ m.position = ap (λ (y : Mark). y.position) e in omega (arith, f, at)
-  from_there n (x, (inr is, at)) = let f : m.position ≤ x.position = least m.position ms up x is in omega (arith, f, at)
+  from_there n (x, (inl e, at)) =
+      let f : x.position ≡ m.position = ap (λ (y : Mark). y.position) e in omega (arith, f, at)
+  from_there n (x, (inr is, at)) =
+      let f : m.position ≤ x.position = least m.position ms up x is in omega (arith, f, at)
 
   under_here : (n : ℕ) → IsUnder there n → IsUnder here n
   under_here n (x, (inl e, at)) =
@@ -183,7 +186,10 @@ module _
       let f : m.position ≤ x.position = least m.position ms up x is in absurd (omega (arith, f, at.0, less))
 
   -- a piece that begins before m
-  pub only : (p : Piece) → p.begin < m.position → IsPiece here p → (p ≡ piece a m.position) × ((a < m.position) × (a < r))
+  only : (p : Piece)
+      → p.begin < m.position
+      → IsPiece here p
+      → (p ≡ piece a m.position) × ((a < m.position) × (a < r))
   only p less is =
       let b : p.begin ≡ a = begin_is p.begin less is.begins in
       let e : p.end ≡ m.position = end_is p b less is in (

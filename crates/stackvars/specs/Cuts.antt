@@ -61,8 +61,11 @@ marks l accessed = (opens accessed ++ more_cuts (passed (proto_of l None).args))
 -- ---- from the line back to storage
 
 -- a piece of one space
-abbrev pub Fits : Piece → Type 0
-Fits p = (p.begin < p.end) × ((p.end < p.begin + 2 ^ 32) × ((p.begin < uniques → p.begin < 2 ^ 64) × (p.begin < uniques + 2 ^ 64)))
+pub record Fits (p : Piece) : Type 0 where
+  pub some : p.begin < p.end
+  pub narrow : p.end < p.begin + 2 ^ 32
+  pub register : p.begin < uniques → p.begin < 2 ^ 64
+  pub unique : p.begin < uniques + 2 ^ 64
 
 abbrev pub atom : Piece → Atom
 atom p = record {

@@ -19,8 +19,8 @@ atoms_of-requires c =
     let marked : c.in_ok-marks.marks.items ≡ marks l c.in_ok-accessed.accessed.items =
     c.in_ok-marks.ensures ∙ ap (λ (xs : List Atom). marks l xs) c.deref.ensures.value in
     let fit : AllByRecursion Fits c.in_ok-pieces.pieces.items =
-    found_fit l c.args.flow.now c.requires.flow c.requires.read c.requires.ops c.in_ok-accessed.accessed.items accessed
-    c.in_ok-marks.marks.items marked c.in_ok-pieces.pieces.items c.in_ok-pieces.ensures in
+    found_fit l c.args.flow.now c.requires.flow c.requires.read c.requires.ops
+    c.in_ok-accessed.accessed.items accessed c.in_ok-marks.marks.items marked c.in_ok-pieces.pieces.items c.in_ok-pieces.ensures in
     subst (λ (ps : List Piece). AllByRecursion Fits ps) (sym c.deref-2.ensures.value) fit
 
 pub returns : goal.returns
@@ -31,8 +31,8 @@ returns c =
     let marked : c.in_ok-marks.marks.items ≡ marks l c.in_ok-accessed.accessed.items =
     c.in_ok-marks.ensures ∙ ap (λ (xs : List Atom). marks l xs) c.deref.ensures.value in
     let good : AreAtoms l [] no_variables (atoms_of c.in_ok-pieces.pieces.items) =
-    found_atoms l c.args.flow.now c.requires.flow c.requires.read c.requires.ops c.in_ok-accessed.accessed.items accessed
-    c.in_ok-marks.marks.items marked c.in_ok-pieces.pieces.items c.in_ok-pieces.ensures in
+    found_atoms l c.args.flow.now c.requires.flow c.requires.read c.requires.ops
+    c.in_ok-accessed.accessed.items accessed c.in_ok-marks.marks.items marked c.in_ok-pieces.pieces.items c.in_ok-pieces.ensures in
     IfOk-weaker c.atoms_of.result _ _
     (λ x e. subst (λ (xs : List Atom). AreAtoms l [] no_variables xs)
     (sym (e ∙ ap (λ (ps : List Piece). atoms_of ps) c.deref-2.ensures.value)) good)

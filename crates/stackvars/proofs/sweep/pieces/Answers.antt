@@ -11,12 +11,15 @@ pub sweep-requires : goal.sweep-requires
 sweep-requires c =
     let sorted : List Mark = c.sort_by_key.new.self.items in
     let up : IsNonDecreasingBy position_of sorted =
-    IsNonDecreasingBy-from_sort_by_key position_of sorted c.in_ok-sort_by_key.ensures.sorted (λ a r q k. search rules) in
+    IsNonDecreasingBy-from_sort_by_key position_of sorted c.in_ok-sort_by_key.ensures.sorted
+    (λ a r q k. search rules)
+    in
     subst (λ (ms : List Mark). IsNonDecreasingBy position_of ms) (sym c.deref.ensures.value) up
 
 pub returns : goal.returns
 returns c =
     IfOk-weaker c.sweep.result _ _
-    (λ ps are. pieces_moved c.args.marks.items c.sort_by_key.new.self.items c.in_ok-sort_by_key.ensures.permutation ps.items
+    (λ ps are.
+    pieces_moved c.args.marks.items c.sort_by_key.new.self.items c.in_ok-sort_by_key.ensures.permutation ps.items
     (subst (λ (ms : List Mark). ArePieces ms ps.items) c.deref.ensures.value are))
     c.sweep.ensures

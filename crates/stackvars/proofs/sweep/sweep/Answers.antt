@@ -13,5 +13,6 @@ returns c =
     drop_all c.loop-mark.mark-index c.args.marks.now (omega arith) in
     let same : out ≡ swept 0 0 c.args.marks.now =
     sym (append-nil out)
-    ∙ (ap (λ (ms : List Mark). out ++ swept c.loop-mark.begin c.loop-mark.reach ms) (sym past) ∙ c.loop-mark.invariant) in
+    ∙ (ap (λ (ms : List Mark). out ++ swept c.loop-mark.begin c.loop-mark.reach ms) (sym past)
+    ∙ c.loop-mark.invariant) in
     subst (λ (ps : List Piece). ArePieces c.args.marks.now ps) (sym same) (are_pieces c.args.marks.now c.requires)
