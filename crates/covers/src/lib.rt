@@ -8,8 +8,8 @@
 //! A cover of one is the variable itself, and nothing more stands for reading or writing it.
 //!
 //! A word of several is the concatenation of theirs, from the most significant one on: the last one first where the
-//! space has the little end first, and the first one first where it has the big end (`proofs/Reads.antt`). A word is
+//! space has the little end first, and the first one first where it has the big end (`proofs/Reading.antt`). A word is
 //! written by way of a local, which keeps it whole while the variables are assigned its parts by rising offset. After
 //! so many of them the variables hold the words of bytes in which as many bytes of the word are written; with the last
-//! one it is the whole word (`proofs/Writes.antt`).
+//! one it is the whole word (`proofs/Writing.antt`).
 #![tactic(auto)]
