@@ -24,13 +24,13 @@ read_range big ranges v = joined (if big then cover ranges v else reverse (cover
 -- ---- writing
 
 -- how many bytes of the word of a range are less significant than a range in it
-abbrev pub below : Bool → Varnode → Varnode → ℕ
-below big v a = place_of_part big v.size (a.offset - v.offset) a.size
+abbrev pub bytes_below : Bool → Varnode → Varnode → ℕ
+bytes_below big v a = place_of_part big v.size (a.offset - v.offset) a.size
 
 -- a variable is assigned its part of the word that a local holds for a range
 abbrev pub assigns_part : Bool → Varnode → ℕ → Piece → Stmt
 assigns_part big v local p =
-    S.Assign p.variable (part_node v.size (below big v p.range) p.range.size (E.Var local))
+    S.Assign p.variable (part_node v.size (bytes_below big v p.range) p.range.size (E.Var local))
 
 -- One variable is written without a local, so nothing is done then.
 abbrev pub parts_by : Bool → Varnode → ℕ → List Piece → List Stmt
