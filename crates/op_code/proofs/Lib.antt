@@ -1,4 +1,8 @@
 pub mod Access
+pub mod Rows
+pub mod Bytes
+pub mod Reading
+pub mod Writing
 pub mod Entering
 pub mod Numbers
 pub mod Operands

@@ -1,4 +1,6 @@
 pub mod Form
+pub mod Cover
+pub mod Words
 pub mod Made
 pub mod Sources
 pub mod Numbers

@@ -9,7 +9,7 @@ use Rattle.pcode_model.specs.declared.listing.Listing.{Listing}
 use Rattle.pcode_model.specs.Spaces.{size_of}
 use Rattle.range_words.specs.Ranges.{AreApart, IsTable}
 use Rattle.cmeaning.specs.Places.{place}
-use Rattle.covers.specs.Cover.{Begins, HasCover, IsRow, Piece, begins, cover, piece_by, piece_of, pieces_at, pieces_from}
+use Rattle.op_code.specs.Cover.{Begins, HasCover, IsRow, Piece, begins, cover, piece_by, piece_of, pieces_at, pieces_from}
 
 -- ---- the first place in a list
 

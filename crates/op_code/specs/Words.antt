@@ -7,7 +7,7 @@ use Rattle.cmeaning.specs.declared.tree.Expr.TheVariants as E
 use Rattle.cmeaning.specs.declared.tree.Stmt.{Stmt}
 use Rattle.cmeaning.specs.declared.tree.Stmt.TheVariants as S
 use Rattle.op_values.specs.Nodes.{constant, part_node}
-use Rattle.covers.specs.Cover.{Piece, cover}
+use Rattle.op_code.specs.Cover.{Piece, cover}
 
 -- ---- reading
 

@@ -16,10 +16,10 @@ use Rattle.cmeaning.specs.declared.tree.Expr.TheVariants as E
 use Rattle.cmeaning.specs.Value.{width_of}
 use Rattle.cmeaning.proofs.Value.{value_of_concat, value_of_var, width_of_concat, width_of_var}
 use Rattle.op_values.proofs.Means.{Means, two}
-use Rattle.covers.specs.Cover.{Begins, HasCover, IsRow, Piece, cover}
-use Rattle.covers.specs.Words.{joined, read_range}
-use Rattle.covers.proofs.Bytes.{word_split_big, word_split_little}
-use Rattle.covers.proofs.Rows.{row_rises}
+use Rattle.op_code.specs.Cover.{Begins, HasCover, IsRow, Piece, cover}
+use Rattle.op_code.specs.Words.{joined, read_range}
+use Rattle.op_code.proofs.Bytes.{word_split_big, word_split_little}
+use Rattle.op_code.proofs.Rows.{row_rises}
 
 -- the variables of the ranges have the ranges' widths, as far as these are widths
 abbrev pub HaveWidths : List Varnode → (ℕ → ℕ) → Type 0

@@ -28,11 +28,11 @@ use Rattle.blockcode.proofs.Straight.{run_all}
 use Rattle.op_values.specs.Nodes.{part_node}
 use Rattle.op_values.proofs.Means.{Means}
 use Rattle.op_values.proofs.Parts.{part_means}
-use Rattle.covers.specs.Cover.{Begins, HasCover, IsRow, Piece, cover}
-use Rattle.covers.specs.Words.{assigns_part, bytes_below, parts_by, target, target_by, write_range}
-use Rattle.covers.proofs.Bytes.{each_split}
-use Rattle.covers.proofs.Reading.{cover_inside}
-use Rattle.covers.proofs.Rows.{row_rises}
+use Rattle.op_code.specs.Cover.{Begins, HasCover, IsRow, Piece, cover}
+use Rattle.op_code.specs.Words.{assigns_part, bytes_below, parts_by, target, target_by, write_range}
+use Rattle.op_code.proofs.Bytes.{each_split}
+use Rattle.op_code.proofs.Reading.{cover_inside}
+use Rattle.op_code.proofs.Rows.{row_rises}
 
 -- this is none of their variables
 abbrev pub IsOther : List Piece → ℕ → Type 0
