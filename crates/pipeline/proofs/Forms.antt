@@ -31,13 +31,17 @@ use Rattle.ctext.specs.Text.{text_of}
 use Rattle.naming.specs.declared.head.Head.{Head}
 use Rattle.blockcode.specs.declared.code.Code.{Code}
 use Rattle.layout.specs.Function.{head_of, laid_out}
-use Rattle.plaincode.specs.Form as code
-use Rattle.plaincode.specs.Lowered.{lowered, result_width}
+use Rattle.op_code.specs.Lowerable as code
+use Rattle.op_code.specs.Lowered.{lowered, result_width}
 use Rattle.plain_valid.specs.Function.{plain_function}
-use Rattle.plain_valid.proofs.Fit.{plain_fits}
+use Rattle.plain_valid.proofs.Fit.{plain_body_fits, plain_params_fit}
+use Rattle.plain_valid.proofs.Laying.{can_lay}
 use Rattle.plain_valid.proofs.Long.{atoms_long}
 use Rattle.plain_valid.proofs.Signature.{plain_inputs}
-use Rattle.plain_valid.proofs.Valid.{plain_valid}
+use Rattle.plain_valid.proofs.Suits.{plain_suits}
+use Rattle.plain_valid.proofs.Valid.{few_variables, params_right}
+use Rattle.layout_laws.proofs.Fits.{laid_fits}
+use Rattle.layout_laws.proofs.Obeys.{laid_valid}
 use Rattle.plain_form.proofs.Accessed.{accessed_inside}
 use Rattle.plain_form.proofs.Form.{plain_form}
 use Rattle.plain_form.proofs.Formed.{Inside}
@@ -75,23 +79,37 @@ module _
     are_atoms : AreAtoms l [] no_variables atoms
     are_atoms = accessed_are_atoms l atoms (uncut l read good built) are.listed
 
-    few_variables : length atoms ≤ 2 ^ 32
-    few_variables = omega (arith, are.few)
+    abbrev made : Code
+    made = lowered l blocks atoms
 
-    -- All that is said of the function of the plain lowering.
-    pub lowers : Lowers l (plain_function l blocks atoms)
-    lowers = record {
-      valid = plain_valid l [] blocks atoms form are.listed.in_order
-          (atoms_long l [] atoms are_atoms (λ v acc. (accessed_inside l built (formed_is l read good) v acc).low))
-          few_variables read.named.func;
-      fits = plain_fits l [] blocks atoms form few_variables;
-      agrees = keeps.agrees l (frame_of l no_variables) [] blocks atoms form few_variables;
-      form = record {
-        name = refl;
-        gives = gives_is l read good;
-        params = (atoms, (are_atoms, plain_inputs l [] blocks atoms form));
-      };
-    }
+    abbrev head : Head
+    head = plain_head l made
+
+    module _ (small : length made.variables ≤ 2 ^ 32) where
+      valid : IsValid (plain_function l blocks atoms)
+      valid = laid_valid head made (can_lay (λ a. true) l [] blocks atoms form).numbers
+          (plain_suits l [] blocks atoms form small) (few_variables l blocks atoms small) read.named.func
+          (params_right l [] blocks atoms form are.listed.in_order
+          (atoms_long l [] atoms are_atoms (λ v acc. (accessed_inside l built (formed_is l read good) v acc).low)))
+          refl
+
+      fits : Fits l (plain_function l blocks atoms)
+      fits = laid_fits l head made (plain_body_fits l [] blocks atoms form)
+          (plain_params_fit l [] blocks atoms form)
+          (keeps.plain_covered l [] blocks atoms form built.stack (space_some l (first_ram l)) small)
+
+      -- All that is said of the function of the plain lowering.
+      pub lowers : Lowers l (plain_function l blocks atoms)
+      lowers = record {
+        valid = valid;
+        fits = fits;
+        agrees = keeps.agrees l [] blocks atoms form built.stack (space_some l (first_ram l)) small;
+        form = record {
+          name = refl;
+          gives = gives_is l read good;
+          params = (atoms, (are_atoms, plain_inputs l [] blocks atoms form));
+        };
+      }
 
 -- The same of a function that is this one.
 pub lowers_to : (l : Listing) (f g : CFunction) → f ≡ g → Lowers l g → Lowers l f
