@@ -1,4 +1,5 @@
 pub mod Access
+pub mod Numbers
 pub mod Operands
 pub mod Ops
 pub mod Sees

@@ -11,4 +11,22 @@
 //! variable holds the word of each range, the memories look the same and both hold bytes, the statements lead to such
 //! states again, or to the same end. A local is no range, so it changes nothing that is asked of the variables; and
 //! where an op ends the run before its last statement, the statements behind do nothing.
+//!
+//! The code makes the lists of the definition by adding to those that there are: what is read, the statement and what
+//! is stored go behind a body, and locals behind the variables, whose count is the next one's number. Each function
+//! adds a whole of the definition, an operand, a pair of them, an output or an op, so that its contract is the
+//! definition's name and one append. A range's variable is found in a table, made once for all ops
+//! (`specs/Numbers.antt`). A further operation is a case of `op_made`, of the form in `specs/Form.antt`, of
+//! `proofs/Ops.antt` and of `src/statements.rt`.
 #![tactic(auto)]
+
+mod locals;
+mod memory;
+mod outputs;
+mod reads;
+mod statements;
+mod table;
+
+pub use reads::read;
+pub use statements::add_op;
+pub use table::Table;

@@ -48,7 +48,8 @@ use Rattle.plain_form.proofs.Formed.{Inside}
 use Rattle.pipeline.specs.Passed.{Lowers}
 use Rattle.pipeline.specs.PlainForm.{IsPlainForm}
 use Rattle.pipeline.specs.Verdict.{Accepts, IsCause, MayPrint, Stops}
-use Rattle.pipeline.proofs.Formed.{formed_is, gives_is, uncut}
+use Rattle.plain_form.proofs.Read.{formed_is}
+use Rattle.pipeline.proofs.Formed.{gives_is, uncut}
 use Rattle.pipeline.proofs.Keeps as keeps
 
 all_in_space : (l : Listing) (vs : List Varnode) → ((v : Varnode) → IsIn v vs → Inside l v) → AllInSpace vs

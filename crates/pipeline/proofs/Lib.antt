@@ -1,6 +1,5 @@
 pub mod Keeps
 pub mod Forms
-pub mod Spaces
 pub mod Formed
 pub mod Ordered
 pub mod Verdicts

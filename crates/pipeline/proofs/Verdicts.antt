@@ -18,13 +18,14 @@ use Rattle.flow.specs.declared.answer.FlowFault.TheVariants as F
 use Rattle.stackvars.specs.Accessed as listed
 use Rattle.stackvars.specs.Accessed.{AccessesSoMany, ListsAccessed}
 use Rattle.stackvars.specs.declared.accessed.AtomFault.TheVariants as A
+use Rattle.stackvars.proofs.Coarsest.{same_atom}
 use Rattle.plain_form.proofs.Form.{spaces_differ}
 use Rattle.plain_form.proofs.Formed.{IsFormed}
+use Rattle.plain_form.proofs.Read.{formed_is}
 use Rattle.refusals.specs.Good.{Bytes, RefusedBy}
 use Rattle.refusals.specs.declared.refusal.Refusal.{Refusal}
 use Rattle.refusals.specs.declared.refusal.Refusal.TheVariants as R
 use Rattle.pipeline.specs.Verdict.{Accepts, IsAccepted, IsRefused}
-use Rattle.pipeline.proofs.Formed.{formed_is}
 use Rattle.pipeline.proofs.Ordered.{same_atoms, same_places}
 
 -- ---- as many blocks, and as many atoms
@@ -52,12 +53,6 @@ storage_same l formed (P.Stack o) t j k v e f = absurd (none-some v e)
 storage_same l formed (P.Register o) (P.Stack p) j k v e f = absurd (none-some v f)
 storage_same l formed (P.Unique o) (P.Stack p) j k v e f = absurd (none-some v f)
 
-atom_same : (a b : Atom) → a.storage ≡ b.storage → a.size ≡ b.size → a ≡ b
-atom_same a b e f =
-    let left : ParamStorage → Atom = λ s. record { storage = s; size = a.size } in
-    let right : ℕ → Atom = λ n. record { storage = b.storage; size = n } in
-    ap left e ∙ ap right f
-
 also_in : (l : Listing)
     → IsFormed l
     → (xs ys : List Atom)
@@ -70,7 +65,7 @@ also_in l formed xs ys x y a is =
     let from = x.accessed a is in
     let found = y.all from.0 from.1.1 in
     let same = storage_same l formed a.storage found.0.storage a.size found.0.size from.0 from.1.0 found.1.1 in
-    subst (λ b. IsIn b ys) (sym (atom_same a found.0 same.0 same.1)) found.1.0
+    subst (λ b. IsIn b ys) (sym (same_atom a found.0 same.0 same.1)) found.1.0
 
 atoms_same : (l : Listing) → IsFormed l → (m n : ℕ) → AccessesSoMany l m → AccessesSoMany l n → m ≡ n
 atoms_same l formed m n (xs, x) (ys, y) =

@@ -2,7 +2,6 @@
 -- space, and is equal to or apart from every other.
 use Rattle.std.proofs.Common.{◌≡◌, ◌⊎◌, ℕ, Bool, true, false, List, [], ◌∷◌, ◌++◌, Option, Some, None, refl, inl, inr, sym, subst}
 use Rattle.std.specs.Prelude.{if◌then◌else◌}
-use Rattle.std.proofs.lemmas.Bool.{and_parts}
 use Rattle.pcode_model.specs.declared.opcode.Opcode.{Opcode}
 use Rattle.pcode_model.specs.declared.opcode.Opcode.TheVariants as O
 use Rattle.pcode_model.specs.declared.listing.SpaceKind.{SpaceKind}
@@ -15,70 +14,49 @@ use Rattle.pcode_model.specs.declared.listing.Listing.{Listing}
 use Rattle.pcode_model.specs.Flow.{IsIn}
 use Rattle.pcode_model.specs.Spaces.{kind_of, register_space, unique_space}
 use Rattle.pcode_model.specs.Places.{Standing, Nothing, Passes, Does, standing}
-use Rattle.pcode_model.specs.Step.{all_but_first, all_read, operands, proto_of}
+use Rattle.pcode_model.specs.Rules.{past_first}
+use Rattle.pcode_model.specs.Step.{operands, proto_of}
 use Rattle.pcode_model.specs.Atoms.{Accesses, IsLocal, further_ranges, one_range, op_ranges, ranges_in, ranges_read}
 use Rattle.supported.specs.Ranges as named
 use Rattle.supported.specs.Ranges.{code_ranges, is_local, is_local_kind, local_of, locals_of, named_ranges, ops_ranges, output_of, result_range, storage_ranges}
 use Rattle.supported.specs.Supported.{IsSupported, is_supported_code}
-pub use Rattle.pcode_model.proofs.Members.{in_front, behind, in_either}
+use Rattle.stackvars.specs.Collected.{read_inputs}
+use Rattle.stackvars.proofs.Ops.{reads}
+use Rattle.pcode_model.proofs.Members.{in_front, behind, in_either}
 use Rattle.plain_form.proofs.Standing.{StandsIn, stands_in, supported_in}
 use Rattle.plain_form.proofs.Formed.{Inside, IsFormed}
 
--- ---- what a supported op accesses
+-- ---- what a supported op accesses: what it reads, its output, and a RETURN the function's result
 
-read_back : (vs : List Varnode) (v : Varnode) → IsIn v (ranges_read (all_read vs)) → IsIn v vs
-read_back [] v h = absurd h
-read_back (x ∷ vs) v (inl e) = inl e
-read_back (x ∷ vs) v (inr h) = inr (read_back vs v h)
+rest_in : (vs : List Varnode) (v : Varnode) → IsIn v (past_first vs) → IsIn v vs
+rest_in [] v h = absurd h
+rest_in (x ∷ vs) v h = inr h
 
-read_rest : (vs : List Varnode) (v : Varnode) → IsIn v (ranges_read (all_but_first vs)) → IsIn v vs
-read_rest [] v h = absurd h
-read_rest (x ∷ vs) v h = inr (read_back vs v h)
+-- what an op reads is one of its inputs
+pub read_is : (code : Opcode) (vs : List Varnode) (v : Varnode) → IsIn v (read_inputs code vs) → IsIn v vs
+read_is O.Branch vs v h = absurd h
+read_is O.CBranch vs v h = rest_in vs v h
+read_is O.Load vs v h = rest_in vs v h
+read_is O.Store vs v h = rest_in vs v h
+read_is code vs v h = h
 
--- a supported op accesses its inputs, its output, and a RETURN the function's result
 operand_is : (l : Listing) (code : Opcode) (vs : List Varnode)
     → is_supported_code code ≡ true
     → (v : Varnode)
     → IsIn v (ranges_read (operands l code vs))
     → IsIn v vs
-operand_is l (O.Unary op) vs s v h = read_back vs v h
-operand_is l (O.Binary op) vs s v h = read_back vs v h
-operand_is l O.Branch vs s v h = absurd h
-operand_is l O.CBranch vs s v h = read_rest vs v h
-operand_is l O.Return vs s v h = read_back vs v h
-operand_is l (O.Divide op) vs s v h = absurd (cc)
-operand_is l O.Load vs s v h = absurd (cc)
-operand_is l O.Store vs s v h = absurd (cc)
-operand_is l O.BranchInd vs s v h = absurd (cc)
-operand_is l O.Call vs s v h = absurd (cc)
-operand_is l O.CallInd vs s v h = absurd (cc)
-operand_is l O.CallOther vs s v h = absurd (cc)
-operand_is l (O.Float name) vs s v h = absurd (cc)
-operand_is l (O.FloatConversion op) vs s v h = absurd (cc)
-operand_is l (O.Analysis op) vs s v h = absurd (cc)
-operand_is l (O.LeftOut op) vs s v h = absurd (cc)
+operand_is l code vs s v h =
+    let P : List Varnode → Type 0 = λ xs. IsIn v xs in read_is code vs v (subst P (reads l code vs s) h)
 
 further_is : (l : Listing) (code : Opcode) (vs : List Varnode)
     → is_supported_code code ≡ true
     → (v : Varnode)
     → IsIn v (further_ranges l None code vs)
     → IsIn v (one_range (proto_of l None).gives)
-further_is l (O.Unary op) vs s v h = absurd h
-further_is l (O.Binary op) vs s v h = absurd h
-further_is l O.Branch vs s v h = absurd h
-further_is l O.CBranch vs s v h = absurd h
 further_is l O.Return vs s v h = h
-further_is l (O.Divide op) vs s v h = absurd (cc)
-further_is l O.Load vs s v h = absurd (cc)
-further_is l O.Store vs s v h = absurd (cc)
-further_is l O.BranchInd vs s v h = absurd (cc)
 further_is l O.Call vs s v h = absurd (cc)
 further_is l O.CallInd vs s v h = absurd (cc)
-further_is l O.CallOther vs s v h = absurd (cc)
-further_is l (O.Float name) vs s v h = absurd (cc)
-further_is l (O.FloatConversion op) vs s v h = absurd (cc)
-further_is l (O.Analysis op) vs s v h = absurd (cc)
-further_is l (O.LeftOut op) vs s v h = absurd (cc)
+further_is l code vs s v h = absurd h
 
 -- ---- named ranges
 
@@ -143,7 +121,7 @@ pub named_op : (l : Listing)
     → IsIn v (op_ranges l None op)
     → IsIn v (named_ranges l)
 named_op l sup i op s v local h =
-    let code = (and_parts _ _ (supported_in l l.code sup.ops i op s)).0 in
+    let code = supported_in l.code sup.ops i op s in
     let rest : List Varnode = storage_ranges (proto_of l None).args ++ result_range (proto_of l None).gives in
     let of_op : IsIn v (named.op_ranges l op) → IsIn v (named_ranges l) =
     λ q. in_front (code_ranges l l.code) rest v (in_code l l.code i op s v q) in

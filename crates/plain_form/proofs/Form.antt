@@ -21,8 +21,8 @@ use Rattle.stackvars.specs.Accessed as listed
 use Rattle.stackvars.specs.Accessed.{AreAccessed, AreEqualOrApart, AreSized}
 use Rattle.range_words.specs.Ranges.{IsInside, IsTable}
 use Rattle.range_words.specs.Ranges as table
-use Rattle.plaincode.specs.Form.{AreNarrow, IsLocalStorage, IsLowerable}
-use Rattle.plaincode.specs.Lowered.{range_at, range_of, ranges_of}
+use Rattle.op_code.specs.Lowerable.{AreNarrow, IsLocalStorage, IsLowerable}
+use Rattle.op_code.specs.Lowered.{range_at, range_of, ranges_of}
 use Rattle.plain_form.proofs.Formed.{IsFormed}
 use Rattle.plain_form.proofs.Accessed.{accessed_apart, accessed_inside}
 use Rattle.plain_form.proofs.Plain.{plain_at}

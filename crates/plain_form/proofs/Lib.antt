@@ -1,5 +1,9 @@
 pub mod Standing
+pub mod Spaces
+pub mod Memory
+pub mod Rules
 pub mod Formed
+pub mod Read
 pub mod Accessed
 pub mod Plain
 pub mod Form

@@ -1,9 +1,10 @@
 -- What stands at a reached place of a supported listing has the form that the plain lowering asks for.
-use Rattle.std.proofs.Common.{◌≡◌, ◌≤◌, ◌<◌, ℕ, suc, Bool, true, false, List, [], ◌∷◌, Option, Some, None, length, refl, inl, inr, sym, subst, arith}
-use Rattle.std.specs.Prelude.{◌&&◌, if◌then◌else◌, nat_le, nat_lt, not}
+use Rattle.std.proofs.Common.{◌≡◌, ◌<◌, ℕ, Bool, true, false, List, [], ◌∷◌, Option, Some, None, length, refl, inl, inr, sym, subst, ◌∙◌, arith}
+use Rattle.std.specs.Prelude.{◌&&◌, if◌then◌else◌, nat_le, not}
 use Rattle.std.proofs.lemmas.Bool.Decides.{nat_tests}
 use Rattle.std.proofs.lemmas.Bool.{and_parts, eqb-true, not-false}
 use Rattle.bits_core.specs.Value.{limit}
+use Rattle.bits_core.specs.declared.ops.Divide.{Divide}
 use Rattle.bits_core.specs.declared.ops.Unary.{Unary}
 use Rattle.bits_core.specs.declared.ops.Binary.{Binary}
 use Rattle.bits_core.specs.declared.ops.Binary.TheVariants as B
@@ -17,320 +18,250 @@ use Rattle.pcode_model.specs.declared.listing.Varnode.{Varnode}
 use Rattle.pcode_model.specs.declared.listing.Instruction.{Instruction}
 use Rattle.pcode_model.specs.declared.listing.Listing.{Listing}
 use Rattle.pcode_model.specs.declared.rules.OpWhy.{OpWhy}
-use Rattle.pcode_model.specs.declared.rules.OpWhy.TheVariants.{Arity, TooWide, SizeRule}
+use Rattle.pcode_model.specs.declared.rules.OpWhy.TheVariants.{Arity, BadSpace, OutOfSpace, SizeRule, TooWide}
 use Rattle.pcode_model.specs.declared.rules.Output.TheVariants as output
 use Rattle.pcode_model.specs.Flow.{IsIn, Reached, Fails, NoFault, standing_ways}
 use Rattle.pcode_model.specs.declared.flow.FlowWhy.TheVariants.{NoTarget}
 use Rattle.pcode_model.specs.Spaces.{kind_of, same_kind}
 use Rattle.pcode_model.specs.Places.{Standing, Nothing, Passes, Does, standing}
-use Rattle.pcode_model.specs.Step.{all_but_first, all_read, operands, proto_of, size_out}
+use Rattle.pcode_model.specs.Step.{operands, proto_of, size_out}
 use Rattle.pcode_model.specs.Atoms.{Accesses, further_ranges, one_range, op_ranges, ranges_in, ranges_read}
-use Rattle.pcode_model.specs.Rules.{any_wide, breaks, first_bad, has_operands, has_output, input_ranges, is_too_wide, names_address, operands_of, output_wide, past_first, rules, sizes_fit}
+use Rattle.pcode_model.specs.Rules.{breaks, first_bad, has_operands, has_output, input_ranges, inputs_stand, is_out_of_space, is_too_wide, leaves_space, names_address, names_ram, operands_of, output_is_constant, past_first, rules, sizes_fit}
 use Rattle.supported.specs.Ranges.{code_ranges, is_local, is_local_kind, named_ranges, result_range, storage_ranges}
-use Rattle.supported.specs.Supported.{IsSupported, is_ram, is_supported_binary, is_supported_code, none_in_ram, output_off_ram, read_inputs}
-use Rattle.plaincode.specs.Form.{HasNode, IsOperand, IsOperandBy, IsOutput, IsOutputBy, IsPlain, IsPlainOp, IsResult}
+use Rattle.supported.specs.Supported.{IsSupported, is_supported_code}
+use Rattle.stackvars.specs.Collected.{read_inputs}
+use Rattle.stackvars.proofs.Ops.{reads}
+use Rattle.op_code.specs.Form.{IsDirect, IsLocalBy, IsMemory, IsOperand, IsOperandBy, IsOutput, IsOutputBy, IsPlainOp, IsResult, IsSecond}
+use Rattle.op_code.specs.Lowerable.{IsPlain}
+use Rattle.pcode_model.proofs.Members.{behind, in_front}
 use Rattle.pcode_laws.proofs.Rules.{breaks_none, neither}
-use Rattle.pcode_laws.proofs.Sizes.{binary_is, unary_is}
+use Rattle.pcode_laws.proofs.Sizes.{binary_is, two_of, unary_is}
 use Rattle.plain_form.proofs.Standing.{StandsIn, stands_in, supported_in}
 use Rattle.plain_form.proofs.Formed.{IsFormed, IsInput}
-use Rattle.plain_form.proofs.Accessed.{behind, in_front, named_op}
-
--- ---- sizes
-
-node_of : (op : Binary) → is_supported_binary op ≡ true → HasNode op
-node_of B.Subpiece h = absurd (cc)
-node_of op h = tt
+use Rattle.plain_form.proofs.Accessed.{named_op, read_is}
+use Rattle.plain_form.proofs.Rules.{ends_within, narrow_in, output_narrow, output_stays, stays_in}
 
 -- ---- operands
 
-not_wide : (n : ℕ) → nat_lt 16 n ≡ false → n ≤ 16
-not_wide n h = grind (arith, nat_tests)
-
--- By the op check each input has at most 16 bytes.
-pub narrow_in : (vs : List Varnode) → any_wide vs ≡ false → (v : Varnode) → IsIn v vs → v.size ≤ 16
-narrow_in [] h v is = absurd is
-narrow_in (x ∷ vs) h v (inl e) = let P : Varnode → Type 0 = λ y. y.size ≤ 16 in
-    subst P (sym e) (not_wide x.size (neither _ _ h).0)
-narrow_in (x ∷ vs) h v (inr is) = narrow_in vs (neither _ _ h).1 v is
-
-off_ram : (l : Listing) (vs : List Varnode)
-    → none_in_ram l vs ≡ true
-    → (v : Varnode)
-    → IsIn v vs
-    → not (is_ram l v) ≡ true
-off_ram l [] h v is = absurd is
-off_ram l (x ∷ vs) h v (inl e) = let P : Varnode → Type 0 = λ y. not (is_ram l y) ≡ true in
-    subst P (sym e) (and_parts _ _ h).0
-off_ram l (x ∷ vs) h v (inr is) = off_ram l vs (and_parts _ _ h).1 v is
-
-rest_in : (vs : List Varnode) (v : Varnode) → IsIn v (past_first vs) → IsIn v vs
-rest_in [] v h = absurd h
-rest_in (x ∷ vs) v h = inr h
-
--- what is read isn't a destination
-chosen : (b : Bool) (vs : List Varnode) (v : Varnode)
-    → IsIn v (past_first vs)
-    → IsIn v (if b then past_first vs else vs)
-chosen true vs v h = h
-chosen false vs v h = rest_in vs v h
-
+-- what an op reads isn't a destination that names an address
 looked_at : (code : Opcode) (vs : List Varnode)
     → is_supported_code code ≡ true
     → (v : Varnode)
     → IsIn v (read_inputs code vs)
     → IsIn v (input_ranges code vs)
-looked_at (O.Unary op) vs s v h = h
-looked_at (O.Binary op) vs s v h = h
-looked_at O.Branch vs s v h = chosen (names_address O.Branch vs) vs v h
-looked_at O.CBranch vs s v h = chosen (names_address O.CBranch vs) vs v h
-looked_at O.Return vs s v h = h
-looked_at (O.Divide op) vs s v h = absurd (cc)
-looked_at O.Load vs s v h = absurd (cc)
-looked_at O.Store vs s v h = absurd (cc)
-looked_at O.BranchInd vs s v h = absurd (cc)
+looked_at O.Branch vs s v h = absurd h
+looked_at O.CBranch vs s v h = by_test (names_address O.CBranch vs) vs v h
+  where
+    by_test : (b : Bool) (vs : List Varnode) (v : Varnode)
+        → IsIn v (past_first vs)
+        → IsIn v (if b then past_first vs else vs)
+    by_test true vs v h = h
+    by_test false vs v h = read_is O.CBranch vs v h
+looked_at O.Load vs s v h = read_is O.Load vs v h
+looked_at O.Store vs s v h = read_is O.Store vs v h
 looked_at O.Call vs s v h = absurd (cc)
-looked_at O.CallInd vs s v h = absurd (cc)
-looked_at O.CallOther vs s v h = absurd (cc)
-looked_at (O.Float name) vs s v h = absurd (cc)
-looked_at (O.FloatConversion op) vs s v h = absurd (cc)
-looked_at (O.Analysis op) vs s v h = absurd (cc)
-looked_at (O.LeftOut op) vs s v h = absurd (cc)
-
-read_is : (code : Opcode) (vs : List Varnode)
-    → is_supported_code code ≡ true
-    → (v : Varnode)
-    → IsIn v (read_inputs code vs)
-    → IsIn v vs
-read_is (O.Unary op) vs s v h = h
-read_is (O.Binary op) vs s v h = h
-read_is O.Branch vs s v h = rest_in vs v h
-read_is O.CBranch vs s v h = rest_in vs v h
-read_is O.Return vs s v h = h
-read_is (O.Divide op) vs s v h = absurd (cc)
-read_is O.Load vs s v h = absurd (cc)
-read_is O.Store vs s v h = absurd (cc)
-read_is O.BranchInd vs s v h = absurd (cc)
-read_is O.Call vs s v h = absurd (cc)
-read_is O.CallInd vs s v h = absurd (cc)
-read_is O.CallOther vs s v h = absurd (cc)
-read_is (O.Float name) vs s v h = absurd (cc)
-read_is (O.FloatConversion op) vs s v h = absurd (cc)
-read_is (O.Analysis op) vs s v h = absurd (cc)
-read_is (O.LeftOut op) vs s v h = absurd (cc)
-
-in_all : (vs : List Varnode) (v : Varnode) → IsIn v vs → IsIn v (ranges_read (all_read vs))
-in_all [] v h = absurd h
-in_all (x ∷ vs) v (inl e) = inl e
-in_all (x ∷ vs) v (inr h) = inr (in_all vs v h)
-
-in_some : (vs : List Varnode) (v : Varnode) → IsIn v (past_first vs) → IsIn v (ranges_read (all_but_first vs))
-in_some [] v h = absurd h
-in_some (x ∷ vs) v h = in_all vs v h
-
--- a BRANCH reads nothing; whatever stands behind its destination isn't looked at
-IsRead : Opcode → List Varnode → Varnode → Type 0
-IsRead O.Branch vs v = ⊥
-IsRead code vs v = IsIn v (read_inputs code vs)
-
-operand_in : (l : Listing) (code : Opcode) (vs : List Varnode)
-    → is_supported_code code ≡ true
-    → (v : Varnode)
-    → IsRead code vs v
-    → IsIn v (ranges_read (operands l code vs))
-unfolding IsRead
-operand_in l (O.Unary op) vs s v h = in_all vs v h
-operand_in l (O.Binary op) vs s v h = in_all vs v h
-operand_in l O.Branch vs s v h = absurd h
-operand_in l O.CBranch vs s v h = in_some vs v h
-operand_in l O.Return vs s v h = in_all vs v h
-operand_in l (O.Divide op) vs s v h = absurd (cc)
-operand_in l O.Load vs s v h = absurd (cc)
-operand_in l O.Store vs s v h = absurd (cc)
-operand_in l O.BranchInd vs s v h = absurd (cc)
-operand_in l O.Call vs s v h = absurd (cc)
-operand_in l O.CallInd vs s v h = absurd (cc)
-operand_in l O.CallOther vs s v h = absurd (cc)
-operand_in l (O.Float name) vs s v h = absurd (cc)
-operand_in l (O.FloatConversion op) vs s v h = absurd (cc)
-operand_in l (O.Analysis op) vs s v h = absurd (cc)
-operand_in l (O.LeftOut op) vs s v h = absurd (cc)
-
--- ---- what an op of a supported listing has
+looked_at code vs s v h = h
 
 constant_fits : (l : Listing) (v : Varnode) → IsInput l v → kind_of l v.space ≡ Constant → v.offset < limit v.size
 unfolding limit
 constant_fits l v input e = input.fits e
 
-is_ram_kind : (k : SpaceKind) → k ≡ Ram → same_kind k Ram ≡ true
-is_ram_kind k e = let P : SpaceKind → Type 0 = λ j. same_kind j Ram ≡ true in subst P (sym e) refl
-
-no_ram : (l : Listing) (v : Varnode) → not (is_ram l v) ≡ true → kind_of l v.space ≡ Ram → ⊥
-no_ram l v h e = let P : Bool → Type 0 = λ b. not b ≡ true in let q : not true ≡ true = subst P (is_ram_kind _ e) h in
-    cc
+local_if : (k : SpaceKind) {P : Type 0} (l : Listing) (v : Varnode)
+    → kind_of l v.space ≡ k
+    → is_local_kind k ≡ true
+    → (is_local l v ≡ true → P)
+    → P
+local_if k l v e h has = let Q : SpaceKind → Type 0 = λ j. is_local_kind j ≡ true in has (subst Q (sym e) h)
 
 operand_by : (l : Listing) (ranges : List Varnode) (v : Varnode) (k : SpaceKind)
     → kind_of l v.space ≡ k
     → IsInput l v
-    → not (is_ram l v) ≡ true
+    → (kind_of l v.space ≡ Ram → IsDirect l v)
     → (is_local l v ≡ true → IsIn v ranges)
-    → IsOperandBy k ranges v
-operand_by l ranges v Constant e formed off has = constant_fits l v formed e
-operand_by l ranges v Ram e formed off has = absurd (no_ram l v off e)
-operand_by l ranges v Register e formed off has =
-    has (let P : SpaceKind → Type 0 = λ k. is_local_kind k ≡ true in subst P (sym e) refl)
-operand_by l ranges v Unique e formed off has =
-    has (let P : SpaceKind → Type 0 = λ k. is_local_kind k ≡ true in subst P (sym e) refl)
+    → IsOperandBy k l ranges v
+operand_by l ranges v Constant e formed direct has = constant_fits l v formed e
+operand_by l ranges v Ram e formed direct has = direct e
+operand_by l ranges v Register e formed direct has = local_if Register l v e refl has
+operand_by l ranges v Unique e formed direct has = local_if Unique l v e refl has
 
 output_by : (l : Listing) (ranges : List Varnode) (v : Varnode) (k : SpaceKind)
     → kind_of l v.space ≡ k
     → (k ≡ Constant → ⊥)
-    → not (is_ram l v) ≡ true
+    → (kind_of l v.space ≡ Ram → IsDirect l v)
     → (is_local l v ≡ true → IsIn v ranges)
-    → IsOutputBy k ranges v
-output_by l ranges v Constant e not_constant off has = absurd (not_constant refl)
-output_by l ranges v Ram e not_constant off has = absurd (no_ram l v off e)
-output_by l ranges v Register e not_constant off has =
-    has (let P : SpaceKind → Type 0 = λ k. is_local_kind k ≡ true in subst P (sym e) refl)
-output_by l ranges v Unique e not_constant off has =
-    has (let P : SpaceKind → Type 0 = λ k. is_local_kind k ≡ true in subst P (sym e) refl)
+    → IsOutputBy k l ranges v
+output_by l ranges v Constant e not_constant direct has = absurd (not_constant refl)
+output_by l ranges v Ram e not_constant direct has = direct e
+output_by l ranges v Register e not_constant direct has = local_if Register l v e refl has
+output_by l ranges v Unique e not_constant direct has = local_if Unique l v e refl has
 
--- ---- the form of an op
-
-one_input : (n : ℕ) (b : Bool) → (nat_le 1 n && (nat_le n 1 && b)) ≡ true → n ≡ 1
-one_input n b h = let p = and_parts _ _ h in let q = and_parts _ _ p.1 in let e : nat_le 1 n ≡ true = p.0 in
-    let f : nat_le n 1 ≡ true = q.0 in grind (arith, nat_tests)
-
-two_inputs : (n : ℕ) (b : Bool) → (nat_le 2 n && (nat_le n 2 && b)) ≡ true → n ≡ 2
-two_inputs n b h = let p = and_parts _ _ h in let q = and_parts _ _ p.1 in let e : nat_le 2 n ≡ true = p.0 in
-    let f : nat_le n 2 ≡ true = q.0 in grind (arith, nat_tests)
+-- ---- how many operands an op has
 
 third : (a b c : Bool) → (a && (b && c)) ≡ true → c ≡ true
 third a b c h = (and_parts _ _ (and_parts _ _ h).1).1
 
-too_many_for_one : {P : Type 0} (n : ℕ) → suc (suc n) ≡ 1 → P
-too_many_for_one n h = absurd (omega arith)
+counted : (n m : ℕ) (b : Bool) → (nat_le n m && (nat_le m n && b)) ≡ true → m ≡ n
+counted n m b h =
+    let p = and_parts _ _ h in
+    let q = and_parts _ _ p.1 in
+    let e : nat_le n m ≡ true = p.0 in
+    let f : nat_le m n ≡ true = q.0 in
+    grind (arith, nat_tests)
 
-too_many_for_two : {P : Type 0} (n : ℕ) → suc (suc (suc n)) ≡ 2 → P
-too_many_for_two n h = absurd (omega arith)
+with_output : (P : Option Varnode → Type 0) (out : Option Varnode)
+    → has_output output.Has out ≡ true
+    → ((z : Varnode) → P (Some z))
+    → P out
+with_output P None h f = absurd (cc)
+with_output P (Some z) h f = f z
 
-module _ (l : Listing) (ranges : List Varnode) where
-  unary_form : (op : Unary) (out : Option Varnode) (vs : List Varnode)
-      → has_operands (operands_of (O.Unary op)) out (length vs) ≡ true
-      → sizes_fit (O.Unary op) (size_out out) vs ≡ true
-      → ((v : Varnode) → IsIn v vs → IsOperand l ranges v)
-      → ((v : Varnode) → IsIn v (one_range out) → IsOutput l ranges v)
-      → IsPlainOp l ranges (O.Unary op) out vs
-  unary_form op None vs ar sz ins outs = let h : has_output output.Has None ≡ true = third _ _ _ ar in absurd (cc)
-  unary_form op (Some z) [] ar sz ins outs = let h : 0 ≡ 1 = one_input 0 true ar in absurd (cc)
-  unary_form op (Some z) (x ∷ []) ar sz ins outs = (unary_is op x.size z.size sz, (ins x (inl refl), outs z (inl refl)))
-  unary_form op (Some z) (x ∷ y ∷ vs) ar sz ins outs = too_many_for_one (length vs) (one_input _ true ar)
+without_output : (P : Option Varnode → Type 0) (out : Option Varnode)
+    → has_output output.Lacks out ≡ true
+    → P None
+    → P out
+without_output P None h p = p
+without_output P (Some z) h p = absurd (cc)
 
-  binary_form : (op : Binary) (out : Option Varnode) (vs : List Varnode)
-      → is_supported_binary op ≡ true
-      → has_operands (operands_of (O.Binary op)) out (length vs) ≡ true
-      → sizes_fit (O.Binary op) (size_out out) vs ≡ true
-      → ((v : Varnode) → IsIn v vs → IsOperand l ranges v)
-      → ((v : Varnode) → IsIn v (one_range out) → IsOutput l ranges v)
-      → IsPlainOp l ranges (O.Binary op) out vs
-  binary_form op None vs sup ar sz ins outs = let h : has_output output.Has None ≡ true = third _ _ _ ar in absurd (cc)
-  binary_form op (Some z) [] sup ar sz ins outs = let h : 0 ≡ 2 = two_inputs 0 true ar in absurd (cc)
-  binary_form op (Some z) (x ∷ []) sup ar sz ins outs = let h : 1 ≡ 2 = two_inputs 1 true ar in absurd (cc)
-  binary_form op (Some z) (x ∷ y ∷ []) sup ar sz ins outs = (
-    (node_of op sup, binary_is op x.size y.size z.size sz),
-    ((ins x (inl refl), ins y (inr (inl refl))), outs z (inl refl)),
+of_one : (P : List Varnode → Type 0) (vs : List Varnode) → length vs ≡ 1 → ((x : Varnode) → P (x ∷ [])) → P vs
+of_one P [] h f = absurd (omega arith)
+of_one P (x ∷ []) h f = f x
+of_one P (x ∷ y ∷ vs) h f = absurd (omega arith)
+
+of_two : (P : List Varnode → Type 0) (vs : List Varnode)
+    → length vs ≡ 2
+    → ((x y : Varnode) → P (x ∷ y ∷ []))
+    → P vs
+of_two P [] h f = absurd (omega arith)
+of_two P (x ∷ vs) h f = of_one (λ ys. P (x ∷ ys)) vs (omega arith) (f x)
+
+of_three : (P : List Varnode → Type 0) (vs : List Varnode)
+    → length vs ≡ 3
+    → ((x y z : Varnode) → P (x ∷ y ∷ z ∷ []))
+    → P vs
+of_three P [] h f = absurd (omega arith)
+of_three P (x ∷ vs) h f = of_two (λ ys. P (x ∷ ys)) vs (omega arith) (f x)
+
+-- ---- the form of an op
+
+ram_kind : (k : SpaceKind) → same_kind Ram k ≡ true → k ≡ Ram
+ram_kind Constant h = absurd (cc)
+ram_kind Ram h = refl
+ram_kind Register h = absurd (cc)
+ram_kind Unique h = absurd (cc)
+
+module _ (l : Listing) (formed : IsFormed l) (ranges : List Varnode) where
+  -- what is known of an op of a supported listing
+  record Known (code : Opcode) (out : Option Varnode) (vs : List Varnode) : Type 0 where
+    sizes : sizes_fit code (size_out out) vs ≡ true
+    stands : inputs_stand l code vs ≡ true
+    inputs : (v : Varnode) → IsIn v (read_inputs code vs) → IsOperand l ranges v
+    output : (v : Varnode) → IsIn v (one_range out) → IsOutput l ranges v
+    result : code ≡ O.Return → IsResult l ranges (proto_of l None).gives
+
+  abbrev HasForm : Opcode → Option Varnode → List Varnode → Type 0
+  HasForm code out vs = Known code out vs → IsPlainOp l ranges code out vs
+
+  named_memory : (s : Varnode) → names_ram l s ≡ true → IsMemory l s.offset
+  named_memory s h = formed.memory s.offset (ram_kind (kind_of l s.offset) (and_parts _ _ h).1)
+
+  second_is : (op : Binary) (x y : Varnode) → inputs_stand l (O.Binary op) (x ∷ y ∷ []) ≡ true → IsSecond l op y
+  second_is B.Subpiece x y h =
+      let P : ℕ → Type 0 = λ n. kind_of l n ≡ Constant in subst P (sym (eqb-true y.space 0 h)) formed.constant
+  second_is op x y h = tt
+
+  unary_form : (op : Unary) (z x : Varnode) → HasForm (O.Unary op) (Some z) (x ∷ [])
+  unary_form op z x k =
+      (unary_is op x.size z.size k.sizes, (k.inputs x (inl refl), k.output z (inl refl)))
+
+  binary_form : (op : Binary) (z x y : Varnode) → HasForm (O.Binary op) (Some z) (x ∷ y ∷ [])
+  binary_form op z x y k = (
+    (second_is op x y k.stands, binary_is op x.size y.size z.size k.sizes),
+    ((k.inputs x (inl refl), k.inputs y (inr (inl refl))), k.output z (inl refl)),
   )
-  binary_form op (Some z) (x ∷ y ∷ w ∷ vs) sup ar sz ins outs = too_many_for_two (length vs) (two_inputs _ true ar)
 
-  branch_form : (out : Option Varnode) (vs : List Varnode)
-      → has_operands (operands_of O.Branch) out (length vs) ≡ true
-      → IsPlainOp l ranges O.Branch out vs
-  branch_form (Some z) vs ar = let h : has_output output.Lacks (Some z) ≡ true = third _ _ _ ar in absurd (cc)
-  branch_form None [] ar = let h : 0 ≡ 1 = one_input 0 true ar in absurd (cc)
-  branch_form None (x ∷ []) ar = tt
-  branch_form None (x ∷ y ∷ vs) ar = too_many_for_one (length vs) (one_input _ true ar)
+  divide_form : (op : Divide) (z x y : Varnode) → HasForm (O.Divide op) (Some z) (x ∷ y ∷ [])
+  divide_form op z x y k = (
+    two_of x.size y.size z.size k.sizes,
+    ((k.inputs x (inl refl), k.inputs y (inr (inl refl))), k.output z (inl refl)),
+  )
 
-  test_form : (out : Option Varnode) (vs : List Varnode)
-      → has_operands (operands_of O.CBranch) out (length vs) ≡ true
-      → sizes_fit O.CBranch (size_out out) vs ≡ true
-      → ((v : Varnode) → IsIn v (past_first vs) → IsOperand l ranges v)
-      → IsPlainOp l ranges O.CBranch out vs
-  test_form (Some z) vs ar sz ins = let h : has_output output.Lacks (Some z) ≡ true = third _ _ _ ar in absurd (cc)
-  test_form None [] ar sz ins = let h : 0 ≡ 2 = two_inputs 0 true ar in absurd (cc)
-  test_form None (x ∷ []) ar sz ins = let h : 1 ≡ 2 = two_inputs 1 true ar in absurd (cc)
-  test_form None (x ∷ y ∷ []) ar sz ins = (eqb-true y.size 1 sz, ins y (inl refl))
-  test_form None (x ∷ y ∷ w ∷ vs) ar sz ins = too_many_for_two (length vs) (two_inputs _ true ar)
+  load_form : (z s x : Varnode) → HasForm O.Load (Some z) (s ∷ x ∷ [])
+  load_form z s x k = (named_memory s k.stands, (k.inputs x (inl refl), k.output z (inl refl)))
 
-  return_form : (out : Option Varnode) (vs : List Varnode)
-      → has_operands (operands_of O.Return) out (length vs) ≡ true
-      → ((v : Varnode) → IsIn v vs → IsOperand l ranges v)
-      → IsResult l ranges (proto_of l None).gives
-      → IsPlainOp l ranges O.Return out vs
-  return_form (Some z) vs ar ins res = let h : has_output output.Lacks (Some z) ≡ true = third _ _ _ ar in absurd (cc)
-  return_form None [] ar ins res = let h : 0 ≡ 1 = one_input 0 true ar in absurd (cc)
-  return_form None (x ∷ []) ar ins res = (ins x (inl refl), res)
-  return_form None (x ∷ y ∷ vs) ar ins res = too_many_for_one (length vs) (one_input _ true ar)
+  store_form : (s x y : Varnode) → HasForm O.Store None (s ∷ x ∷ y ∷ [])
+  store_form s x y k = (named_memory s k.stands, (k.inputs x (inl refl), k.inputs y (inr (inl refl))))
+
+  test_form : (to x : Varnode) → HasForm O.CBranch None (to ∷ x ∷ [])
+  test_form to x k = (eqb-true x.size 1 k.sizes, k.inputs x (inl refl))
+
+  return_form : (to : Varnode) → HasForm O.Return None (to ∷ [])
+  return_form to k = (k.inputs to (inl refl), k.result refl)
 
   -- by the operation
   form_of : (code : Opcode) (out : Option Varnode) (vs : List Varnode)
       → is_supported_code code ≡ true
       → has_operands (operands_of code) out (length vs) ≡ true
-      → sizes_fit code (size_out out) vs ≡ true
-      → ((v : Varnode) → IsRead code vs v → IsOperand l ranges v)
-      → ((v : Varnode) → IsIn v (one_range out) → IsOutput l ranges v)
-      → (code ≡ O.Return → IsResult l ranges (proto_of l None).gives)
-      → IsPlainOp l ranges code out vs
-  unfolding IsRead
-  form_of (O.Unary op) out vs s ar sz ins outs res = unary_form op out vs ar sz ins outs
-  form_of (O.Binary op) out vs s ar sz ins outs res = binary_form op out vs s ar sz ins outs
-  form_of O.Branch out vs s ar sz ins outs res = branch_form out vs ar
-  form_of O.CBranch out vs s ar sz ins outs res = test_form out vs ar sz ins
-  form_of O.Return out vs s ar sz ins outs res = return_form out vs ar ins (res refl)
-  form_of (O.Divide op) out vs s ar sz ins outs res = absurd (cc)
-  form_of O.Load out vs s ar sz ins outs res = absurd (cc)
-  form_of O.Store out vs s ar sz ins outs res = absurd (cc)
-  form_of O.BranchInd out vs s ar sz ins outs res = absurd (cc)
-  form_of O.Call out vs s ar sz ins outs res = absurd (cc)
-  form_of O.CallInd out vs s ar sz ins outs res = absurd (cc)
-  form_of O.CallOther out vs s ar sz ins outs res = absurd (cc)
-  form_of (O.Float name) out vs s ar sz ins outs res = absurd (cc)
-  form_of (O.FloatConversion op) out vs s ar sz ins outs res = absurd (cc)
-  form_of (O.Analysis op) out vs s ar sz ins outs res = absurd (cc)
-  form_of (O.LeftOut op) out vs s ar sz ins outs res = absurd (cc)
+      → HasForm code out vs
+  form_of (O.Unary op) out vs s ar =
+      with_output (λ o. HasForm (O.Unary op) o vs) out (third _ _ _ ar)
+      (λ z. of_one (HasForm (O.Unary op) (Some z)) vs (counted 1 _ _ ar) (unary_form op z))
+  form_of (O.Binary op) out vs s ar =
+      with_output (λ o. HasForm (O.Binary op) o vs) out (third _ _ _ ar)
+      (λ z. of_two (HasForm (O.Binary op) (Some z)) vs (counted 2 _ _ ar) (binary_form op z))
+  form_of (O.Divide op) out vs s ar =
+      with_output (λ o. HasForm (O.Divide op) o vs) out (third _ _ _ ar)
+      (λ z. of_two (HasForm (O.Divide op) (Some z)) vs (counted 2 _ _ ar) (divide_form op z))
+  form_of O.Load out vs s ar =
+      with_output (λ o. HasForm O.Load o vs) out (third _ _ _ ar)
+      (λ z. of_two (HasForm O.Load (Some z)) vs (counted 2 _ _ ar) (load_form z))
+  form_of O.Store out vs s ar =
+      without_output (λ o. HasForm O.Store o vs) out (third _ _ _ ar)
+      (of_three (HasForm O.Store None) vs (counted 3 _ _ ar) store_form)
+  form_of O.Branch out vs s ar =
+      without_output (λ o. HasForm O.Branch o vs) out (third _ _ _ ar)
+      (of_one (HasForm O.Branch None) vs (counted 1 _ _ ar) (λ to k. tt))
+  form_of O.CBranch out vs s ar =
+      without_output (λ o. HasForm O.CBranch o vs) out (third _ _ _ ar)
+      (of_two (HasForm O.CBranch None) vs (counted 2 _ _ ar) test_form)
+  form_of O.Return out vs s ar =
+      without_output (λ o. HasForm O.Return o vs) out (third _ _ _ ar)
+      (of_one (HasForm O.Return None) vs (counted 1 _ _ ar) return_form)
+  form_of O.BranchInd out vs s ar = absurd (cc)
+  form_of O.Call out vs s ar = absurd (cc)
+  form_of O.CallInd out vs s ar = absurd (cc)
+  form_of O.CallOther out vs s ar = absurd (cc)
+  form_of (O.Float name) out vs s ar = absurd (cc)
+  form_of (O.FloatConversion op) out vs s ar = absurd (cc)
+  form_of (O.Analysis op) out vs s ar = absurd (cc)
+  form_of (O.LeftOut op) out vs s ar = absurd (cc)
 
 -- ---- what stands at a reached place
 
-read_of : (code : Opcode) (vs : List Varnode) (v : Varnode) → IsRead code vs v → IsIn v (read_inputs code vs)
-unfolding IsRead
-read_of O.Branch vs v h = absurd h
-read_of code vs v h = h
+constant_ram : Constant ≡ Ram → ⊥
+constant_ram h = cc
 
-local_kind : (l : Listing) (ranges : List Varnode) (v : Varnode) (k : SpaceKind)
+-- a range of memory that ends within its space is direct
+direct_is : (l : Listing)
+    → IsFormed l
+    → (v : Varnode)
+    → 0 < v.size
+    → leaves_space l v ≡ false
+    → kind_of l v.space ≡ Ram
+    → IsDirect l v
+direct_is l formed v some stays e =
+    let P : ℕ → Type 0 = λ n. kind_of l n ≡ Ram in
+    let other : v.space ≡ 0 → ⊥ = λ f. constant_ram (sym formed.constant ∙ subst P f e) in
+    let within = ends_within l v other stays in
+    (formed.memory v.space e, omega (arith, some, within))
+
+local_kind : (ranges : List Varnode) (v : Varnode) (k : SpaceKind)
     → is_local_kind k ≡ true
     → IsIn v ranges
-    → IsOutputBy k ranges v
-local_kind l ranges v Constant h is = absurd (cc)
-local_kind l ranges v Ram h is = absurd (cc)
-local_kind l ranges v Register h is = is
-local_kind l ranges v Unique h is = is
-
--- By the op check the output has at most 16 bytes.
-pub output_narrow : (out : Option Varnode)
-    → output_wide out ≡ false
-    → (v : Varnode)
-    → IsIn v (one_range out)
-    → v.size ≤ 16
-output_narrow None h v is = absurd is
-output_narrow (Some z) h v (inl e) = let P : Varnode → Type 0 = λ y. y.size ≤ 16 in subst P (sym e) (not_wide z.size h)
-output_narrow (Some z) h v (inr is) = absurd is
-
-output_off : (l : Listing) (out : Option Varnode)
-    → output_off_ram l out ≡ true
-    → (v : Varnode)
-    → IsIn v (one_range out)
-    → not (is_ram l v) ≡ true
-output_off l None h v is = absurd is
-output_off l (Some z) h v (inl e) = let P : Varnode → Type 0 = λ y. not (is_ram l y) ≡ true in subst P (sym e) h
-output_off l (Some z) h v (inr is) = absurd is
+    → IsLocalBy k ranges v
+local_kind ranges v Constant h is = absurd (cc)
+local_kind ranges v Ram h is = absurd (cc)
+local_kind ranges v Register h is = is
+local_kind ranges v Unique h is = is
 
 module _ (l : Listing) (good : first_bad l ≡ None) (sup : IsSupported l) (formed : IsFormed l) (ranges : List Varnode)
     (has : (v : Varnode) → Accesses l [] v → IsIn v ranges) (p : Place) (reached : Reached l [] p) (i : Instruction)
@@ -353,26 +284,28 @@ module _ (l : Listing) (good : first_bad l ≡ None) (sup : IsSupported l) (form
   wide : is_too_wide op ≡ false
   wide = obeys TooWide (inr (inr (inr (inr (inr (inl refl))))))
 
-  facts : (is_supported_code op.code && (none_in_ram l (read_inputs op.code op.inputs) && output_off_ram l op.out))
-      ≡ true
-  unfolding stand
-  facts = supported_in l l.code sup.ops i op stand
+  spaces : (not (output_is_constant op.out) && inputs_stand l op.code op.inputs) ≡ true
+  spaces = not-false _ (obeys BadSpace (inr (inr (inr (inr (inl refl))))))
+
+  leaving : is_out_of_space l op ≡ false
+  leaving = obeys OutOfSpace (inr (inr (inr (inr (inr (inr (inl refl)))))))
 
   code : is_supported_code op.code ≡ true
-  code = (and_parts _ _ facts).0
+  unfolding stand
+  code = supported_in l.code sup.ops i op stand
 
-  operand : (v : Varnode) → IsRead op.code op.inputs v → IsOperand l ranges v
+  operand : (v : Varnode) → IsIn v (read_inputs op.code op.inputs) → IsOperand l ranges v
   unfolding stand
   operand v is =
-      let read = read_of op.code op.inputs v is in
-      let input = formed.inputs i op stand v (read_is op.code op.inputs code v read) in
-      let narrow = narrow_in (input_ranges op.code op.inputs) (neither _ _ wide).0 v
-      (looked_at op.code op.inputs code v read) in
-      let off = off_ram l (read_inputs op.code op.inputs) (and_parts _ _ (and_parts _ _ facts).1).0 v read in (
+      let input = formed.inputs i op stand v (read_is op.code op.inputs v is) in
+      let at = looked_at op.code op.inputs code v is in
+      let narrow = narrow_in (input_ranges op.code op.inputs) (neither _ _ wide).0 v at in
+      let stays = stays_in l (input_ranges op.code op.inputs) (neither _ _ (neither _ _ leaving).1).0 v at in
+      let P : List Varnode → Type 0 = λ vs. IsIn v vs in
+      let read = subst P (sym (reads l op.code op.inputs code)) is in (
         (input.some, narrow),
-        operand_by l ranges v (kind_of l v.space) refl input off
-            (λ local. variable v local (in_front (ranges_read (operands l op.code op.inputs)) _ v
-            (operand_in l op.code op.inputs code v is))),
+        operand_by l ranges v (kind_of l v.space) refl input (direct_is l formed v input.some stays)
+            (λ local. variable v local (in_front (ranges_read (operands l op.code op.inputs)) _ v read)),
       )
 
   written : (v : Varnode) → IsIn v (one_range op.out) → IsOutput l ranges v
@@ -380,9 +313,9 @@ module _ (l : Listing) (good : first_bad l ≡ None) (sup : IsSupported l) (form
   written v is =
       let output = formed.outputs i op stand v is in
       let narrow = output_narrow op.out (neither _ _ wide).1 v is in
-      let off = output_off l op.out (and_parts _ _ (and_parts _ _ facts).1).1 v is in (
+      let stays = output_stays l op.out (neither _ _ (neither _ _ leaving).1).1 v is in (
         (output.some, narrow),
-        output_by l ranges v (kind_of l v.space) refl output.variable off
+        output_by l ranges v (kind_of l v.space) refl output.variable (direct_is l formed v output.some stays)
             (λ local. variable v local (behind (ranges_read (operands l op.code op.inputs)) _ v
             (in_front (one_range op.out) _ v is))),
       )
@@ -402,14 +335,20 @@ module _ (l : Listing) (good : first_bad l ≡ None) (sup : IsSupported l) (form
       let accessed =
       behind (ranges_read (operands l op.code op.inputs)) _ v (behind (one_range op.out) _ v further) in (
         (inside.some, inside.narrow),
-        local_kind l ranges v (kind_of l v.space) inside.local
+        local_kind ranges v (kind_of l v.space) inside.local
             (variable v inside.local accessed),
       )
 
   pub op_form : IsPlainOp l ranges op.code op.out op.inputs
-  op_form = form_of l ranges op.code op.out op.inputs code (not-false _ (obeys Arity (inr (inr (inr (inl refl))))))
-      (not-false _ (obeys SizeRule (inr (inr (inr (inr (inr (inr (inr (inl refl)))))))))) operand written
-      (given (proto_of l None).gives refl)
+  op_form = form_of l formed ranges op.code op.out op.inputs code
+      (not-false _ (obeys Arity (inr (inr (inr (inl refl))))))
+      (record {
+        sizes = not-false _ (obeys SizeRule (inr (inr (inr (inr (inr (inr (inr (inl refl)))))))));
+        stands = (and_parts _ _ spaces).1;
+        inputs = operand;
+        output = written;
+        result = given (proto_of l None).gives refl;
+      })
 
 by_standing : (l : Listing)
     → first_bad l ≡ None

@@ -10,7 +10,7 @@ use Rattle.pcode_model.specs.Flow.{IsIn}
 use Rattle.pcode_model.specs.Places.{Does, instruction_in, op_in, standing, standing_in, standing_of}
 use Rattle.instructions.proofs.Apart.{found_in}
 use Rattle.pcode_model.proofs.Members.{member_at}
-use Rattle.supported.specs.Supported.{are_supported_ops, is_supported_code_of, is_supported_op}
+use Rattle.supported.specs.Supported.{are_supported_ops, is_supported_code, is_supported_code_of}
 
 -- the op that stands here is one of these instructions'
 pub record StandsIn (code : List Instruction) (i : Instruction) (op : Op) : Type 0 where
@@ -45,24 +45,24 @@ stands_in l p i op h = of_option l.code (instruction_in l.code p.address) p.inde
 
 -- ---- what the tests say of an op
 
-supported_op : (l : Listing) (ops : List Op)
-    → are_supported_ops l ops ≡ true
+supported_op : (ops : List Op)
+    → are_supported_ops ops ≡ true
     → (op : Op)
     → IsIn op ops
-    → is_supported_op l op ≡ true
-supported_op l [] h op is = absurd is
-supported_op l (x ∷ ops) h op (inl e) = let P : Op → Type 0 = λ y. is_supported_op l y ≡ true in
+    → is_supported_code op.code ≡ true
+supported_op [] h op is = absurd is
+supported_op (x ∷ ops) h op (inl e) = let P : Op → Type 0 = λ y. is_supported_code y.code ≡ true in
     subst P (sym e) (and_parts _ _ h).0
-supported_op l (x ∷ ops) h op (inr is) = supported_op l ops (and_parts _ _ h).1 op is
+supported_op (x ∷ ops) h op (inr is) = supported_op ops (and_parts _ _ h).1 op is
 
-pub supported_in : (l : Listing) (code : List Instruction)
-    → is_supported_code_of l code ≡ true
+pub supported_in : (code : List Instruction)
+    → is_supported_code_of code ≡ true
     → (i : Instruction) (op : Op)
     → StandsIn code i op
-    → is_supported_op l op ≡ true
-supported_in l [] h i op s = absurd s.code_has
-supported_in l (x ∷ code) h i op s = elim s.code_has [
+    → is_supported_code op.code ≡ true
+supported_in [] h i op s = absurd s.code_has
+supported_in (x ∷ code) h i op s = elim s.code_has [
   | inl e ↦ let P : Instruction → Type 0 = λ y. IsIn op y.ops in
-      supported_op l x.ops (and_parts _ _ h).0 op (subst P e s.ops_have)
-  | inr is ↦ supported_in l code (and_parts _ _ h).1 i op (record { code_has = is; ops_have = s.ops_have })
+      supported_op x.ops (and_parts _ _ h).0 op (subst P e s.ops_have)
+  | inr is ↦ supported_in code (and_parts _ _ h).1 i op (record { code_has = is; ops_have = s.ops_have })
 ]

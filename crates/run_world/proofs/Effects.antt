@@ -4,6 +4,7 @@ use Rattle.std.proofs.lemmas.List.{drop_more, map-append}
 use Rattle.std.specs.List.{list_any}
 use Rattle.machine.specs.Trace.{Store, End, ReadOnlyWrite}
 use Rattle.pcode_model.specs.declared.listing.Listing.{Listing}
+use Rattle.pcode_model.proofs.Members.{rest_at}
 use Rattle.pcode_model.specs.Spaces.{size_of, any_at, each_at, is_fixed, is_some}
 use Rattle.pcode_model.specs.Memory.{Bytes, HiddenWrite, plain, poke, unless}
 use Rattle.pcode_model.specs.World.{World, Stops, Took, ended, recorded, with_memory, store, stored_as, write_all, hide_all, and_then, took, take_from, take_answer}

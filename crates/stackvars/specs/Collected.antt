@@ -39,10 +39,12 @@ abbrev pub atoms_in : Listing → List Block → List Atom
 atoms_in l [] = []
 atoms_in l (b ∷ bs) = atoms_at l b.places ++ atoms_in l bs
 
--- the inputs that an op of the built kinds reads: not the destination of a branch
+-- the inputs that an op of the built kinds reads: not a branch's destination, and not the constant that names a space
 abbrev pub read_inputs : Opcode → List Varnode → List Varnode
 read_inputs O.Branch vs = []
 read_inputs O.CBranch vs = past_first vs
+read_inputs O.Load vs = past_first vs
+read_inputs O.Store vs = past_first vs
 read_inputs code vs = vs
 
 -- where a storage begins on a line that has the register space, then the unique space, then the frame

@@ -2,7 +2,7 @@
 ghost use Rattle.std.specs.Prelude.{◌≡◌, ◌++◌, [], None, IfOk, OnOk, true};
 ghost use Rattle.pcode_model.specs.Flow.{AreApart};
 ghost use Rattle.pcode_model.specs.Atoms.{further_ranges, one_range, op_ranges, ranges_at};
-ghost use Rattle.supported.specs.Supported.{is_supported_code_of, is_supported_op};
+ghost use Rattle.supported.specs.Supported.{is_supported_code, is_supported_code_of};
 ghost use Rattle.stackvars.specs.Collected.{atom_of, atoms_at, atoms_in, atoms_of, read_inputs, storage_of};
 
 use bits_core::Memory;
@@ -62,13 +62,15 @@ fn push_inputs(out: &mut Vec<Atom>, listing: &Listing, op: &Op) -> Result<(), Me
 {
     match &op.code {
         Opcode::Branch => Ok(()),
-        Opcode::CBranch => push_ranges(out, listing, op.past_first()),
+        Opcode::CBranch | Opcode::Load | Opcode::Store => {
+            push_ranges(out, listing, op.past_first())
+        }
         _ => push_ranges(out, listing, op.inputs.as_slice()),
     }
 }
 
 fn push_result(out: &mut Vec<Atom>, listing: &Listing, op: &Op) -> Result<(), Memory>
-    requires { is_supported_op listing.now op.now ≡ true }
+    requires { is_supported_code op.now.code ≡ true }
     ensures { OnOk result (out.new.items
         ≡ out.old.items ++ atoms_of listing.now (further_ranges listing.now None op.now.code op.now.inputs)) }
 {
@@ -79,7 +81,7 @@ fn push_result(out: &mut Vec<Atom>, listing: &Listing, op: &Op) -> Result<(), Me
 }
 
 fn push_op(out: &mut Vec<Atom>, listing: &Listing, op: &Op) -> Result<(), Memory>
-    requires { is_supported_op listing.now op.now ≡ true }
+    requires { is_supported_code op.now.code ≡ true }
     ensures { OnOk result (out.new.items ≡ out.old.items ++ atoms_of listing.now (op_ranges listing.now None op.now)) }
 {
     push_inputs(out, listing, op)?;
@@ -89,7 +91,7 @@ fn push_op(out: &mut Vec<Atom>, listing: &Listing, op: &Op) -> Result<(), Memory
 
 fn push_place(out: &mut Vec<Atom>, listing: &Listing, place: Place) -> Result<(), Memory>
     requires apart { AreApart listing.now.code }
-    requires supported { is_supported_code_of listing.now listing.now.code ≡ true }
+    requires supported { is_supported_code_of listing.now.code ≡ true }
     ensures { OnOk result (out.new.items ≡ out.old.items ++ atoms_of listing.now (ranges_at listing.now [] place)) }
 {
     match op_at(listing, place) {
@@ -100,7 +102,7 @@ fn push_place(out: &mut Vec<Atom>, listing: &Listing, place: Place) -> Result<()
 
 fn push_places(out: &mut Vec<Atom>, listing: &Listing, places: &[Place]) -> Result<(), Memory>
     requires apart { AreApart listing.now.code }
-    requires supported { is_supported_code_of listing.now listing.now.code ≡ true }
+    requires supported { is_supported_code_of listing.now.code ≡ true }
     ensures { OnOk result (out.new.items ≡ out.old.items ++ atoms_at listing.now places.now) }
 {
     for place in places {
@@ -116,7 +118,7 @@ pub(crate) fn collect(
     blocks: &[Block],
 ) -> Result<Vec<Atom>, Memory>
     requires apart { AreApart listing.now.code }
-    requires supported { is_supported_code_of listing.now listing.now.code ≡ true }
+    requires supported { is_supported_code_of listing.now.code ≡ true }
     ensures { IfOk result (λ atoms. atoms.items ≡ atoms_in listing.now blocks.now) }
 {
     let mut atoms = Vec::new(alloc);

@@ -4,7 +4,7 @@ use Rattle.refusals.proofs.Blocks.{few_starts}
 use Rattle.pipeline.specs.Verdict.{Stops}
 use Rattle.pipeline.proofs.Forms.{atoms_stops}
 use Rattle.plain_form.proofs.Form.{accessed_equal_or_apart, accessed_sized}
-use Rattle.pipeline.proofs.Formed.{formed_is}
+use Rattle.plain_form.proofs.Read.{formed_is}
 use Rattle.pipeline.proofs.verdict.ranges.Goals as goal
 
 pub atoms-requires-clause-sized : goal.atoms-requires-clause-sized

@@ -3,4 +3,4 @@ use Rattle.supported.specs.Supported.{are_supported_ops}
 use Rattle.supported.proofs.listing.are_supported_ops.Given as goal
 
 abbrev pub invariant-loop-op : goal.invariant-loop-op
-invariant-loop-op l = are_supported_ops l.listing (drop l.op-index l.ops) ≡ are_supported_ops l.listing l.ops
+invariant-loop-op l = are_supported_ops (drop l.op-index l.ops) ≡ are_supported_ops l.ops

@@ -6,7 +6,6 @@ returns c = (
   λ t. record {
     stack = search rules;
     callees = search rules;
-    fixed = search rules;
     keeps = search rules;
     ops = search rules;
     ranges = c.in_ok-apart.ensures.0 t;

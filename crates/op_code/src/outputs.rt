@@ -1,0 +1,100 @@
+//! What is assigned to outputs.
+
+ghost use Rattle.std.specs.Prelude.{◌≡◌, ◌≤◌, ◌^◌, ◌++◌, [], length, OnOk};
+ghost use Rattle.pcode_model.specs.declared.listing.SpaceKind.TheVariants.{Ram};
+ghost use Rattle.op_code.specs.Made.{set_by, sets};
+ghost use Rattle.op_code.specs.Sources.{set_to};
+
+use crate::locals::new_local;
+use crate::memory::{direct_address, space_name};
+use crate::table::Table;
+use bits_core::Memory;
+use blockcode::Variables;
+use cmeaning::{Body, Expr, StatementDivision, Stmt};
+use pcode_model::{Listing, Name, SpaceKind, Varnode};
+use std::alloc::Global;
+
+/// What a variable is set to.
+#[derive(Drop)]
+pub(crate) enum Source {
+    Value(Expr),
+    Load {
+        space: Option<Name>,
+        address: Expr,
+    },
+    Divide {
+        op: StatementDivision,
+        left: Expr,
+        right: Expr,
+    },
+}
+
+/// The statement that sets a variable.
+fn statement(source: Source, target: u32) -> Stmt
+    ensures { result ≡ set_to source target }
+{
+    match source {
+        Source::Value(value) => Stmt::Assign { target, value },
+        Source::Load { space, address } => Stmt::Load {
+            target,
+            space,
+            address,
+        },
+        Source::Divide { op, left, right } => Stmt::Divide {
+            target,
+            op,
+            left,
+            right,
+        },
+    }
+}
+
+/// Sets a direct range of memory, by a local that is stored.
+fn set_memory(
+    alloc: Global,
+    listing: &Listing,
+    variables: &mut Variables,
+    body: &mut Body,
+    out: Varnode,
+    source: Source,
+) -> Result<(), Memory>
+    ensures statements { OnOk result (body.new ≡ body.old ++ (set_by Ram listing.now [] (length variables.old) out (set_to source)).statements) }
+    ensures locals { OnOk result (variables.new ≡ variables.old ++ (set_by Ram listing.now [] (length variables.old) out (set_to source)).locals) }
+    ensures few { OnOk result (length variables.new ≤ 2 ^ 32) }
+{
+    let target = new_local(variables, out.size)?;
+    body.push(statement(source, target))?;
+    body.push(Stmt::Store {
+        space: space_name(alloc, listing, u64::from(out.space))?,
+        address: direct_address(listing, out),
+        value: Expr::Var(target),
+    })?;
+    Ok(())
+}
+
+/// Sets an output, where there is one.
+pub(crate) fn set(
+    alloc: Global,
+    listing: &Listing,
+    table: &Table,
+    variables: &mut Variables,
+    body: &mut Body,
+    out: Option<Varnode>,
+    source: Source,
+) -> Result<(), Memory>
+    requires few { length variables.old ≤ 2 ^ 32 }
+    ensures statements { OnOk result (body.new ≡ body.old ++ (sets listing.now table.now (length variables.old) out (set_to source)).statements) }
+    ensures locals { OnOk result (variables.new ≡ variables.old ++ (sets listing.now table.now (length variables.old) out (set_to source)).locals) }
+    ensures few { OnOk result (length variables.new ≤ 2 ^ 32) }
+{
+    let Some(range) = out else {
+        return Ok(());
+    };
+    match listing.space_kind(range.space) {
+        SpaceKind::Ram => set_memory(alloc, listing, variables, body, range, source),
+        SpaceKind::Constant | SpaceKind::Register | SpaceKind::Unique => {
+            body.push(statement(source, table.variable(range)))?;
+            Ok(())
+        }
+    }
+}
