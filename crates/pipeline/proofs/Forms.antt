@@ -10,6 +10,7 @@ use Rattle.pcode_model.specs.Flow.{IsFlow, IsIn, NoFault}
 use Rattle.pcode_model.specs.Frame.{IsFrameOf, NoStackPointer, frame_of, no_variables}
 use Rattle.pcode_model.specs.Limits.{max_blocks}
 use Rattle.pcode_model.specs.Rules.{first_bad}
+use Rattle.pcode_model.specs.Spaces.{first_ram}
 use Rattle.pcode_model.specs.WellFormed.{IsWellFormed}
 use Rattle.supported.specs.Ranges.{AllInSpace, named_ranges}
 use Rattle.supported.specs.Supported.{IsSupported}
@@ -27,13 +28,15 @@ use Rattle.refusals.specs.declared.refusal.Refusal.{Refusal}
 use Rattle.refusals.specs.declared.refusal.Refusal.TheVariants as R
 use Rattle.refusals.proofs.Blocks.{few_starts}
 use Rattle.cmeaning.specs.declared.tree.CFunction.{CFunction}
+use Rattle.cmeaning.specs.Fits.{Fits}
+use Rattle.cmeaning.specs.Valid.{IsValid}
 use Rattle.ctext.specs.Text.{text_of}
 use Rattle.naming.specs.declared.head.Head.{Head}
 use Rattle.blockcode.specs.declared.code.Code.{Code}
 use Rattle.layout.specs.Function.{head_of, laid_out}
 use Rattle.op_code.specs.Lowerable as code
 use Rattle.op_code.specs.Lowered.{lowered, result_width}
-use Rattle.plain_valid.specs.Function.{plain_function}
+use Rattle.plain_valid.specs.Function.{plain_function, plain_head}
 use Rattle.plain_valid.proofs.Fit.{plain_body_fits, plain_params_fit}
 use Rattle.plain_valid.proofs.Laying.{can_lay}
 use Rattle.plain_valid.proofs.Long.{atoms_long}
@@ -45,10 +48,11 @@ use Rattle.layout_laws.proofs.Obeys.{laid_valid}
 use Rattle.plain_form.proofs.Accessed.{accessed_inside}
 use Rattle.plain_form.proofs.Form.{plain_form}
 use Rattle.plain_form.proofs.Formed.{Inside}
+use Rattle.plain_form.proofs.Read.{formed_is}
+use Rattle.plain_form.proofs.Spaces.{space_some}
 use Rattle.pipeline.specs.Passed.{Lowers}
 use Rattle.pipeline.specs.PlainForm.{IsPlainForm}
 use Rattle.pipeline.specs.Verdict.{Accepts, IsCause, MayPrint, Stops}
-use Rattle.plain_form.proofs.Read.{formed_is}
 use Rattle.pipeline.proofs.Formed.{gives_is, uncut}
 use Rattle.pipeline.proofs.Keeps as keeps
 
@@ -115,6 +119,13 @@ module _
 -- The same of a function that is this one.
 pub lowers_to : (l : Listing) (f g : CFunction) → f ≡ g → Lowers l g → Lowers l f
 lowers_to l f g is h = subst (λ (x : CFunction). Lowers l x) (sym is) h
+
+-- as many variables as the code that was made
+pub few_made : (l : Listing) (blocks : List Block) (atoms : List Atom) (k : Code)
+    → k ≡ lowered l blocks atoms
+    → length k.variables ≤ 2 ^ 32
+    → length (lowered l blocks atoms).variables ≤ 2 ^ 32
+few_made l blocks atoms k is few = subst (λ (x : Code). length x.variables ≤ 2 ^ 32) is few
 
 -- the laid out function, by its parts
 pub laid_is : (l : Listing) (blocks : List Block) (atoms : List Atom) (name : List ℕ) (gives : Option Width)
