@@ -13,7 +13,8 @@ use Rattle.cmeaning.specs.Valid.{is_in}
 use Rattle.cmeaning.proofs.Places.{put, some_first}
 use Rattle.blockcode.specs.declared.code.Arm.{Arm}
 use Rattle.blockcode.specs.Laid.{values_to, without, targets, branch_to, branches}
-use Rattle.layout_laws.proofs.Targets.{AreOnce, in_without, neither, once, values_none}
+use Rattle.pcode_laws.proofs.Rules.{neither}
+use Rattle.blockcode.proofs.Targets.{AreOnce, in_without, once, values_none}
 use Rattle.layout.specs.declared.branches.Led.{Led}
 use Rattle.layout.specs.Collected.{first_of, with_one, with_value, with_case, with_cases, branch_arm, is_to, HasPlaces}
 

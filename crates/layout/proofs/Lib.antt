@@ -1,2 +1,4 @@
 mod Flags
 mod Collected
+pub mod Suiting
+pub mod Fitting

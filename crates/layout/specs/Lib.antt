@@ -1,2 +1,4 @@
 pub mod Collected
 pub mod Function
+pub mod Suits
+pub mod Fitting

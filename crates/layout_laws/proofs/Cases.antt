@@ -11,7 +11,8 @@ use Rattle.blockcode.specs.declared.code.Arm.{Arm}
 use Rattle.blockcode.specs.Laid.{targets, values_to, without}
 use Rattle.blockcode.specs.CanLay.{values_of}
 use Rattle.layout_laws.proofs.Laid.{same_number}
-use Rattle.layout_laws.proofs.Targets.{AreOnce, neither, once, out, values_none}
+use Rattle.pcode_laws.proofs.Rules.{neither}
+use Rattle.blockcode.proofs.Targets.{AreOnce, once, out, values_none}
 
 -- the values that lead to these blocks
 abbrev pub led_values : List Arm → List ℕ → List ℕ

@@ -11,8 +11,7 @@ use Rattle.cmeaning.specs.Mentions.{Mention, Variable, Callee, LabelLine, all, i
 use Rattle.cmeaning.proofs.Mentions.{in_append, in_arm_body, in_statement}
 use Rattle.naming.specs.declared.head.Head.{Head}
 use Rattle.naming.specs.Listed.{is_listed, with_one}
-use Rattle.naming_laws.specs.Covered.{Covers, IsCovered, has_line}
-use Rattle.naming_laws.specs.Kept.{HasOnce}
+use Rattle.naming.specs.Covered.{Covers, HasOnce, IsCovered, has_line}
 use Rattle.naming_laws.proofs.Found.{listed_more}
 use Rattle.blockcode.specs.declared.code.Arm.{Arm}
 use Rattle.blockcode.specs.declared.code.Exit.{Exit}
@@ -20,7 +19,8 @@ use Rattle.blockcode.specs.declared.code.Exit.TheVariants as X
 use Rattle.blockcode.specs.declared.code.Block.{Block}
 use Rattle.blockcode.specs.declared.code.Code.{Code}
 use Rattle.blockcode.specs.Laid.{is_named, branch_to, branches, targets, label_line, goto, exit_lines, laid_from, laid_body}
-use Rattle.layout_laws.specs.Suits.{Knows, BodySuits, ExitSuits, AllSuit}
+use Rattle.layout.specs.Suits.{Knows, BodySuits, ExitSuits, AllSuit}
+use Rattle.layout.proofs.Suiting.{knows_append, knows_in, knows_one}
 
 -- ---- what lines mention
 
@@ -58,36 +58,26 @@ in_jump next to = by (to == next) where
 -- ---- known by the head
 
 module _ (h : Head) where
-  pub knows_append : (xs ys : List Mention) → Knows h xs → Knows h ys → Knows h (xs ++ ys)
-  knows_append [] ys k l = l
-  knows_append (x ∷ xs) ys k l = (k.0, knows_append xs ys k.1 l)
-
-  pub knows_in : (xs ys : List Stmt) → Knows h (in_body xs) → Knows h (in_body ys) → Knows h (in_body (xs ++ ys))
-  knows_in xs ys k l = subst (Knows h) (sym (in_append xs ys)) (knows_append (in_body xs) (in_body ys) k l)
-
   knows_none : (xs : List Mention) → xs ≡ [] → Knows h xs
   knows_none xs none = subst (Knows h) (sym none) tt
 
-  pub knows_one : (s : Stmt) (xs : List Mention) → in_stmt s ≡ xs → Knows h xs → Knows h (in_body (s ∷ []))
-  knows_one s xs is k = knows_append (in_stmt s) [] (subst (Knows h) (sym is) k) tt
-
   knows_exit : (next : ℕ) (e : Exit) → ExitSuits h e → Knows h (in_body (exit_lines next e))
-  knows_exit next (X.Return e) s = knows_one (S.Return e) (in_option e)
+  knows_exit next (X.Return e) s = knows_one h (S.Return e) (in_option e)
       (in_statement (S.Return e) (Stmt-F.Return e) (S.rolls-Return e)) s.1
   knows_exit next (X.Jump to) s = knows_none (in_body (goto next to)) (in_jump next to)
   knows_exit next (X.Test c taken other) s =
-      knows_in (S.If c (S.Goto taken ∷ []) ∷ []) (goto next other)
-      (knows_one (S.If c (S.Goto taken ∷ [])) (in_expr c ++ []) (in_test c taken) (knows_append (in_expr c) [] s.1 tt))
+      knows_in h (S.If c (S.Goto taken ∷ []) ∷ []) (goto next other)
+      (knows_one h (S.If c (S.Goto taken ∷ [])) (in_expr c ++ []) (in_test c taken) (knows_append h (in_expr c) [] s.1 tt))
       (knows_none (in_body (goto next other)) (in_jump next other))
   knows_exit next (X.Switch e arms) s =
-      knows_one (S.Switch e (branches arms)) (in_expr e ++ []) (in_switch e arms) (knows_append (in_expr e) [] s.1 tt)
+      knows_one h (S.Switch e (branches arms)) (in_expr e ++ []) (in_switch e arms) (knows_append h (in_expr e) [] s.1 tt)
   knows_exit next X.Stop s = tt
 
   -- the lines of a block without its label
   knows_block : (next : ℕ) (x : Block)
       → BodySuits h x.body × ExitSuits h x.exit
       → Knows h (in_body (x.body ++ exit_lines next x.exit))
-  knows_block next x s = knows_in x.body (exit_lines next x.exit) (s.0).knows (knows_exit next x.exit s.1)
+  knows_block next x s = knows_in h x.body (exit_lines next x.exit) (s.0).knows (knows_exit next x.exit s.1)
 
   -- ---- what is covered
 

@@ -14,7 +14,7 @@ use Rattle.naming.specs.declared.head.Head.{Head}
 use Rattle.naming.specs.Run.{start_of, widths_of}
 use Rattle.blockcode.specs.declared.code.Variable.{Variable}
 use Rattle.blockcode.specs.Run.{width_in, widths, word_in, first_word, first_local}
-use Rattle.layout_laws.specs.Suits.{Declares}
+use Rattle.layout.specs.Suits.{Declares}
 
 width_at : (vs : List Variable) (ps : List Param) (xs : List Local) (n : ℕ)
     → Declares vs ps xs

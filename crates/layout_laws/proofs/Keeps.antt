@@ -19,11 +19,11 @@ use Rattle.blockcode.proofs.Grows.{code_grows}
 use Rattle.naming.specs.declared.head.Head.{Head}
 use Rattle.naming.specs.Named.{named_function}
 use Rattle.naming.specs.Run.{body_machine, flat_machine, returns_of, seen_body, widths_of}
-use Rattle.naming_laws.specs.Covered.{IsCovered}
+use Rattle.naming.specs.Covered.{IsCovered}
 use Rattle.naming_laws.proofs.Keeps as naming
 use Rattle.layout_laws.proofs.Follows.{Related, body_run, arrives}
 use Rattle.layout_laws.proofs.Ends.{simulates, two_way_later}
-use Rattle.layout_laws.specs.Suits.{Declares}
+use Rattle.layout.specs.Suits.{Declares}
 use Rattle.layout_laws.proofs.Declared.{first_declared, widths_declared}
 use Rattle.layout_laws.proofs.Laid.{jump_leads, jump_named, lines, lines_given, true_or}
 

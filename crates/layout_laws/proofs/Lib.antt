@@ -7,7 +7,7 @@ pub mod Laid
 pub mod Declared
 pub mod Keeps
 pub mod Covered
-pub mod Targets
 mod Cases
 pub mod Obeys
+pub mod Fits
 mod Worked

@@ -15,9 +15,9 @@ use Rattle.cmeaning.specs.Valid.{Rule, Cased, all_cases, all_hold, are_callees, 
 use Rattle.naming.specs.declared.head.Head.{Head}
 use Rattle.naming.specs.Named.{named_function}
 use Rattle.naming.specs.Run.{widths_of}
-use Rattle.naming_laws.specs.Covered.{has_line}
-use Rattle.naming_laws.specs.Rules.{own_cased, own_rule, own_step}
-use Rattle.naming_laws.proofs.Rules.{own_cased_is, own_roll}
+use Rattle.naming.specs.Covered.{has_line}
+use Rattle.naming.specs.Rules.{own_cased, own_rule}
+use Rattle.naming.proofs.Rules.{own_cased_is, rule_is}
 use Rattle.naming_laws.proofs.Valid.{named_valid}
 use Rattle.blockcode.specs.declared.code.Arm.{Arm}
 use Rattle.blockcode.specs.declared.code.Exit.{Exit}
@@ -27,7 +27,9 @@ use Rattle.blockcode.specs.declared.code.Code.{Code}
 use Rattle.blockcode.specs.CanLay.{values_of}
 use Rattle.blockcode.specs.Laid.{arms_name, blocks_name, branch_to, branches, exit_lines, exit_names, goto, is_named, jump_names, label_line, laid_body, laid_from, targets, values_to, without}
 use Rattle.blockcode.specs.Numbers.{AreNumbered, ArmsBelow, ExitBelow}
-use Rattle.layout_laws.specs.Suits.{AllSuit, ExitSuits}
+use Rattle.layout.specs.Suits.{AllSuit, ExitSuits}
+use Rattle.layout.proofs.Suiting as Suiting
+use Rattle.layout.proofs.Suiting.{obey_append, obey_none, obey_one}
 use Rattle.layout_laws.proofs.Cases.{cases_led, led_values}
 use Rattle.layout_laws.proofs.Covered.{laid_covered, named_has_line}
 use Rattle.layout_laws.proofs.Laid.{below_at, block_names, jump_named, or_true, same_number, true_or}
@@ -72,59 +74,30 @@ target_cased (a ∷ rest) t h = by (a.to == t) h (target_cased rest t) where
 -- ---- rules
 
 module _ (h : Head) (leads : ℕ → Bool) where
-  abbrev rules : List Stmt → List Rule
-  rules ss = map (own_rule h leads) ss
-
-  -- behind any other statement
   abbrev Obey : List Stmt → Type 0
-  Obey ss = (after : Bool) → all_hold after (rules ss) false 256 ≡ true
-
-  pub rule_is : (s : Stmt) (y : Stmt-F Stmt Branch)
-      → roll-Stmt y ≡ s
-      → own_rule h leads s ≡ own_step h leads (map-Stmt Stmt Branch Rule Cased (own_rule h leads) (own_cased h leads) y)
-  rule_is s y is = ap (own_rule h leads) (sym is) ∙ own_roll h leads y
-
-  holds_append : (xs ys : List Stmt) (after : Bool)
-      → all_hold after (rules xs) false 256 ≡ true
-      → Obey ys
-      → all_hold after (rules (xs ++ ys)) false 256 ≡ true
-  holds_append [] ys after o p = p after
-  holds_append (x ∷ xs) ys after o p =
-      let here = (own_rule h leads x).holds after false 255 in
-      let parts = and_parts here (all_hold (own_rule h leads x).calls (rules xs) false 256) o in
-      ap (λ b. b && all_hold (own_rule h leads x).calls (rules (xs ++ ys)) false 256) parts.0
-      ∙ holds_append xs ys (own_rule h leads x).calls parts.1 p
-
-  pub obey_append : (xs ys : List Stmt) → Obey xs → Obey ys → Obey (xs ++ ys)
-  obey_append xs ys o p after = holds_append xs ys after (o after) p
-
-  pub obey_none : Obey []
-  obey_none after = refl
-
-  pub obey_one : (s : Stmt) → ((after : Bool) → (own_rule h leads s).holds after false 255 ≡ true) → Obey (s ∷ [])
-  obey_one s o after = ap (λ b. b && true) (o after)
+  Obey ss = Suiting.Obey h leads ss
 
   goto_holds : (n : ℕ) (after in_loop : Bool) (room : ℕ)
       → leads n ≡ true
       → (own_rule h leads (S.Goto n)).holds after in_loop room ≡ true
   goto_holds n after in_loop room is =
-      ap (λ r. r.holds after in_loop room) (rule_is (S.Goto n) (Stmt-F.Goto n) (S.rolls-Goto n)) ∙ is
+      ap (λ r. r.holds after in_loop room) (rule_is h leads (S.Goto n) (Stmt-F.Goto n) (S.rolls-Goto n)) ∙ is
 
   obey_jump : (next to : ℕ) → ((to ≢ next) → leads to ≡ true) → Obey (goto next to)
   obey_jump next to is = by (to == next) refl where
     by : (b : Bool) → (to == next) ≡ b → Obey (cond b [] (S.Goto to ∷ []))
-    by true e = obey_none
+    by true e = obey_none h leads
     by false e =
         let ne : to ≢ next = λ f. let t : (to == next) ≡ true = grind (arith, nat_tests) in absurd (cc) in
-        obey_one (S.Goto to) (λ after. goto_holds to after false 255 (is ne))
+        obey_one h leads (S.Goto to) (λ after. goto_holds to after false 255 (is ne))
 
   obey_test : (c : Expr) (n : ℕ)
       → is_condition (shape_of (widths_of h) c) ≡ true
       → leads n ≡ true
       → Obey (S.If c (S.Goto n ∷ []) ∷ [])
-  obey_test c n is lead = obey_one (S.If c (S.Goto n ∷ []))
+  obey_test c n is lead = obey_one h leads (S.If c (S.Goto n ∷ []))
       (λ after. ap (λ r. r.holds after false 255)
-      (rule_is (S.If c (S.Goto n ∷ [])) (Stmt-F.If c (S.Goto n ∷ [])) (S.rolls-If c (S.Goto n ∷ [])))
+      (rule_is h leads (S.If c (S.Goto n ∷ [])) (Stmt-F.If c (S.Goto n ∷ [])) (S.rolls-If c (S.Goto n ∷ [])))
       ∙ ap (λ b. b && ((own_rule h leads (S.Goto n)).holds false false 254 && true)) is
       ∙ ap (λ b. b && true) (goto_holds n false false 254 lead))
 
@@ -152,9 +125,9 @@ module _ (h : Head) (leads : ℕ → Bool) where
       → are_cases_of (values_of arms) (shape_of (widths_of h) e) ≡ true
       → ((t : ℕ) → arms_name arms t ≡ true → leads t ≡ true)
       → Obey (S.Switch e (branches arms) ∷ [])
-  obey_switch e arms is lead = obey_one (S.Switch e (branches arms))
+  obey_switch e arms is lead = obey_one h leads (S.Switch e (branches arms))
       (λ after. ap (λ r. r.holds after false 255)
-      (rule_is (S.Switch e (branches arms)) (Stmt-F.Switch e (branches arms)) (S.rolls-Switch e (branches arms)))
+      (rule_is h leads (S.Switch e (branches arms)) (Stmt-F.Switch e (branches arms)) (S.rolls-Switch e (branches arms)))
       ∙ ap (λ vs. are_cases_of vs (shape_of (widths_of h) e)
       && arms_hold (map (own_cased h leads) (branches arms)) 255) (cases_are arms (targets arms))
       ∙ ap (λ b. b && arms_hold (map (own_cased h leads) (branches arms)) 255)
@@ -168,21 +141,21 @@ module _ (h : Head) (leads : ℕ → Bool) where
       → ExitSuits h e
       → ((b : ℕ) → exit_names next e b ≡ true → leads b ≡ true)
       → Obey (exit_lines next e)
-  obey_exit next (X.Return e) s lead = obey_one (S.Return e)
-      (λ after. ap (λ r. r.holds after false 255) (rule_is (S.Return e) (Stmt-F.Return e) (S.rolls-Return e)) ∙ s.0)
+  obey_exit next (X.Return e) s lead = obey_one h leads (S.Return e)
+      (λ after. ap (λ r. r.holds after false 255) (rule_is h leads (S.Return e) (Stmt-F.Return e) (S.rolls-Return e)) ∙ s.0)
   obey_exit next (X.Jump to) s lead = obey_jump next to (λ ne. lead to (jump_named next to ne))
   obey_exit next (X.Test c taken other) s lead =
-      obey_append (S.If c (S.Goto taken ∷ []) ∷ []) (goto next other)
+      obey_append h leads (S.If c (S.Goto taken ∷ []) ∷ []) (goto next other)
       (obey_test c taken s.0 (lead taken (true_or (taken == taken) (jump_names next other taken) (same_number taken))))
       (obey_jump next other
       (λ ne. lead other (or_true (taken == other) (jump_names next other other) (jump_named next other ne))))
   obey_exit next (X.Switch e arms) s lead = obey_switch e arms s.0 lead
-  obey_exit next X.Stop s lead = obey_none
+  obey_exit next X.Stop s lead = obey_none h leads
 
   obey_label : (b : Bool) (n : ℕ) → n < 2 ^ 32 → Obey (label_line b n)
-  obey_label false n few = obey_none
-  obey_label true n few = obey_one (S.Label n)
-      (λ after. ap (λ r. r.holds after false 255) (rule_is (S.Label n) (Stmt-F.Label n) (S.rolls-Label n))
+  obey_label false n few = obey_none h leads
+  obey_label true n few = obey_one h leads (S.Label n)
+      (λ after. ap (λ r. r.holds after false 255) (rule_is h leads (S.Label n) (Stmt-F.Label n) (S.rolls-Label n))
       ∙ grind (arith, nat_tests))
 
   obey_laid : (named : ℕ → Bool) (n : ℕ) (blocks : List Block)
@@ -191,14 +164,14 @@ module _ (h : Head) (leads : ℕ → Bool) where
       → ((c : ℕ) (x : Block) (b : ℕ) → slice_get blocks c ≡ Some x → exit_names (suc (n + c)) x.exit b ≡ true
       → leads b ≡ true)
       → Obey (laid_from named n blocks)
-  obey_laid named n [] few all lead = obey_none
+  obey_laid named n [] few all lead = obey_none h leads
   obey_laid named n (x ∷ xs) few all lead =
       let ex = exit_lines (suc n) x.exit in
       let rest = laid_from named (suc n) xs in
       let here : n + 0 ≡ n = omega arith in
-      obey_append (label_line (named n) n) (x.body ++ (ex ++ rest)) (obey_label (named n) n (omega (arith, few)))
-      (obey_append x.body (ex ++ rest) ((all.0.0).obey leads)
-      (obey_append ex rest
+      obey_append h leads (label_line (named n) n) (x.body ++ (ex ++ rest)) (obey_label (named n) n (omega (arith, few)))
+      (obey_append h leads x.body (ex ++ rest) ((all.0.0).obey leads)
+      (obey_append h leads ex rest
       (obey_exit (suc n) x.exit all.0.1
       (λ b names. lead 0 x b refl (ap (λ m. exit_names (suc m) x.exit b) here ∙ names)))
       (obey_laid named (suc n) xs (omega (arith, few)) all.1

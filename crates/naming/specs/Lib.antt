@@ -5,3 +5,5 @@ pub mod Places
 pub mod Named
 pub mod Run
 pub mod Worked
+pub mod Covered
+pub mod Rules

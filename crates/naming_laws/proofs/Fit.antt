@@ -18,7 +18,7 @@ use Rattle.naming.specs.Renamed.{Names, stmt_layer, stmt_by, arm_by, body_by}
 use Rattle.naming.specs.Named.{named_function}
 use Rattle.naming.specs.Run.{widths_of, returns_of}
 use Rattle.naming_laws.specs.Kept.{Kept}
-use Rattle.naming_laws.specs.Covered.{IsCovered}
+use Rattle.naming.specs.Covered.{IsCovered}
 use Rattle.naming_laws.proofs.Mentions.{stmt_by_roll, arm_by_is, in_stmt_roll}
 use Rattle.naming_laws.proofs.Values.{kept_first, kept_second}
 use Rattle.naming_laws.proofs.Named.{names, named_keeps}
@@ -28,7 +28,7 @@ fits_roll : (l : Listing) (ws : ℕ → ℕ) (y : Stmt-F Stmt Arm)
 unfolding stmt_fits arm_fits
 fits_roll l ws y = fold-roll-Stmt Bool Bool (fits_step l ws) F.arm_step y
 
-arm_fits_is : (l : Listing) (ws : ℕ → ℕ) (a : Arm) → arm_fits l ws a ≡ body_fits l ws a.body
+pub arm_fits_is : (l : Listing) (ws : ℕ → ℕ) (a : Arm) → arm_fits l ws a ≡ body_fits l ws a.body
 unfolding stmt_fits arm_fits
 arm_fits_is l ws a = fold_out-Arm Bool Bool (fits_step l ws) F.arm_step a
 

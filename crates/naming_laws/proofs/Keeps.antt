@@ -19,7 +19,7 @@ use Rattle.naming.specs.Listed.{place_in}
 use Rattle.naming.specs.First.{order_of, variable_number, names_of}
 use Rattle.naming.specs.Named.{named_function}
 use Rattle.naming.specs.Run.{body_machine, widths_of, returns_of, start_of, seen_body}
-use Rattle.naming_laws.specs.Covered.{IsCovered}
+use Rattle.naming.specs.Covered.{IsCovered}
 use Rattle.naming_laws.proofs.Apart.{names_apart}
 use Rattle.naming_laws.proofs.Steps.{state_back}
 use Rattle.naming_laws.proofs.Runs.{renamed_run}

@@ -22,9 +22,8 @@ use Rattle.naming.specs.First.{none_noted, order_of, variable_number, names_of, 
 use Rattle.naming.specs.Named.{local_of, named_function}
 use Rattle.naming.specs.Renamed.{Names, mention_by}
 use Rattle.naming.specs.Run.{widths_of, returns_of}
-use Rattle.naming_laws.specs.Kept.{Kept, KeepsOne}
-use Rattle.naming_laws.specs.Covered.{Covers, CoversOne, IsCovered}
-use Rattle.naming_laws.specs.Rules.{Obeys, ObeysOne}
+use Rattle.naming_laws.specs.Kept.{Kept, KeepsOne, Obeys, ObeysOne}
+use Rattle.naming.specs.Covered.{Covers, CoversOne, IsCovered}
 use Rattle.naming_laws.proofs.Places.{place_within}
 use Rattle.naming_laws.proofs.Numbers.{AreDeclared, numbered_first}
 use Rattle.naming_laws.proofs.Mentions.{in_body_by}

@@ -11,7 +11,7 @@ use Rattle.naming.specs.declared.head.Head.{Head}
 use Rattle.naming.specs.declared.order.Order.{Order}
 use Rattle.naming.specs.Listed.{is_listed, with_one}
 use Rattle.naming.specs.First.{noted, all_noted, none_noted, order_of}
-use Rattle.naming_laws.specs.Covered.{Covers, CoversOne, IsCovered, has_line}
+use Rattle.naming.specs.Covered.{Covers, CoversOne, IsCovered, has_line}
 use Rattle.naming_laws.proofs.Places.{GoesOn}
 use Rattle.naming_laws.proofs.Numbers.{IsLater, later_all, in_one}
 use Rattle.naming_laws.proofs.Found.{All, all_one, AreDistinct, distinct_one, IsFound, IsWithin, listed_more}

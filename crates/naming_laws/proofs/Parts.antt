@@ -6,8 +6,7 @@ use Rattle.pcode_model.specs.Spaces.{or}
 use Rattle.cmeaning.specs.Mentions.{Mention, Variable, Callee, LabelLine}
 use Rattle.naming.specs.declared.head.Head.{Head}
 use Rattle.naming.specs.Listed.{is_listed, with_one}
-use Rattle.naming_laws.specs.Kept.{HasOnce}
-use Rattle.naming_laws.specs.Covered.{Covers}
+use Rattle.naming.specs.Covered.{Covers, HasOnce}
 use Rattle.naming_laws.proofs.Found.{All, all_map, all_one}
 
 pub covers_both : (h : Head) (xs ys : List Mention) → Covers h xs → Covers h ys → Covers h (xs ++ ys)

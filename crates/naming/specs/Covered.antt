@@ -6,7 +6,7 @@ use Rattle.cmeaning.specs.declared.tree.Stmt.{Stmt}
 use Rattle.cmeaning.specs.Callees.{declared_in}
 use Rattle.cmeaning.specs.Mentions.{Mention, Variable, Callee, LabelLine, in_body}
 use Rattle.naming.specs.declared.head.Head.{Head}
-use Rattle.naming_laws.specs.Kept.{HasOnce}
+use Rattle.naming.specs.Listed.{is_listed, with_one}
 
 -- A variable is a parameter or has a local, and a callee is declared. The number of a label is small, so that labels
 -- that are numbered from 1 have numbers of 32 bits.
@@ -18,6 +18,13 @@ CoversOne h (LabelLine n) = n < 2 ^ 32 - 1
 abbrev pub Covers : Head → List Mention → Type 0
 Covers h [] = Unit {0}
 Covers h (x ∷ xs) = CoversOne h x × Covers h xs
+
+-- no label has two lines, and none one that is known
+abbrev pub HasOnce : List ℕ → List Mention → Type 0
+HasOnce known [] = Unit {0}
+HasOnce known (Variable v ∷ xs) = HasOnce known xs
+HasOnce known (Callee address ∷ xs) = HasOnce known xs
+HasOnce known (LabelLine n ∷ xs) = (is_listed n known ≡ false) × HasOnce (with_one known n) xs
 
 -- few: each variable has a number of 32 bits.
 -- once: no label has two lines.

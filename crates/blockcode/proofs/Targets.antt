@@ -3,6 +3,7 @@ use Rattle.std.proofs.Common.{◌≡◌, ℕ, Bool, true, false, List, [], ◌�
 use Rattle.std.specs.Prelude.{◌==◌, cond}
 use Rattle.std.proofs.lemmas.Bool.Decides.{nat_tests}
 use Rattle.pcode_model.specs.Spaces.{or}
+use Rattle.pcode_laws.proofs.Rules.{neither}
 use Rattle.cmeaning.specs.Valid.{is_in}
 use Rattle.blockcode.specs.declared.code.Arm.{Arm}
 use Rattle.blockcode.specs.Laid.{targets, values_to, without}
@@ -22,10 +23,6 @@ in_without x t (y ∷ ts) ne = by (y == x) refl (in_without x t ts ne) where
 abbrev pub AreOnce : List ℕ → Type 0
 AreOnce [] = Unit {0}
 AreOnce (t ∷ ts) = (is_in t ts ≡ false) × AreOnce ts
-
-pub neither : (a b : Bool) → or a b ≡ false → (a ≡ false) × (b ≡ false)
-neither true b h = absurd (cc)
-neither false b h = (refl, h)
 
 pub still_out : (x y : ℕ) (ts : List ℕ) → is_in y ts ≡ false → is_in y (without x ts) ≡ false
 still_out x y [] h = refl

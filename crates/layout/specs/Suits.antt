@@ -8,8 +8,8 @@ use Rattle.cmeaning.specs.Mentions.{Mention, Variable, Callee, LabelLine, in_exp
 use Rattle.cmeaning.specs.Valid.{all_hold, are_cases_of, is_returned}
 use Rattle.naming.specs.declared.head.Head.{Head}
 use Rattle.naming.specs.Run.{widths_of}
-use Rattle.naming_laws.specs.Covered.{CoversOne}
-use Rattle.naming_laws.specs.Rules.{own_rule}
+use Rattle.naming.specs.Covered.{CoversOne}
+use Rattle.naming.specs.Rules.{own_rule}
 use Rattle.blockcode.specs.declared.code.Variable as code
 use Rattle.blockcode.specs.declared.code.Exit.{Exit}
 use Rattle.blockcode.specs.declared.code.Exit.TheVariants as X
