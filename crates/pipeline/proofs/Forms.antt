@@ -99,9 +99,10 @@ module _
           refl
 
       fits : Fits l (plain_function l blocks atoms)
-      fits = laid_fits l head made (plain_body_fits l [] blocks atoms form)
-          (plain_params_fit l [] blocks atoms form)
+      fits = laid_fits l head made
           (keeps.plain_covered l [] blocks atoms form built.stack (space_some l (first_ram l)) small)
+          (plain_params_fit l [] blocks atoms form)
+          (plain_body_fits l [] blocks atoms form)
 
       -- All that is said of the function of the plain lowering.
       pub lowers : Lowers l (plain_function l blocks atoms)
