@@ -1,3 +1,4 @@
 pub mod Grows
 pub mod Straight
 pub mod Targets
+pub mod Arms

@@ -39,7 +39,7 @@ abbrev pub is_named : Code → ℕ → Bool
 is_named k b = or (jump_names 0 k.entry b) (blocks_name 0 k.blocks b)
 
 -- ---- the arms of a switch: one for each block that it leads to, in the order of their first cases, with all values that
--- lead there. Where the values rise, so do those of an arm, and the arms stand by their least ones.
+-- lead there. Where the values rise, the arms rise: ArmsRise in specs/Rising.antt, arms_rise in proofs/Arms.antt.
 
 abbrev pub values_to : ℕ → List Arm → List ℕ
 values_to to [] = []

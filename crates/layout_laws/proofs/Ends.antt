@@ -23,6 +23,7 @@ use Rattle.blockcode.specs.declared.code.Exit.TheVariants as X
 use Rattle.blockcode.specs.declared.code.Block.{Block}
 use Rattle.blockcode.specs.declared.code.Code.{Code}
 use Rattle.blockcode.specs.Run.{CodeState, widths, chosen, enters, enters_by, returns_with, leave, code_step, code_machine}
+use Rattle.blockcode.proofs.Arms.{rising_distinct}
 use Rattle.blockcode.specs.CanLay.{AreSimple, CanLeave, any_switch, has_switch, is_switch, values_of}
 use Rattle.blockcode.specs.Laid.{branches, goto, exit_lines, laid_from, targets}
 use Rattle.blockcode.proofs.Straight.{get_of_drop, rest_of_drop, still, step_in}
@@ -314,7 +315,7 @@ module _ (l : Listing) (k : Code) (g : Lines) (all : Given k g) where
       test_goes n taken other e u c never go same mu laid left
   exit_goes n (X.Switch e arms) u c never has go same mu leaves laid left rank =
       switch_goes n e arms (laid_from g.named (suc u.block) (drop (suc u.block) k.blocks)) u c never (has e arms refl)
-      go same leaves mu laid left
+      go same (rising_distinct (values_of arms) leaves) mu laid left
   exit_goes n X.Stop u c never has go same mu leaves laid left rank = absurd leaves
 
   body_goes : (n : ℕ) (b : Block) (ss : List Stmt) (u : CodeState) (c : CState)

@@ -1,17 +1,15 @@
 -- The lines of a laid body obey their rules, and the function that is made of it is a valid tree.
 use Rattle.std.proofs.Common.{◌≡◌, ◌≢◌, ℕ, suc, ◌+◌, ◌<◌, ◌≤◌, ◌^◌, ◌&&◌, Bool, true, false, List, [], ◌∷◌, ◌++◌, length, map, Some, refl, sym, ap, ◌∙◌, arith}
 use Rattle.std.specs.Prelude.{IsTrue, ◌==◌, cond, slice_get}
-use Rattle.std.proofs.lemmas.Bool.{and_parts}
 use Rattle.std.proofs.lemmas.Bool.Decides.{nat_tests}
 use Rattle.pcode_model.specs.Spaces.{or}
 use Rattle.cmeaning.specs.declared.tree.Expr.{Expr}
-use Rattle.cmeaning.specs.declared.tree.Arm.{Arm as Branch}
-use Rattle.cmeaning.specs.declared.tree.Stmt.{Stmt, roll-Stmt, map-Stmt}
+use Rattle.cmeaning.specs.declared.tree.Stmt.{Stmt}
 use Rattle.cmeaning.specs.declared.tree.Stmt.TheOpen.{Stmt-F}
 use Rattle.cmeaning.specs.declared.tree.Stmt.TheVariants as S
 use Rattle.cmeaning.specs.Mentions.{in_body}
 use Rattle.cmeaning.specs.Shape.{shape_of, is_condition}
-use Rattle.cmeaning.specs.Valid.{Rule, Cased, all_cases, all_hold, are_callees, are_cases_of, are_params, arms_hold, has_case, is_in, is_name, IsValid}
+use Rattle.cmeaning.specs.Valid.{all_cases, all_hold, are_callees, are_cases_of, are_params, arms_hold, has_case, is_in, is_name, IsValid}
 use Rattle.naming.specs.declared.head.Head.{Head}
 use Rattle.naming.specs.Named.{named_function}
 use Rattle.naming.specs.Run.{widths_of}

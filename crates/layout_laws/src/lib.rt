@@ -1,4 +1,5 @@
-//! The C function of a code with labels and gotos shows what the code shows: lemmas.
+//! The C function of a code with labels and gotos shows what the code shows; it is a valid tree where the code's statements
+//! suit the head, and it fits a listing where they do.
 //!
 //! The flat code of the function is the lines of the blocks one behind another (`proofs/Pieces.antt`), each block's from
 //! a position that its label, where it has one, leads to (`proofs/Positions.antt`).
@@ -9,4 +10,7 @@
 //! test or a goto, which leads to where the lines of the block are that it names, since every block that a goto names
 //! has a label. Where an exit leads to the next block there is no goto, and the C run stands still; the number of
 //! blocks that follow is the rank, which falls then, so it can't do so for ever.
+//!
+//! What is mentioned, the rules and the spaces that are named go line by line (`proofs/Covered.antt`, `proofs/Obeys.antt`,
+//! `proofs/Fits.antt`): labels, gotos and exits are looked at here, once, and a lowering shows its statements alone.
 #![tactic(auto)]

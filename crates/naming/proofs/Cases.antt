@@ -1,6 +1,7 @@
--- The worked body, by computation.
-use Rattle.std.proofs.Common.{◌≡◌, ℕ, List, [], ◌∷◌, ◌++◌, sym, ap, ◌∙◌, Option}
+-- The worked bodies, by computation.
+use Rattle.std.proofs.Common.{◌≡◌, ℕ, List, [], ◌∷◌, ◌++◌, length, sym, ap, ◌∙◌, Option}
 use Rattle.cmeaning.specs.declared.tree.Arm.{Arm}
+use Rattle.cmeaning.specs.declared.tree.CFunction.{CFunction}
 use Rattle.cmeaning.specs.declared.tree.Expr.{Expr, fold-roll-Expr}
 use Rattle.cmeaning.specs.declared.tree.Expr.TheOpen.{Expr-F}
 use Rattle.cmeaning.specs.declared.tree.Expr.TheVariants as E
@@ -11,6 +12,7 @@ use Rattle.cmeaning.specs.Mentions.{Variable, Callee, LabelLine, in_expr, in_exp
 use Rattle.cmeaning.proofs.Mentions.{in_layer, in_statement}
 use Rattle.naming.specs.Renamed as R
 use Rattle.naming.specs.Renamed.{Names, expr_by, exprs_by, option_by, target_by, stmt_layer, stmt_by, arm_by, body_by}
+use Rattle.naming.specs.declared.head.Head.{Head}
 use Rattle.naming.specs.declared.order.Order.{Order}
 use Rattle.naming.specs.First.{order_of, names_of}
 use Rattle.naming.specs.Named.{all_found, local_of, declared_all, named_function}
@@ -72,7 +74,38 @@ by_return r e = renamed r (S.Return e) (Stmt-F.Return e) (S.rolls-Return e) ∙ 
 
 ruleset renames = (by_var, by_call, by_if, by_goto, by_label, by_return)
 
--- ---- the body
+-- ---- the bodies
+
+-- a named function, by its order and the renamed body
+named_is : (h : Head) (body named : List Stmt) (o : Order)
+    → order_of (length h.params) body ≡ o
+    → body_by (names_of o) body ≡ named
+    → named_function h body
+    ≡ record {
+      callees = declared_all h.callees o.callees;
+      name = h.name;
+      gives = h.gives;
+      params = h.params;
+      locals = all_found (local_of (length h.params) h.locals) o.variables;
+      body = named;
+    }
+named_is h body named o order renamed =
+    ap (λ (p : Order). let f : CFunction = record {
+      callees = declared_all h.callees p.callees;
+      name = h.name;
+      gives = h.gives;
+      params = h.params;
+      locals = all_found (local_of (length h.params) h.locals) p.variables;
+      body = body_by (names_of p) body;
+    } in f) order
+    ∙ ap (λ (ss : List Stmt). let f : CFunction = record {
+      callees = declared_all h.callees o.callees;
+      name = h.name;
+      gives = h.gives;
+      params = h.params;
+      locals = all_found (local_of (length h.params) h.locals) o.variables;
+      body = ss;
+    } in f) renamed
 
 order_is : order_of 2 worked.body ≡ worked.order
 order_is = simp mentions
@@ -81,25 +114,15 @@ renamed_is : body_by (names_of worked.order) worked.body ≡ worked.function.bod
 renamed_is = simp renames
 
 pub first_appearance : worked.FirstAppearance
-first_appearance = (order_is, function_is)
-  where
-    function_is : named_function worked.head worked.body ≡ worked.function
-    function_is =
-        ap (λ (o : Order). record {
-          callees = declared_all worked.head.callees o.callees;
-          name = worked.head.name;
-          gives = worked.head.gives;
-          params = worked.head.params;
-          locals = all_found (local_of 2 worked.head.locals) o.variables;
-          body = body_by (names_of o) worked.body;
-        })
-        order_is
-        ∙ ap (λ (body : List Stmt). record {
-          callees = worked.function.callees;
-          name = worked.function.name;
-          gives = worked.function.gives;
-          params = worked.function.params;
-          locals = worked.function.locals;
-          body = body;
-        })
-        renamed_is
+first_appearance =
+    (order_is, named_is worked.head worked.body worked.function.body worked.order order_is renamed_is)
+
+own_order_is : order_of 1 worked.own_body ≡ worked.own_order
+own_order_is = simp mentions
+
+own_renamed_is : body_by (names_of worked.own_order) worked.own_body ≡ worked.own_body
+own_renamed_is = simp renames
+
+pub own_callee : worked.OwnCallee
+own_callee =
+    (own_order_is, named_is worked.own_head worked.own_body worked.own_body worked.own_order own_order_is own_renamed_is)

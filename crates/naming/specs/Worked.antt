@@ -1,9 +1,11 @@
--- A small body with its numbers by first appearance. This project's own.
+-- Small bodies with their numbers by first appearance. This project's own.
 use Rattle.std.specs.Prelude.{◌≡◌, ℕ, true, false, List, [], ◌∷◌, codes, Some, None}
 use Rattle.std.proofs.Common.{lit<, lit≤}
 use Rattle.bits_core.specs.declared.word.Width.{Width}
 use Rattle.pcode_model.specs.declared.storage.ParamStorage.TheVariants as P
+use Rattle.cmeaning.specs.declared.tree.CalleeDecl.{CalleeDecl}
 use Rattle.cmeaning.specs.declared.tree.CFunction.{CFunction}
+use Rattle.cmeaning.specs.declared.tree.CName.TheVariants.{Declared}
 use Rattle.cmeaning.specs.declared.tree.Expr.TheVariants as E
 use Rattle.cmeaning.specs.declared.tree.Local.{Local}
 use Rattle.cmeaning.specs.declared.tree.Param.{Param}
@@ -38,7 +40,7 @@ head = record {
 }
 
 -- Nothing mentions parameter 1. Variable 7 is used in two blocks, variable 5 is met first in a condition, and the callee
--- at 0x2000 is called twice, before another.
+-- at 0x2000 is called twice, before another. None of the callees is declared, so they have bare names.
 abbrev pub body : List Stmt
 body = S.Label 8
     ∷ (S.Call (Some 7) 0x2000 (E.Var 0 ∷ [])
@@ -74,3 +76,44 @@ function = record {
 
 abbrev pub FirstAppearance : Type 0
 FirstAppearance = (order_of 2 body ≡ order) × (named_function head body ≡ function)
+
+-- ---- a function that calls itself
+
+abbrev pub declared : List ℕ → ℕ → CalleeDecl
+declared name address = record {
+  name = Declared name;
+  address = address;
+  gives = None;
+  args = four ∷ [];
+  returns = true;
+}
+
+-- its own declaration, one that nothing calls, and a callee that isn't declared
+abbrev pub own_head : Head
+own_head = record {
+  name = codes "f";
+  gives = None;
+  params = param 0x0 ∷ [];
+  locals = [];
+  callees = declared (codes "f") 0x5000 ∷ (declared (codes "g") 0x6000 ∷ (callee 0x9000 None true ∷ []));
+}
+
+abbrev pub own_body : List Stmt
+own_body = S.Call None 0x9000 (E.Var 0 ∷ []) ∷ (S.Call None 0x5000 (E.Var 0 ∷ []) ∷ (S.Return None ∷ []))
+
+abbrev pub own_order : Order
+own_order = record { params = 1; variables = []; callees = 0x9000 ∷ (0x5000 ∷ []); labels = [] }
+
+-- It is a callee as any other: its declaration stands where it is called first.
+abbrev pub own_function : CFunction
+own_function = record {
+  callees = callee 0x9000 None true ∷ (declared (codes "f") 0x5000 ∷ []);
+  name = codes "f";
+  gives = None;
+  params = param 0x0 ∷ [];
+  locals = [];
+  body = own_body;
+}
+
+abbrev pub OwnCallee : Type 0
+OwnCallee = (order_of 1 own_body ≡ own_order) × (named_function own_head own_body ≡ own_function)

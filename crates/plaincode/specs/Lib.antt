@@ -1,3 +1,1 @@
-pub mod Nodes
-pub mod Lowered
-pub mod Form
+pub mod Body

@@ -1,112 +1,117 @@
 //! Blocks of code from blocks of the flow.
 
-ghost use Rattle.std.specs.Prelude.{◌≡◌, ◌<◌, ◌^◌, length, IfOk};
+ghost use Rattle.std.specs.Prelude.{◌≡◌, ◌≤◌, ◌^◌, ◌++◌, length, IfOk, OnOk};
 ghost use Rattle.pcode_model.specs.Flow.{AreApart};
-ghost use Rattle.pcode_model.specs.Places.{standing};
-ghost use Rattle.plaincode.specs.Lowered.{body_of, exit_of, exit_by, condition_in, result as result_for, block_of};
+ghost use Rattle.op_code.specs.Lowered.{block_made, blocks_made, place_made};
+ghost use Rattle.plaincode.specs.Body.{body_made};
 
-use crate::expressions::constant;
-use crate::statements::add_op;
-use crate::varnodes::operand;
+use crate::exits::way_out;
 use bits_core::Memory;
-use blockcode::{Block, Exit};
-use cmeaning::{Body, Expr};
-use instructions::{op_at, result_range};
-use pcode_model::{Block as FlowBlock, Exit as FlowExit, Listing, Place, Varnode};
+use blockcode::{Block, Blocks, Exit, Variables};
+use cmeaning::Body;
+use instructions::op_at;
+use op_code::{Table, add_op};
+use pcode_model::{Block as FlowBlock, Listing, Place};
 use std::alloc::Global;
 
+/// Adds what stands for the op at a place.
+fn add_place(
+    alloc: Global,
+    listing: &Listing,
+    table: &Table,
+    variables: &mut Variables,
+    body: &mut Body,
+    place: Place,
+) -> Result<(), Memory>
+    requires code { AreApart listing.now.code }
+    requires few { length variables.old ≤ 2 ^ 32 }
+    ensures statements { OnOk result (body.new ≡ body.old ++ (place_made listing.now table.now (length variables.old) place).statements) }
+    ensures locals { OnOk result (variables.new ≡ variables.old ++ (place_made listing.now table.now (length variables.old) place).locals) }
+    ensures few { OnOk result (length variables.new ≤ 2 ^ 32) }
+{
+    match op_at(listing, place) {
+        Some(op) => add_op(alloc, listing, table, variables, body, op),
+        None => Ok(()),
+    }
+}
+
+/// What stands for the ops of these places.
+#[tactic(auto, using(crate::proofs::Walks::body_from))]
 fn body(
     alloc: Global,
     listing: &Listing,
-    ranges: &[Varnode],
+    table: &Table,
+    variables: &mut Variables,
     places: &[Place],
 ) -> Result<Body, Memory>
     requires code { AreApart listing.now.code }
-    requires few { length ranges.now < 2 ^ 32 }
-    ensures { IfOk result (λ b. b ≡ body_of listing.now ranges.now places.now) }
+    requires few { length variables.old ≤ 2 ^ 32 }
+    ensures statements { IfOk result (λ b. b ≡ (body_made listing.now table.now (length variables.old) places.now).statements) }
+    ensures locals { OnOk result (variables.new ≡ variables.old ++ (body_made listing.now table.now (length variables.old) places.now).locals) }
+    ensures few { OnOk result (length variables.new ≤ 2 ^ 32) }
 {
     let mut body = Body::new(alloc);
     for place in places {
-        if let Some(op) = op_at(listing, *place) {
-            add_op(alloc, &mut body, listing, ranges, op)?;
-        }
+        add_place(alloc, listing, table, variables, &mut body, *place)?;
     }
     Ok(body)
 }
 
-/// The function's result, where its prototype has one.
-fn result(listing: &Listing, ranges: &[Varnode]) -> Option<Expr>
-    requires { length ranges.now < 2 ^ 32 }
-    ensures { result ≡ result_for listing.now ranges.now }
-{
-    match result_range(listing) {
-        Some(range) => Some(operand(listing, ranges, range)),
-        None => None,
-    }
-}
-
-fn condition(listing: &Listing, ranges: &[Varnode], place: Place) -> Expr
-    requires code { AreApart listing.now.code }
-    requires few { length ranges.now < 2 ^ 32 }
-    ensures { result ≡ condition_in listing.now ranges.now (standing listing.now place) }
-{
-    match op_at(listing, place) {
-        Some(op) => operand(listing, ranges, op.input(1)),
-        None => constant(1, 0),
-    }
-}
-
-fn exit_at(listing: &Listing, ranges: &[Varnode], last: Place, exit: &FlowExit) -> Exit
-    requires code { AreApart listing.now.code }
-    requires few { length ranges.now < 2 ^ 32 }
-    ensures { result ≡ exit_by listing.now ranges.now (standing listing.now last) exit.now }
-{
-    match exit {
-        FlowExit::Return => Exit::Return(result(listing, ranges)),
-        FlowExit::Jump(to) => Exit::Jump(*to),
-        FlowExit::Test { taken, other } => {
-            if *taken == *other {
-                Exit::Jump(*taken)
-            } else {
-                Exit::Test {
-                    condition: condition(listing, ranges, last),
-                    taken: *taken,
-                    other: *other,
-                }
-            }
-        }
-        FlowExit::Switch { .. } => Exit::Stop,
-        FlowExit::Stop => Exit::Stop,
-    }
-}
-
-fn exit(listing: &Listing, ranges: &[Varnode], places: &[Place], exit: &FlowExit) -> Exit
-    requires code { AreApart listing.now.code }
-    requires few { length ranges.now < 2 ^ 32 }
-    ensures { result ≡ exit_of listing.now ranges.now places.now exit.now }
-{
-    if places.is_empty() {
-        Exit::Stop
-    } else {
-        let last = places[places.len() - 1];
-        exit_at(listing, ranges, last, exit)
-    }
-}
-
 /// The block of code that stands for a block of the flow.
-pub(crate) fn block(
+#[tactic(auto, using(crate::proofs::Last::places_last))]
+fn block(
     alloc: Global,
     listing: &Listing,
-    ranges: &[Varnode],
+    table: &Table,
+    variables: &mut Variables,
     block: &FlowBlock,
 ) -> Result<Block, Memory>
     requires code { AreApart listing.now.code }
-    requires few { length ranges.now < 2 ^ 32 }
-    ensures { IfOk result (λ b. b ≡ block_of listing.now ranges.now block.now) }
+    requires few { length variables.old ≤ 2 ^ 32 }
+    ensures block { IfOk result (λ b. b ≡ (block_made listing.now table.now (length variables.old) block.now).block) }
+    ensures locals { OnOk result (variables.new ≡ variables.old ++ (block_made listing.now table.now (length variables.old) block.now).locals) }
+    ensures few { OnOk result (length variables.new ≤ 2 ^ 32) }
 {
     let places = block.places.as_slice();
-    Ok(Block {
-        body: body(alloc, listing, ranges, places)?,
-        exit: exit(listing, ranges, places, &block.exit),
-    })
+    match places.last() {
+        Some(last) => {
+            let mut body = body(alloc, listing, table, variables, places)?;
+            let exit = way_out(
+                alloc,
+                listing,
+                table,
+                variables,
+                &mut body,
+                *last,
+                &block.exit,
+            )?;
+            Ok(Block { body, exit })
+        }
+        None => Ok(Block {
+            body: Body::new(alloc),
+            exit: Exit::Stop,
+        }),
+    }
+}
+
+/// The blocks of code, one for each block of the flow.
+#[tactic(auto, using(crate::proofs::Walks::blocks_from))]
+pub(crate) fn blocks(
+    alloc: Global,
+    listing: &Listing,
+    table: &Table,
+    variables: &mut Variables,
+    flow: &[FlowBlock],
+) -> Result<Blocks, Memory>
+    requires code { AreApart listing.now.code }
+    requires few { length variables.old ≤ 2 ^ 32 }
+    ensures blocks { IfOk result (λ bs. bs ≡ (blocks_made listing.now table.now (length variables.old) flow.now).blocks) }
+    ensures locals { OnOk result (variables.new ≡ variables.old ++ (blocks_made listing.now table.now (length variables.old) flow.now).locals) }
+    ensures few { OnOk result (length variables.new ≤ 2 ^ 32) }
+{
+    let mut blocks = Blocks::new(alloc);
+    for from in flow {
+        blocks.push(block(alloc, listing, table, variables, from)?)?;
+    }
+    Ok(blocks)
 }

@@ -1,26 +1,23 @@
-//! The plain lowering: from a listing and its blocks to code over variables, one for each range that is accessed.
+//! The plain lowering in code: from a listing and its blocks to code over variables.
 //!
-//! Each atom is a variable, each block of the flow is a block of code, each op is the statements that do what it does,
-//! and the way on from a block's last op is the block's exit.
+//! The code is made as its definition says (`lowered`, in op_code's `specs/Lowered.antt`). Each atom is a variable, in
+//! the atoms' order, and each block of the flow a block of code. A block is made by one walk over its places: each op
+//! adds its statements to the body (op_code's `add_op`), and the last place the way out. What is tested there is read
+//! behind the last op's statements, and may have to be loaded first. The list of variables begins as the atoms', and
+//! each local is put behind it as the statement is made that sets it, so that its number is the count of variables
+//! there are. So locals are numbered over all blocks in their order, and none has two uses.
 //!
-//! It is right by a simulation with a ranked wait (`proofs/Follows.antt`). The run of the listing stands at a place, the
-//! run of the code in the block of that place, in front of the place's statements; the worlds are equal, and each
-//! variable holds the word of its range. A step of the listing is matched by the statements of its op, and behind the
-//! last op of a block by the exit too. Then the two runs stand so again, or both have ended in the same way.
-//! An op without statements, as a branch to the next place, lets the code stand still. It can't do so for ever: the
-//! number of places that follow in the block is the rank, which falls at each such step. So the two runs show the same
-//! also where they never end.
+//! The operands of all ops look their variables up in one table of the ranges, which is made once. Numbers have 32
+//! bits: where they run out, as where memory does, the answer is `Memory`.
 //!
-//! Memory enters only through the bytes that are seen of it, so the theorem holds over any memory, and whatever splits
-//! memory further goes below this pass without touching it. A further operation is a case in `specs/Lowered.antt`, in
-//! `specs/Form.antt` and in `proofs/Ops.antt`.
+//! That the code shows the same as the listing is a law about `lowered`, which stands in plain_laws. A further operation
+//! is a case in op_code, which has the statements that ops are made to; here nothing is changed for it, unless it leaves
+//! a block, which is a case of `way_out`.
 #![tactic(auto)]
 
 mod blocks;
-mod expressions;
+mod exits;
 mod lowering;
-mod statements;
 mod variables;
-mod varnodes;
 
 pub use lowering::{plain, result_width};

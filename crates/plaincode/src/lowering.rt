@@ -1,15 +1,17 @@
 //! The whole lowering.
 
-ghost use Rattle.std.specs.Prelude.{◌≡◌, ◌<◌, ◌^◌, length, map, IfOk};
+ghost use Rattle.std.specs.Prelude.{◌≡◌, ◌<◌, ◌≤◌, ◌^◌, length, IfOk};
 ghost use Rattle.pcode_model.specs.Flow.{AreApart, starts_of};
-ghost use Rattle.plaincode.specs.Lowered.{block_of, same_place as is_same, place_number, lowered, result_width as width_for};
+ghost use Rattle.op_code.specs.Lowered.{lowered, place_number, result_width as width_for, same_place as is_same};
 
-use crate::blocks::block;
-use crate::expressions::width_by;
+use crate::blocks::blocks;
 use crate::variables::{ranges, variables};
 use bits_core::{Memory, Width};
-use blockcode::{Blocks, Code};
-use pcode_model::{Atoms, Block as FlowBlock, Flow, Listing, Place, Varnode};
+use blockcode::Code;
+use instructions::result_range;
+use op_code::Table;
+use op_values::width_by;
+use pcode_model::{Atoms, Block as FlowBlock, Flow, Listing, Place};
 use std::alloc::Global;
 
 fn same_place(p: Place, q: Place) -> bool
@@ -36,39 +38,26 @@ fn block_number(blocks: &[FlowBlock], start: Place) -> u32
     number
 }
 
-fn blocks(
-    alloc: Global,
-    listing: &Listing,
-    ranges: &[Varnode],
-    flow: &[FlowBlock],
-) -> Result<Blocks, Memory>
-    requires code { AreApart listing.now.code }
-    requires few { length ranges.now < 2 ^ 32 }
-    ensures { IfOk result (λ bs. bs ≡ map (block_of listing.now ranges.now) flow.now) }
-{
-    let mut blocks = Blocks::new(alloc);
-    for from in flow {
-        blocks.push(block(alloc, listing, ranges, from)?)?;
-    }
-    Ok(blocks)
-}
-
-/// The plain lowering: the variables are the atoms, all of them parameters, and the blocks are those of the flow.
+/// The plain lowering: the variables are the atoms, all of them parameters, and behind them the locals that statements
+/// need; the blocks are those of the flow. `Memory` where memory or the numbers of 32 bits run out.
 pub fn plain(alloc: Global, listing: &Listing, flow: &Flow, atoms: &Atoms) -> Result<Code, Memory>
     requires code { AreApart listing.now.code }
     requires spaces { length listing.now.spaces < 256 }
     requires atoms { length atoms.now < 2 ^ 32 }
     requires blocks { length flow.now < 2 ^ 32 }
-    ensures { IfOk result (λ k. k ≡ lowered listing.now flow.now atoms.now) }
+    ensures code { IfOk result (λ k. k ≡ lowered listing.now flow.now atoms.now) }
+    ensures few { IfOk result (λ k. length k.variables ≤ 2 ^ 32) }
 {
-    let ranges = ranges(alloc, listing, atoms.as_slice())?;
+    let table = Table::new(alloc, &ranges(alloc, listing, atoms.as_slice())?)?;
+    let mut variables = variables(alloc, atoms.as_slice())?;
+    let blocks = blocks(alloc, listing, &table, &mut variables, flow.as_slice())?;
     let start = Place {
         address: listing.func.address,
         index: 0,
     };
     Ok(Code {
-        variables: variables(alloc, atoms.as_slice())?,
-        blocks: blocks(alloc, listing, &ranges, flow.as_slice())?,
+        variables,
+        blocks,
         entry: block_number(flow.as_slice(), start),
     })
 }
@@ -77,11 +66,8 @@ pub fn plain(alloc: Global, listing: &Listing, flow: &Flow, atoms: &Atoms) -> Re
 pub fn result_width(listing: &Listing) -> Option<Width>
     ensures { result ≡ width_for listing.now }
 {
-    match listing.protos.get(listing.func.proto as usize) {
-        Some(proto) => match proto.gives {
-            Some(range) => Some(width_by(range.size)),
-            None => None,
-        },
+    match result_range(listing) {
+        Some(range) => Some(width_by(range.size)),
         None => None,
     }
 }

@@ -1,11 +1,11 @@
-//! The ranges that variables stand for.
+//! The variables of the atoms, and the ranges that they stand for.
 
-ghost use Rattle.std.specs.Prelude.{◌≡◌, ◌<◌, ◌^◌, length, map, IfOk};
-ghost use Rattle.plaincode.specs.Lowered.{range_of as range_for, ranges_of, same_range as is_same, variable_of, variable_for};
+ghost use Rattle.std.specs.Prelude.{◌≡◌, ◌<◌, length, map, IfOk};
+ghost use Rattle.op_code.specs.Lowered.{range_of as range_for, ranges_of, variable_for};
 
-use crate::expressions::width_by;
 use bits_core::Memory;
 use blockcode::{Variable, Variables};
+use op_values::width_by;
 use pcode_model::ranges::number_of;
 use pcode_model::{Atom, Listing, ParamStorage, SpaceKind, Varnode};
 use std::alloc::Global;
@@ -62,23 +62,4 @@ pub(crate) fn variables(alloc: Global, atoms: &[Atom]) -> Result<Variables, Memo
         })?;
     }
     Ok(variables)
-}
-
-fn same_range(v: Varnode, w: Varnode) -> bool
-    ensures { result ≡ is_same v w }
-{
-    v.space == w.space && v.offset == w.offset && v.size == w.size
-}
-
-/// The number of the variable that stands for the range, or the number of variables where none does.
-pub(crate) fn variable(ranges: &[Varnode], range: Varnode) -> u32
-    requires { length ranges.now < 2 ^ 32 }
-    ensures { result ≡ variable_of ranges.now range }
-{
-    for i in 0..ranges.len() {
-        if same_range(ranges[i], range) {
-            return i as u32;
-        }
-    }
-    ranges.len() as u32
 }

@@ -1,6 +1,13 @@
-use Rattle.std.proofs.Common.{◌≡◌, ◌++◌, drop}
-use Rattle.plaincode.specs.Lowered.{body_of}
+use Rattle.std.proofs.Common.{◌≡◌, ◌≤◌, ◌^◌, ◌++◌, length, drop}
+use Rattle.plaincode.specs.Body.{body_made}
 use Rattle.plaincode.proofs.blocks.body.Given as goal
 
 abbrev pub invariant-loop-place : goal.invariant-loop-place
-invariant-loop-place l = l.body ++ body_of l.listing l.ranges (drop l.place-index l.places) ≡ body_of l.listing l.ranges l.places
+invariant-loop-place l =
+    let all = body_made l.listing l.table (length l.initial.variables) l.places in
+    let rest = body_made l.listing l.table (length l.variables) (drop l.place-index l.places) in
+    record {
+      statements : l.body ++ rest.statements ≡ all.statements;
+      locals : l.variables ++ rest.locals ≡ l.initial.variables ++ all.locals;
+      few : length l.variables ≤ 2 ^ 32;
+    }

@@ -15,10 +15,28 @@ number_within k [] = omega arith
 number_within k (x ∷ xs) = number_if (same_kind k x.kind) (number_of k xs) (length xs) (number_within k xs)
 
 pub overflow_cast-result : goal.overflow_cast-result
-overflow_cast-result c = omega (arith, c.number_of.ensures, number_within Register c.as_slice-spaces.result.now, ap length c.as_slice-spaces.ensures, c.requires)
+overflow_cast-result c = omega (
+  arith,
+  c.number_of.ensures,
+  number_within Register c.as_slice-spaces.result.now,
+  ap length c.as_slice-spaces.ensures,
+  c.requires,
+)
 
 pub overflow_cast-result-in-Unique : goal.overflow_cast-result-in-Unique
-overflow_cast-result-in-Unique c = omega (arith, c.number_of-in-Unique.ensures, number_within Unique c.as_slice-spaces.result.now, ap length c.as_slice-spaces.ensures, c.requires)
+overflow_cast-result-in-Unique c = omega (
+  arith,
+  c.number_of-in-Unique.ensures,
+  number_within Unique c.as_slice-spaces.result.now,
+  ap length c.as_slice-spaces.ensures,
+  c.requires,
+)
 
 pub overflow_cast-result-in-Stack : goal.overflow_cast-result-in-Stack
-overflow_cast-result-in-Stack c = omega (arith, c.number_of-in-Stack.ensures, number_within Ram c.as_slice-spaces.result.now, ap length c.as_slice-spaces.ensures, c.requires)
+overflow_cast-result-in-Stack c = omega (
+  arith,
+  c.number_of-in-Stack.ensures,
+  number_within Ram c.as_slice-spaces.result.now,
+  ap length c.as_slice-spaces.ensures,
+  c.requires,
+)

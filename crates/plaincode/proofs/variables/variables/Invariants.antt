@@ -1,5 +1,5 @@
 use Rattle.std.proofs.Common.{◌≡◌, ◌++◌, drop, map}
-use Rattle.plaincode.specs.Lowered.{variable_for}
+use Rattle.op_code.specs.Lowered.{variable_for}
 use Rattle.plaincode.proofs.variables.variables.Given as goal
 
 abbrev pub invariant-loop-atom : goal.invariant-loop-atom

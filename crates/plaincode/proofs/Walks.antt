@@ -1,0 +1,37 @@
+-- What is made next, numbered behind the variables of then.
+use Rattle.std.proofs.Common.{◌≡◌, ℕ, ◌+◌, List, ◌∷◌, ◌++◌, length, sym, ap, ◌∙◌}
+use Rattle.std.proofs.lemmas.List.{length-append}
+use Rattle.pcode_model.specs.declared.listing.Varnode.{Varnode}
+use Rattle.pcode_model.specs.declared.listing.Place.{Place}
+use Rattle.pcode_model.specs.declared.listing.Listing.{Listing}
+use Rattle.pcode_model.specs.declared.flow.Block as flow_block
+use Rattle.blockcode.specs.declared.code.Variable.{Variable}
+use Rattle.op_code.specs.Lowered.{BlocksMade, block_made, blocks_made, place_made}
+use Rattle.plaincode.specs.Body.{body_made, followed}
+
+pub grown_length : (variables then locals : List Variable)
+    → then ≡ variables ++ locals
+    → length variables + length locals ≡ length then
+grown_length variables then locals grown = sym (length-append variables locals) ∙ ap length (sym grown)
+
+module _ (l : Listing) (ranges : List Varnode) (variables then : List Variable) where
+  pub body_from : (p : Place) (ps : List Place)
+      → then ≡ variables ++ (place_made l ranges (length variables) p).locals
+      → body_made l ranges (length variables) (p ∷ ps)
+      ≡ followed (place_made l ranges (length variables) p) (body_made l ranges (length then) ps)
+  body_from p ps grown = let here = place_made l ranges (length variables) p in
+      ap (λ n. followed here (body_made l ranges n ps)) (grown_length variables then here.locals grown)
+
+  pub blocks_from : (b : flow_block.Block) (bs : List flow_block.Block)
+      → then ≡ variables ++ (block_made l ranges (length variables) b).locals
+      → blocks_made l ranges (length variables) (b ∷ bs) ≡ record {
+        blocks = (block_made l ranges (length variables) b).block ∷ (blocks_made l ranges (length then) bs).blocks;
+        locals = (block_made l ranges (length variables) b).locals ++ (blocks_made l ranges (length then) bs).locals;
+      }
+  blocks_from b bs grown =
+      let here = block_made l ranges (length variables) b in
+      let all : ℕ → BlocksMade = λ n. record {
+        blocks = here.block ∷ (blocks_made l ranges n bs).blocks;
+        locals = here.locals ++ (blocks_made l ranges n bs).locals;
+      } in
+      ap all (grown_length variables then here.locals grown)
