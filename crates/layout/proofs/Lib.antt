@@ -2,3 +2,4 @@ mod Flags
 mod Collected
 pub mod Suiting
 pub mod Fitting
+pub mod Declared

@@ -24,7 +24,8 @@ use Rattle.naming_laws.proofs.Keeps as naming
 use Rattle.layout_laws.proofs.Follows.{Related, body_run, arrives}
 use Rattle.layout_laws.proofs.Ends.{simulates, two_way_later}
 use Rattle.layout.specs.Suits.{Declares}
-use Rattle.layout_laws.proofs.Declared.{first_declared, widths_declared}
+use Rattle.layout.proofs.Declared.{widths_declared}
+use Rattle.layout_laws.proofs.Declared.{first_declared}
 use Rattle.layout_laws.proofs.Laid.{jump_leads, jump_named, lines, lines_given, true_or}
 
 -- What the run of flat code has shown only grows.

@@ -1,9 +1,12 @@
 pub mod Access
+pub mod Entering
 pub mod Numbers
 pub mod Operands
 pub mod Ops
 pub mod Sees
 pub mod Sets
 pub mod Steps
+pub mod Unstored
+pub mod Variables
 pub mod Worked
 pub mod WorkedBlocks

@@ -1,5 +1,4 @@
 pub mod Agrees
-pub mod Entering
 pub mod Exits
 pub mod Follows
 pub mod Keeps

@@ -1,159 +1,108 @@
--- The C function of the plain lowering fits its listing: the storages of its parameters lie in their spaces, and no statement
--- names a space.
-use Rattle.std.proofs.Common.{◌≡◌, ℕ, suc, ◌≤◌, ◌^◌, Bool, true, false, List, [], ◌∷◌, ◌++◌, length, map, Option, Some, None, refl, sym, ap, ◌∙◌, arith}
-use Rattle.std.specs.Prelude.{◌==◌, ◌&&◌, cond, slice_get}
-use Rattle.std.proofs.lemmas.Bool.{and_parts}
+-- The statements of the plain lowering fit its listing, and so do the parameters.
+use Rattle.std.proofs.Common.{◌≡◌, ℕ, suc, ◌≤◌, ◌^◌, Bool, true, false, List, [], ◌∷◌, length, map, Some, None, refl, sym, ap, ◌∙◌, subst, arith}
+use Rattle.std.specs.Prelude.{◌==◌, ◌&&◌, cond, not, slice_get}
 use Rattle.std.proofs.lemmas.Bool.Decides.{nat_tests}
 use Rattle.pcode_model.specs.declared.atoms.Atom.{Atom}
 use Rattle.pcode_model.specs.declared.flow.Block as flow_block
 use Rattle.pcode_model.specs.declared.listing.Listing.{Listing}
-use Rattle.pcode_model.specs.declared.listing.Place.{Place}
+use Rattle.pcode_model.specs.declared.listing.SpaceKind.TheVariants.{Ram}
 use Rattle.pcode_model.specs.declared.listing.Varnode.{Varnode}
-use Rattle.pcode_model.specs.declared.opcode.Opcode.{Opcode}
-use Rattle.pcode_model.specs.declared.opcode.Opcode.TheVariants as O
 use Rattle.pcode_model.specs.declared.storage.ParamStorage.{ParamStorage}
 use Rattle.pcode_model.specs.declared.storage.ParamStorage.TheVariants as P
 use Rattle.pcode_model.specs.declared.tables.TableAt.{TableAt}
-use Rattle.pcode_model.specs.Places.{Standing, Nothing, Passes, Does, standing}
+use Rattle.pcode_model.specs.Ranges.{is_kind}
+use Rattle.pcode_model.specs.Spaces.{first_ram, kind_of, same_kind}
 use Rattle.range_words.specs.Ranges.{IsInside}
-use Rattle.cmeaning.specs.declared.tree.Arm.{Arm as Branch}
-use Rattle.cmeaning.specs.declared.tree.Expr.{Expr}
-use Rattle.cmeaning.specs.declared.tree.Stmt.{Stmt, roll-Stmt, fold-roll-Stmt, map-Stmt}
-use Rattle.cmeaning.specs.declared.tree.Stmt.TheFolds.{fold_out-Arm}
 use Rattle.cmeaning.specs.declared.tree.Stmt.TheOpen.{Stmt-F}
 use Rattle.cmeaning.specs.declared.tree.Stmt.TheVariants as S
-use Rattle.naming.specs.Run.{widths_of}
-use Rattle.naming_laws.proofs.Fit.{named_fits}
-use Rattle.cmeaning.specs.Fits.{Fits, all_true, arm_fits, arm_step, body_fits, fits_step, params_fit, stmt_fits, storage_fits}
+use Rattle.cmeaning.specs.Do.{accessed}
+use Rattle.cmeaning.specs.Fits.{names_ram, params_fit, storage_fits}
 use Rattle.blockcode.specs.declared.code.Block.{Block}
-use Rattle.blockcode.specs.declared.code.Code.{Code}
 use Rattle.blockcode.specs.declared.code.Exit.{Exit}
-use Rattle.blockcode.specs.declared.code.Exit.TheVariants as X
-use Rattle.blockcode.specs.declared.code.Arm.{Arm}
-use Rattle.blockcode.specs.Laid.{branch_to, branches, exit_lines, goto, is_named, label_line, laid_body, laid_from, targets}
+use Rattle.naming.specs.Run.{widths_of}
+use Rattle.layout.specs.Fitting.{BlocksFit, BodyFits}
 use Rattle.layout.specs.Function.{params_of}
-use Rattle.plain_valid.specs.Function.{plain_function, plain_head}
-use Rattle.plain_valid.proofs.Valid.{plain_covered}
-use Rattle.plaincode.specs.Lowered.{assigns, block_of, body_of, lowered, op_statements, range_at, range_of, ranges_of, statements, statements_in, variable_for}
-use Rattle.plaincode.specs.Form.{AreNarrow, IsLocalStorage, IsLowerable}
-use Rattle.plaincode.proofs.Nodes.{nearest_is}
+use Rattle.layout.proofs.Fitting.{append_fits, fits_layer, one_fits}
+use Rattle.op_values.proofs.Means.{nearest_is}
+use Rattle.op_code.specs.Made.{name_in, name_of}
+use Rattle.op_code.specs.Form.{IsMemory}
+use Rattle.op_code.specs.Lowered.{lowered, range_at, range_of, ranges_of, variable_for}
+use Rattle.op_code.specs.Lowerable.{AreNarrow, IsLocalStorage, IsLowerable}
+use Rattle.plain_valid.specs.Function.{plain_head}
+use Rattle.plain_valid.proofs.EachKind.{AllHold, Kinds}
+use Rattle.plain_valid.proofs.Suits.{below_head}
+use Rattle.plain_valid.proofs.Valid.{plain_params}
 
-module _ (l : Listing) (ws : ℕ → ℕ) where
-  -- ---- lines
+-- ---- spaces that statements name
 
-  abbrev Fit : List Stmt → Type 0
-  Fit ss = body_fits l ws ss ≡ true
+-- a name other than the first ram space's names a ram space
+named_by : (l : Listing) (s : ℕ) (name : List ℕ) (t : Bool)
+    → (s == first_ram l) ≡ t
+    → kind_of l s ≡ Ram
+    → accessed l (cond t None (Some name)) ≡ s
+    → names_ram l (cond t None (Some name)) ≡ true
+named_by l s name true e ram is = refl
+named_by l s name false e ram is =
+    let R : ℕ → Type 0 = λ k. (is_kind Ram l.spaces k && not (k == first_ram l)) ≡ true in
+    subst R (sym is)
+    (ap (λ k. same_kind Ram k && not (s == first_ram l)) ram ∙ ap (λ b. not b) e)
 
-  fits_layer : (s : Stmt) (y : Stmt-F Stmt Branch) → roll-Stmt y ≡ s
-      → stmt_fits l ws s ≡ fits_step l ws (map-Stmt Stmt Branch Bool Bool (stmt_fits l ws) (arm_fits l ws) y)
-  unfolding stmt_fits arm_fits
-  fits_layer s y is = ap (stmt_fits l ws) (sym is) ∙ fold-roll-Stmt Bool Bool (fits_step l ws) arm_step y
+space_fits : (l : Listing) (s : ℕ) → IsMemory l s → names_ram l (name_of l s) ≡ true
+space_fits l s is = named_by l s (name_in (slice_get l.spaces s)) (s == first_ram l) refl is.ram is.name
 
-  one_fits : (s : Stmt) → stmt_fits l ws s ≡ true → Fit (s ∷ [])
-  one_fits s is = ap (λ b. b && true) is
+-- ---- statements
 
-  append_fits : (xs ys : List Stmt) → Fit xs → Fit ys → Fit (xs ++ ys)
-  append_fits [] ys h g = g
-  append_fits (x ∷ xs) ys h g =
-      let both = and_parts (stmt_fits l ws x) (body_fits l ws xs) h in
-      ap (λ b. b && body_fits l ws (xs ++ ys)) both.0 ∙ append_fits xs ys both.1 g
+abbrev Any : Exit → Type 0
+Any e = Unit {0}
 
-  label_fits : (b : Bool) (n : ℕ) → Fit (label_line b n)
-  label_fits false n = refl
-  label_fits true n = one_fits (S.Label n) (fits_layer (S.Label n) (Stmt-F.Label n) (S.rolls-Label n))
+fit_kinds : (l : Listing) (ranges : List Varnode) (ws : ℕ → ℕ) (n m : ℕ) → Kinds l ranges ws n m (BodyFits l ws) Any
+fit_kinds l ranges ws n m = record {
+  none = refl;
+  append = append_fits l ws;
+  assign = λ v w d e is f. one_fits l ws (S.Assign v e)
+      (fits_layer l ws (S.Assign v e) (Stmt-F.Assign v e) (S.rolls-Assign v e));
+  load = λ v w s u d e is mem f.
+      let x = S.Load v (name_of l s) e in
+      one_fits l ws x
+      (fits_layer l ws x (Stmt-F.Load v (name_of l s) e) (S.rolls-Load v (name_of l s) e) ∙ space_fits l s mem);
+  store = λ s u d w c a e mem f g.
+      let x = S.Store (name_of l s) a e in
+      one_fits l ws x
+      (fits_layer l ws x (Stmt-F.Store (name_of l s) a e) (S.rolls-Store (name_of l s) a e) ∙ space_fits l s mem);
+  divide = λ op v w a b is f g. one_fits l ws (S.Divide v op a b)
+      (fits_layer l ws (S.Divide v op a b) (Stmt-F.Divide v op a b) (S.rolls-Divide v op a b));
+  jump = λ to below. tt;
+  test = λ c taken other f low high. tt;
+  returns = λ given. tt;
+}
 
-  goto_fits : (n : ℕ) → Fit (S.Goto n ∷ [])
-  goto_fits n = one_fits (S.Goto n) (fits_layer (S.Goto n) (Stmt-F.Goto n) (S.rolls-Goto n))
+all_fit : (l : Listing) (ws : ℕ → ℕ) (xs : List Block) → AllHold (BodyFits l ws) Any xs → BlocksFit l ws xs
+all_fit l ws [] all = tt
+all_fit l ws (x ∷ xs) all = (all.0.0, all_fit l ws xs all.1)
 
-  jump_fits : (next to : ℕ) → Fit (goto next to)
-  jump_fits next to = by (to == next) where
-    by : (same : Bool) → Fit (cond same [] (S.Goto to ∷ []))
-    by true = refl
-    by false = goto_fits to
-
-  arm_fits_is : (a : Branch) → arm_fits l ws a ≡ body_fits l ws a.body
-  unfolding stmt_fits arm_fits
-  arm_fits_is a = fold_out-Arm Bool Bool (fits_step l ws) arm_step a
-
-  branches_fit : (arms : List Arm) (ts : List ℕ) → all_true (map (arm_fits l ws) (map (branch_to arms) ts)) ≡ true
-  branches_fit arms [] = refl
-  branches_fit arms (t ∷ ts) =
-      ap (λ b. b && all_true (map (arm_fits l ws) (map (branch_to arms) ts)))
-      (arm_fits_is (branch_to arms t) ∙ goto_fits t)
-      ∙ branches_fit arms ts
-
-  if_fits : (c : Expr) (body : List Stmt) → Fit body → Fit (S.If c body ∷ [])
-  if_fits c body h = one_fits (S.If c body) (fits_layer (S.If c body) (Stmt-F.If c body) (S.rolls-If c body) ∙ h)
-
-  return_fits : (e : Option Expr) → Fit (S.Return e ∷ [])
-  return_fits e = one_fits (S.Return e) (fits_layer (S.Return e) (Stmt-F.Return e) (S.rolls-Return e))
-
-  exit_fits : (next : ℕ) (e : Exit) → Fit (exit_lines next e)
-  exit_fits next (X.Return e) = return_fits e
-  exit_fits next (X.Jump to) = jump_fits next to
-  exit_fits next (X.Test c taken other) =
-      append_fits (S.If c (S.Goto taken ∷ []) ∷ []) (goto next other) (if_fits c (S.Goto taken ∷ []) (goto_fits taken))
-      (jump_fits next other)
-  exit_fits next (X.Switch e arms) = one_fits (S.Switch e (branches arms))
-      (fits_layer (S.Switch e (branches arms)) (Stmt-F.Switch e (branches arms)) (S.rolls-Switch e (branches arms))
-      ∙ branches_fit arms (targets arms))
-  exit_fits next X.Stop = refl
-
-  abbrev BlocksFit : List Block → Type 0
-  BlocksFit [] = Unit {0}
-  BlocksFit (x ∷ xs) = Fit x.body × BlocksFit xs
-
-  blocks_fit : (named : ℕ → Bool) (n : ℕ) (blocks : List Block)
-      → BlocksFit blocks
-      → Fit (laid_from named n blocks)
-  blocks_fit named n [] h = refl
-  blocks_fit named n (x ∷ xs) h =
-      let ex = exit_lines (suc n) x.exit in
-      let rest = laid_from named (suc n) xs in
-      append_fits (label_line (named n) n) (x.body ++ (ex ++ rest)) (label_fits (named n) n)
-      (append_fits x.body (ex ++ rest) h.0
-      (append_fits ex rest (exit_fits (suc n) x.exit) (blocks_fit named (suc n) xs h.1)))
-
-  -- the lines of a code fit where its statements do
-  laid_fits : (k : Code) → BlocksFit k.blocks → Fit (laid_body k)
-  laid_fits k h = append_fits (goto 0 k.entry) (laid_from (is_named k) 0 k.blocks) (jump_fits 0 k.entry)
-      (blocks_fit (is_named k) 0 k.blocks h)
-
-  -- ---- statements
-
-  module _ (ranges : List Varnode) where
-    assigns_fit : (out : Option Varnode) (e : Expr) → Fit (assigns ranges out e)
-    assigns_fit None e = refl
-    assigns_fit (Some z) e = one_fits _ (fits_layer _ _ (S.rolls-Assign _ e))
-
-    op_fits : (code : Opcode) (out : Option Varnode) (vs : List Varnode) → Fit (op_statements l ranges code out vs)
-    op_fits (O.Unary op) out vs = assigns_fit out _
-    op_fits (O.Binary op) out vs = assigns_fit out _
-    op_fits code out vs = refl
-
-    here_fits : (here : Standing) → Fit (statements_in l ranges here)
-    here_fits Nothing = refl
-    here_fits (Passes i) = refl
-    here_fits (Does i op) = op_fits op.code op.out op.inputs
-
-    body_of_fits : (ps : List Place) → Fit (body_of l ranges ps)
-    body_of_fits [] = refl
-    body_of_fits (p ∷ ps) =
-        append_fits (statements l ranges p) (body_of l ranges ps) (here_fits (standing l p)) (body_of_fits ps)
-
-    blocks_of_fit : (blocks : List flow_block.Block) → BlocksFit (map (block_of l ranges) blocks)
-    blocks_of_fit [] = tt
-    blocks_of_fit (b ∷ blocks) = (body_of_fits b.places, blocks_of_fit blocks)
+-- The statements name no spaces but ram spaces of the listing.
+pub plain_body_fits : (l : Listing) (t : List TableAt) (blocks : List flow_block.Block) (atoms : List Atom)
+    → IsLowerable l t blocks atoms
+    → length (lowered l blocks atoms).variables ≤ 2 ^ 32
+    → BlocksFit l (widths_of (plain_head l (lowered l blocks atoms))) (lowered l blocks atoms).blocks
+plain_body_fits l t blocks atoms form few =
+    let h = plain_head l (lowered l blocks atoms) in
+    let ws = widths_of h in
+    all_fit l ws (lowered l blocks atoms).blocks
+    (below_head l t blocks atoms (BodyFits l ws) Any form few (fit_kinds l (ranges_of l atoms) ws _ (length blocks)))
 
 -- ---- parameters
 
-in_space : (l : Listing) (s : ParamStorage) (k : ℕ) → IsLocalStorage s → IsInside l (range_at l s k)
+in_space : (l : Listing) (s : ParamStorage) (k : ℕ)
+    → IsLocalStorage s
+    → IsInside l (range_at l s k)
     → storage_fits l k s ≡ true
 in_space l (P.Register o) k h inside = grind (arith, nat_tests)
 in_space l (P.Unique o) k h inside = grind (arith, nat_tests)
 in_space l (P.Stack o) k h inside = absurd h
 
-in_spaces : (l : Listing) (atoms : List Atom) → AreNarrow atoms
+in_spaces : (l : Listing) (atoms : List Atom)
+    → AreNarrow atoms
     → ((n : ℕ) (v : Varnode) → slice_get (ranges_of l atoms) n ≡ Some v → IsInside l v)
     → params_fit l (params_of (map variable_for atoms)) ≡ true
 in_spaces l [] narrow inside = refl
@@ -164,15 +113,9 @@ in_spaces l (a ∷ atoms) narrow inside =
     (in_space l a.storage a.size narrow.0.0 (inside 0 (range_of l a) refl))
     ∙ in_spaces l atoms narrow.1 (λ n. inside (suc n))
 
--- ---- the whole
-
--- The C function of the plain lowering fits the listing.
-pub plain_fits : (l : Listing) (t : List TableAt) (blocks : List flow_block.Block) (atoms : List Atom)
+-- The parameters lie in their spaces.
+pub plain_params_fit : (l : Listing) (t : List TableAt) (blocks : List flow_block.Block) (atoms : List Atom)
     → IsLowerable l t blocks atoms
-    → length atoms ≤ 2 ^ 32
-    → Fits l (plain_function l blocks atoms)
-plain_fits l t blocks atoms form few =
-    let k = lowered l blocks atoms in
-    let h = plain_head l k in
-    named_fits l h (laid_body k) (plain_covered l t blocks atoms form few) (in_spaces l atoms form.narrow form.table.inside)
-    (laid_fits l (widths_of h) k (blocks_of_fit l (widths_of h) (ranges_of l atoms) blocks))
+    → params_fit l (plain_head l (lowered l blocks atoms)).params ≡ true
+plain_params_fit l t blocks atoms form =
+    ap (params_fit l) (plain_params l blocks atoms) ∙ in_spaces l atoms form.narrow form.table.inside

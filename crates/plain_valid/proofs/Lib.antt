@@ -1,7 +1,12 @@
 pub mod Shapes
+pub mod Expressions
+pub mod EachKind
+pub mod Blocks
+pub mod Whole
+pub mod Laying
 pub mod Statements
-pub mod Lowering
-pub mod Long
 pub mod Valid
+pub mod Suits
 pub mod Fit
 pub mod Signature
+pub mod Long

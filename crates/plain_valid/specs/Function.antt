@@ -7,7 +7,7 @@ use Rattle.cmeaning.specs.declared.tree.CFunction.{CFunction}
 use Rattle.naming.specs.declared.head.Head.{Head}
 use Rattle.blockcode.specs.declared.code.Code.{Code}
 use Rattle.layout.specs.Function.{head_of, laid_out}
-use Rattle.plaincode.specs.Lowered.{lowered, result_width}
+use Rattle.op_code.specs.Lowered.{lowered, result_width}
 
 -- the listing's name, and the result that its prototype says
 abbrev pub plain_head : Listing → Code → Head

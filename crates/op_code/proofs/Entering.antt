@@ -1,14 +1,14 @@
--- The entry is the number of the block that begins at the first place.
-use Rattle.std.proofs.Common.{◌≡◌, ℕ, suc, Bool, true, false, List, [], ◌∷◌, Some, refl, sym, ap, ◌∙◌, ⊎_elim}
-use Rattle.std.proofs.Common.{arith}
+-- The entry is the number of the block that begins at the first place, and each block of the flow begins somewhere.
+use Rattle.std.proofs.Common.{◌≡◌, ℕ, suc, Bool, true, false, List, [], ◌∷◌, ◌++◌, length, Some, refl, sym, ap, ◌∙◌, arith, ⊎_elim}
 use Rattle.std.specs.Prelude.{slice_get, cond}
 use Rattle.std.proofs.lemmas.Bool.Decides.{nat_tests}
 use Rattle.pcode_model.specs.declared.listing.Place.{Place}
 use Rattle.pcode_model.specs.declared.listing.Listing.{Listing}
 use Rattle.pcode_model.specs.declared.tables.TableAt.{TableAt}
+use Rattle.pcode_model.specs.declared.flow.Exit.{Exit}
 use Rattle.pcode_model.specs.declared.flow.Block as flow_block
 use Rattle.pcode_model.specs.Step.{first_place}
-use Rattle.pcode_model.specs.Flow.{IsFlow, IsIn, Entry, starts_of}
+use Rattle.pcode_model.specs.Flow.{AllRun, Entry, IsFlow, IsIn, RunsBlock, first_in, starts_of}
 use Rattle.op_code.specs.Lowered.{place_number, same_place}
 
 same_by : (p q : Place) → same_place p q ≡ true → p ≡ q
@@ -35,9 +35,23 @@ number_found : (ps : List Place) (p : Place) → IsIn p ps → slice_get ps (pla
 number_found [] p h = absurd h
 number_found (q ∷ rest) p h = number_at (same_place q p) q p rest refl (number_found rest p) h
 
--- the entry is the number of the first place
+-- The entry is the number of the first place.
 pub entry_found : (l : Listing) (t : List TableAt) (blocks : List flow_block.Block)
     → IsFlow l t blocks
     → slice_get (starts_of blocks) (place_number (starts_of blocks) (first_place l)) ≡ Some (first_place l)
 entry_found l t blocks flow = number_found (starts_of blocks) (first_place l)
     ((flow.starts.each (first_place l)).1 Entry)
+
+first_length : (l : Listing) (t : List TableAt) (starts ps : List Place) (e : Exit) (rest : List Place)
+    → RunsBlock l t starts ps e
+    → length (first_in ps ++ rest) ≡ suc (length rest)
+first_length l t starts [] e rest runs = absurd runs
+first_length l t starts (p ∷ ps) e rest runs = refl
+
+-- There are as many places where blocks begin as blocks.
+pub as_many : (l : Listing) (t : List TableAt) (starts : List Place) (blocks : List flow_block.Block)
+    → AllRun l t starts blocks
+    → length (starts_of blocks) ≡ length blocks
+as_many l t starts [] all = refl
+as_many l t starts (b ∷ blocks) all = first_length l t starts b.places b.exit (starts_of blocks) all.0
+    ∙ ap suc (as_many l t starts blocks all.1)

@@ -1,0 +1,50 @@
+-- What holds of each kind of statement and of exit holds of all blocks of a lowered code, by the widths of its variables.
+use Rattle.std.proofs.Common.{◌≡◌, ℕ, ◌≤◌, ◌^◌, List, length, length-append, map, sym, subst, arith}
+use Rattle.std.proofs.lemmas.List.{length-map}
+use Rattle.pcode_model.specs.declared.listing.Listing.{Listing}
+use Rattle.pcode_model.specs.declared.tables.TableAt.{TableAt}
+use Rattle.pcode_model.specs.declared.atoms.Atom.{Atom}
+use Rattle.pcode_model.specs.declared.flow.Block as flow_block
+use Rattle.pcode_model.specs.Flow.{starts_of}
+use Rattle.cmeaning.specs.declared.tree.Stmt.{Stmt}
+use Rattle.blockcode.specs.declared.code.Exit.{Exit}
+use Rattle.blockcode.specs.Run.{widths}
+use Rattle.op_code.specs.Lowered.{lowered, range_of, ranges_of, variable_for}
+use Rattle.op_code.specs.Lowerable.{IsLowerable}
+use Rattle.op_code.proofs.Entering.{as_many}
+use Rattle.op_code.proofs.Variables.{locals_made, locals_wide, variables_set}
+use Rattle.plain_valid.proofs.EachKind.{AllHold, Kinds}
+use Rattle.plain_valid.proofs.Blocks.{blocks_right}
+
+module _
+    (l : Listing)
+    (t : List TableAt)
+    (blocks : List flow_block.Block)
+    (atoms : List Atom)
+    (form : IsLowerable l t blocks atoms)
+    (few : length (lowered l blocks atoms).variables ≤ 2 ^ 32)
+    (P : List Stmt → Type 0)
+    (Q : Exit → Type 0)
+  where
+    abbrev pub Named : Type 0
+    Named =
+        let vs = (lowered l blocks atoms).variables in
+        Kinds l (ranges_of l atoms) (widths vs) (length vs) (length blocks) P Q
+
+    pub each_block : Named → AllHold P Q (lowered l blocks atoms).blocks
+    each_block kinds =
+        let vs = (lowered l blocks atoms).variables in
+        let ranges = ranges_of l atoms in
+        let starts = starts_of blocks in
+        let locals = locals_made l blocks atoms in
+        let many : length starts ≡ length blocks = as_many l t starts blocks form.flow.run in
+        let long = length-append (map variable_for atoms) locals in
+        let K : ℕ → Type 0 = λ m. Kinds l ranges (widths vs) (length vs) m P Q in
+        blocks_right l ranges (widths vs) (length vs) starts P Q (subst K (sym many) kinds)
+        (variables_set l blocks atoms t form) few
+        (omega (arith, length-map atoms (range_of l), length-map atoms variable_for, long)) t (length atoms) blocks
+        (λ q h. form.plain q ((form.flow.each q).0 h)) form.flow.run
+        (record {
+          wide = locals_wide l blocks atoms;
+          within = omega (arith, length-map atoms variable_for, long);
+        })
