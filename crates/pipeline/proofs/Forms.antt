@@ -32,17 +32,20 @@ use Rattle.cmeaning.specs.Fits.{Fits}
 use Rattle.cmeaning.specs.Valid.{IsValid}
 use Rattle.ctext.specs.Text.{text_of}
 use Rattle.naming.specs.declared.head.Head.{Head}
+use Rattle.naming.specs.Covered.{IsCovered}
 use Rattle.blockcode.specs.declared.code.Code.{Code}
+use Rattle.blockcode.specs.Laid.{laid_body}
 use Rattle.layout.specs.Function.{head_of, laid_out}
 use Rattle.op_code.specs.Lowerable as code
 use Rattle.op_code.specs.Lowered.{lowered, result_width}
 use Rattle.plain_valid.specs.Function.{plain_function, plain_head}
+use Rattle.plain_valid.specs.Long.{AreLong}
 use Rattle.plain_valid.proofs.Fit.{plain_body_fits, plain_params_fit}
 use Rattle.plain_valid.proofs.Laying.{can_lay}
 use Rattle.plain_valid.proofs.Long.{atoms_long}
 use Rattle.plain_valid.proofs.Signature.{plain_inputs}
 use Rattle.plain_valid.proofs.Suits.{plain_suits}
-use Rattle.plain_valid.proofs.Valid.{few_variables, params_right}
+use Rattle.plain_valid.proofs.Valid.{few_declared, params_right}
 use Rattle.layout_laws.proofs.Fits.{laid_fits}
 use Rattle.layout_laws.proofs.Obeys.{laid_valid}
 use Rattle.plain_form.proofs.Accessed.{accessed_inside}
@@ -90,26 +93,33 @@ module _
     abbrev head : Head
     head = plain_head l made
 
+    long : AreLong atoms
+    long = atoms_long l [] atoms are_atoms (λ v acc. (accessed_inside l built (formed_is l read good) v acc).low)
+
     module _ (small : length made.variables ≤ 2 ^ 32) where
+      covered : IsCovered head (laid_body made)
+      covered = keeps.plain_covered l [] blocks atoms form built.stack (space_some l (first_ram l)) small read.named.spaces
+
       valid : IsValid (plain_function l blocks atoms)
-      valid = laid_valid head made (can_lay (λ a. true) l [] blocks atoms form).numbers
-          (plain_suits l [] blocks atoms form small) (few_variables l blocks atoms small) read.named.func
-          (params_right l [] blocks atoms form are.listed.in_order
-          (atoms_long l [] atoms are_atoms (λ v acc. (accessed_inside l built (formed_is l read good) v acc).low)))
+      valid = laid_valid head made
+          (can_lay l [] blocks atoms (λ a. true) form small).numbers
+          (plain_suits l [] blocks atoms form small read.named.spaces)
+          (few_declared l blocks atoms small)
+          read.named.func
+          (params_right l blocks atoms long are.listed.in_order)
           refl
 
       fits : Fits l (plain_function l blocks atoms)
-      fits = laid_fits l head made
-          (keeps.plain_covered l [] blocks atoms form built.stack (space_some l (first_ram l)) small)
+      fits = laid_fits l head made covered
           (plain_params_fit l [] blocks atoms form)
-          (plain_body_fits l [] blocks atoms form)
+          (plain_body_fits l [] blocks atoms form small)
 
       -- All that is said of the function of the plain lowering.
       pub lowers : Lowers l (plain_function l blocks atoms)
       lowers = record {
         valid = valid;
         fits = fits;
-        agrees = keeps.agrees l [] blocks atoms form built.stack (space_some l (first_ram l)) small;
+        agrees = keeps.agrees l [] blocks atoms form built.stack (space_some l (first_ram l)) small read.named.spaces;
         form = record {
           name = refl;
           gives = gives_is l read good;

@@ -1,6 +1,7 @@
 -- The C function of the plain lowering agrees with the listing: the links of the chain, one behind another.
 use Rattle.std.proofs.Common.{◌≡◌, ◌≢◌, ◌<◌, ◌≤◌, ◌^◌, ℕ, Bool, true, false, List, length, Option, Some, None, refl, sym, ap, ◌∙◌, subst, arith}
 use Rattle.std.specs.Prelude.{Result, Ok, Err}
+use Rattle.std.specs.List.{AllByRecursion}
 use Rattle.machine.specs.Trace.{End, Returned, ReadOnlyWrite, Outside, BadTarget, Undefined, Trace}
 use Rattle.machine.specs.TwoWay.{NeverEnds, bare, bare_end, seen_as}
 use Rattle.machine.specs.Agree.{Agree}
@@ -14,6 +15,7 @@ use Rattle.pcode_model.specs.declared.tables.TableAt.{TableAt}
 use Rattle.pcode_model.specs.Frame.{frame_of, no_variables}
 use Rattle.pcode_model.specs.Spaces.{first_ram, is_fixed, is_some, size_of}
 use Rattle.pcode_model.specs.Memory.{Bytes, Frame, Layout, any_fixed, any_framed, any_hidden, is_framed, unless, whole}
+use Rattle.pcode_model.specs.WellFormed.{IsNamedSpace}
 use Rattle.pcode_model.specs.World.{Entry, IsEntry}
 use Rattle.pcode_model.specs.Step.{first_whole, layout as layout_of, proto_of, result_of, seen_p, stack0, stack_word, start}
 use Rattle.pcode_laws.proofs.Ends.{Allows, ends_within}
@@ -33,7 +35,7 @@ use Rattle.plain_laws.proofs.Agrees as lowering
 use Rattle.plain_valid.specs.Function.{plain_head, plain_function}
 use Rattle.plain_valid.proofs.Laying.{can_lay, no_switch}
 use Rattle.plain_valid.proofs.Suits.{plain_suits}
-use Rattle.plain_valid.proofs.Valid.{few_variables, plain_declares}
+use Rattle.plain_valid.proofs.Valid.{few_declared, plain_declares}
 
 -- ---- returns without a word
 
@@ -132,14 +134,15 @@ module _
     (none : l.stack ≡ None)
     (some : 0 < size_of l (first_ram l))
     (few : length (lowered l blocks atoms).variables ≤ 2 ^ 32)
+    (named : AllByRecursion IsNamedSpace l.spaces)
   where
     abbrev code : Code
     code = lowered l blocks atoms
 
     -- The head of the plain lowering covers its body.
     pub plain_covered : IsCovered (plain_head l code) (laid_body code)
-    plain_covered = laid_covered (plain_head l code) code (few_variables l blocks atoms few)
-        (can_lay (λ a. true) l t blocks atoms form).numbers.few (plain_suits l t blocks atoms form few)
+    plain_covered = laid_covered (plain_head l code) code (few_declared l blocks atoms few)
+        (can_lay l t blocks atoms (λ a. true) form few).numbers.few (plain_suits l t blocks atoms form few named)
 
     -- no run of this code meets a switch
     never_switches : (e : Entry) → has_switch code ≡ true → NeverEnds BadTarget (seen_code l code e)
@@ -152,7 +155,7 @@ module _
         let p = seen_p l (frame_of l no_variables) e in
         let c = seen_c l (plain_function l blocks atoms) e in
         let h = plain_head l code in
-        let laid = layout.function_keeps l h code e (can_lay (returns_of h) l t blocks atoms form)
+        let laid = layout.function_keeps l h code e (can_lay l t blocks atoms (returns_of h) form few)
         (plain_declares l blocks atoms) plain_covered (never_switches e) in
         let lowers = lowering.code_agrees l t blocks atoms form e entry (low_stack l e none some) in
         without_words (proto_of l None).gives p c (λ w none. never_word l (frame_of l no_variables) e w none)
