@@ -1,40 +1,21 @@
 -- Numbers and bytes are read back from their canonical text.
 use Rattle.std.proofs.Common.{◌≡◌, ◌∙◌, ◌<◌, ◌≤◌, ◌+◌, ◌*◌, ◌/◌, ◌%◌, ◌^◌, ℕ, zero, suc, Bool, true, false, List, [], ◌∷◌, length, get_or, ap, sym, refl, arith}
-use Rattle.std.proofs.Math.Nat.{pow-le-pow_right}
-use Rattle.std.specs.Prelude.{◌==◌, ◌&&◌, nat_le, nat_lt, decimal, Some, None, IfSome, if◌then◌else◌}
+use Rattle.std.specs.Prelude.{◌==◌, decimal, Some, None, if◌then◌else◌}
 use Rattle.std.specs.Fmt.{digit_glyph, digits, digits_onto}
 use Rattle.std.specs.List.{list_all}
 use Rattle.std.specs.Option.{option_map}
 use Rattle.std.specs.Char.{digit_value, is_digit}
 use Rattle.std.specs.Str.Parse.{AllDigits, digits_value}
 use Rattle.std.proofs.lemmas.Fmt.{decimal_digit, decimal_is_IsNumeral, digits_is_IsNumeral, first_decimal, hex_one_digit, length-decimal-le}
-use Rattle.std.proofs.lemmas.Int.Digits.{digits_value-lt}
 use Rattle.std.proofs.lemmas.Bool.Decides.{nat_tests}
-use Rattle.std.proofs.lemmas.Bool.{ltb-true, and_from}
+use Rattle.std.proofs.lemmas.Bool.{and_from, le-leb, lt-ltb}
 use Rattle.listing_lines.proofs.Bytes.{AreBytes}
 use Rattle.listing_lines.specs.Text.{Line}
 use Rattle.listing_lines.specs.Tokens.{bytes_of, decimal_of, has_leading_zero, hexadecimal_of, number_of, pairs_of}
 use Rattle.listing_print.specs.Printed.{hexadecimal, pairs}
 use Rattle.listing_again.proofs.Cuts.{IsPart, IsToken}
-use Rattle.pcodetext.proofs.Passing.{left_true}
 
 -- ---- digits
-
-is_below : (a b : ℕ) → a < b → nat_lt a b ≡ true
-is_below a b h = grind (arith, nat_tests)
-
-within : (a b : ℕ) → a ≤ b → nat_le a b ≡ true
-within a b h = grind (arith, nat_tests)
-
-is_within : (a b : ℕ) → nat_le a b ≡ true → a ≤ b
-is_within a b h = grind (arith, nat_tests)
-
-never : true ≡ false → ⊥
-never h = cc
-
-pub right_true : (a b : Bool) → (a && b) ≡ true → b ≡ true
-right_true true b h = h
-right_true false b h = absurd (never (sym h))
 
 -- no digit stands below `0`, nor is the colon one
 digit_token : (b : ℕ) → digit_value b < 16 → (32 < b) × ((b == 58) ≡ false)
@@ -62,11 +43,7 @@ wider (d ∷ ds) h = (omega (arith, h.0), wider ds h.1)
 
 all_digits : (radix : ℕ) (ds : Line) → AllDigits radix ds → list_all (λ b. is_digit b radix) ds ≡ true
 all_digits radix [] h = refl
-all_digits radix (d ∷ ds) h = and_from _ _ (is_below _ _ h.0) (all_digits radix ds h.1)
-
-digits_all : (radix : ℕ) (ds : Line) → list_all (λ b. is_digit b radix) ds ≡ true → AllDigits radix ds
-digits_all radix [] h = tt
-digits_all radix (d ∷ ds) h = (ltb-true _ _ (left_true _ _ h), digits_all radix ds (right_true _ _ h))
+all_digits radix (d ∷ ds) h = and_from _ _ (lt-ltb _ _ h.0) (all_digits radix ds h.1)
 
 number_is : (radix most : ℕ) (ds : Line)
     → 0 < length ds
@@ -75,26 +52,9 @@ number_is : (radix most : ℕ) (ds : Line)
     → number_of radix most ds ≡ Some (digits_value radix ds)
 number_is radix most ds some few all =
     let test =
-    and_from _ _ (within 1 (length ds) some)
-    (and_from _ _ (within (length ds) most few) (all_digits radix ds all)) in
+    and_from _ _ (le-leb 1 (length ds) some)
+    (and_from _ _ (le-leb (length ds) most few) (all_digits radix ds all)) in
     ap (λ (t : Bool). if t then Some (digits_value radix ds) else None) test
-
-number_small : (radix most : ℕ) (ds : Line) → 1 ≤ radix → IfSome (number_of radix most ds) (λ n. n < radix ^ most)
-number_small radix most ds one = by_test _ refl
-  where
-    by_test : (t : Bool)
-        → (nat_le 1 (length ds) && (nat_le (length ds) most && list_all (λ b. is_digit b radix) ds)) ≡ t
-        → IfSome (if t then Some (digits_value radix ds) else None) (λ n. n < radix ^ most)
-    by_test false e = tt
-    by_test true e =
-        let rest : (nat_le (length ds) most && list_all (λ b. is_digit b radix) ds) ≡ true =
-        right_true (nat_le 1 (length ds)) (nat_le (length ds) most && list_all (λ b. is_digit b radix) ds) e in
-        let few : length ds ≤ most = is_within _ _ (left_true _ _ rest) in
-        let all : AllDigits radix ds =
-        digits_all radix ds (right_true (nat_le (length ds) most) (list_all (λ b. is_digit b radix) ds) rest) in
-        let lower : digits_value radix ds < radix ^ length ds = digits_value-lt radix ds all in
-        let power : radix ^ length ds ≤ radix ^ most = pow-le-pow_right one few in
-        omega (arith, lower, power)
 
 -- ---- hexadecimal numbers
 
@@ -144,15 +104,6 @@ hexadecimal_back n small =
     let numeral = digits_is_IsNumeral 16 false (omega arith) (omega arith) n (wide n small) in
     number_is 16 16 (digits 16 false n) numeral.0.0 (length_hexadecimal n small) numeral.0.1 ∙ ap Some numeral.1
 
-pub hexadecimal_small : (part : Line) → IfSome (hexadecimal_of part) (λ n. n < 16 ^ 16)
-hexadecimal_small [] = tt
-hexadecimal_small (a ∷ []) = tt
-hexadecimal_small (a ∷ b ∷ ds) = by_test (a == 48 && b == 120)
-  where
-    by_test : (t : Bool) → IfSome (if t then number_of 16 16 ds else None) (λ n. n < 16 ^ 16)
-    by_test true = number_small 16 16 ds (omega arith)
-    by_test false = tt
-
 pub hexadecimal_token : (n : ℕ) → n < 16 ^ 16 → IsToken (hexadecimal n)
 hexadecimal_token n small = ((omega arith, refl), ((omega arith, refl), digits_token _ (digits_are n small)))
 
@@ -177,13 +128,6 @@ decimal_back n small =
     ∙ number_is 10 5 (decimal n) numeral.0.0 (length-decimal-le 5 n (omega arith) small (omega arith)) numeral.0.1
     ∙ ap Some numeral.1
 
-pub decimal_small : (part : Line) → IfSome (decimal_of part) (λ n. n < 10 ^ 5)
-decimal_small part = by_zero (has_leading_zero part)
-  where
-    by_zero : (t : Bool) → IfSome (if t then None else number_of 10 5 part) (λ n. n < 10 ^ 5)
-    by_zero true = tt
-    by_zero false = number_small 10 5 part (omega arith)
-
 pub decimal_token : (n : ℕ) → n < 10 ^ 5 → IsToken (decimal n)
 decimal_token n small = digits_token _ (wider _ (decimal_is_IsNumeral n (omega arith)).0.1)
 
@@ -197,7 +141,7 @@ glyph_value d small =
     omega (arith, value)
 
 glyph_digit : (d : ℕ) → d < 16 → is_digit (digit_glyph false d) 16 ≡ true
-glyph_digit d small = is_below _ _ (omega (arith, glyph_value d small))
+glyph_digit d small = lt-ltb _ _ (omega (arith, glyph_value d small))
 
 pairs_back : (bytes : List ℕ) → AreBytes bytes → pairs_of (pairs bytes) ≡ Some bytes
 pairs_back [] h = refl

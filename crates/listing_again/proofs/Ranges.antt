@@ -8,9 +8,10 @@ use Rattle.std.specs.Option.{option_map}
 use Rattle.std.specs.Str.{bytes_eq}
 use Rattle.std.proofs.lemmas.Bool.Decides.{nat_tests}
 use Rattle.std.proofs.lemmas.Slice.Eq.{bytes_eq-Decides}
-use Rattle.std.proofs.lemmas.Bool.{not-false}
+use Rattle.std.proofs.lemmas.Bool.{and_parts, not-false}
 use Rattle.listing_lines.specs.Text.{Line, parts_of}
 use Rattle.listing_lines.specs.Tokens.{decimal_of, hexadecimal_of, is_letter, is_name, is_name_byte}
+use Rattle.listing_lines.proofs.Numbers.{decimal_small, hexadecimal_small}
 use Rattle.listing_print.specs.Printed as printed
 use Rattle.listing_print.specs.Printed.{hexadecimal, name_of, place_part, range_part, sized_part, storage_part}
 use Rattle.pcode_model.specs.declared.listing.Space.{Space}
@@ -24,11 +25,11 @@ use Rattle.pcode_model.specs.WellFormed.{AreSpaces}
 use Rattle.pcodetext.specs.Checks.{is_of_kind, is_unknown, of_unknown}
 use Rattle.pcodetext.specs.ProtoLine.{is_no_argument, is_other, of_no_argument, of_other, storage_of}
 use Rattle.pcodetext.specs.Convert.{number, reduced, varnode}
-use Rattle.pcodetext.proofs.Passing.{left_true, never}
+use Rattle.pcodetext.proofs.Passing.{never}
 use Rattle.pcodetext.specs.Tables.{place_from, place_in, proto_name, space_name}
 use Rattle.pcodetext.specs.Written.{named_by, numbered, place_by, place_of, placed, range_by, range_of, written}
 use Rattle.listing_again.proofs.Cuts.{IsPart, IsToken, all_append, one_token, token_is_part, token_then}
-use Rattle.listing_again.proofs.Numbers.{decimal_back, decimal_small, decimal_token, hexadecimal_back, hexadecimal_small, hexadecimal_token, right_true}
+use Rattle.listing_again.proofs.Numbers.{decimal_back, decimal_token, hexadecimal_back, hexadecimal_token}
 use Rattle.pcodetext.proofs.Ranges.{reduced_le, register_kind, register_offset}
 
 -- ---- names
@@ -41,12 +42,14 @@ name_byte_token b h = (grind (arith, nat_tests), grind (arith, nat_tests))
 
 name_bytes_token : (bytes : Line) → list_all is_name_byte bytes ≡ true → IsToken bytes
 name_bytes_token [] h = tt
-name_bytes_token (b ∷ bytes) h = (name_byte_token b (left_true _ _ h), name_bytes_token bytes (right_true _ _ h))
+name_bytes_token (b ∷ bytes) h =
+    let both = and_parts (is_name_byte b) (list_all is_name_byte bytes) h in
+    (name_byte_token b both.0, name_bytes_token bytes both.1)
 
 pub name_token : (name : Line) → is_name name ≡ true → IsToken name
 name_token [] h = tt
 name_token (b ∷ bytes) h =
-    (letter_token b (left_true _ _ h), name_bytes_token bytes (right_true _ _ (right_true _ _ h)))
+    let both = and_parts _ _ h in (letter_token b both.0, name_bytes_token bytes (and_parts _ _ both.1).1)
 
 -- what stands at a place that was found
 found_from : {A : Type 0} (f : A → Line) (name : Line) (xs : List A) (k : ℕ)

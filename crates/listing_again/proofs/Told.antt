@@ -4,6 +4,7 @@ use Rattle.std.specs.Prelude.{◌==◌, ◌&&◌, codes, Option, Some, None, IfS
 use Rattle.std.specs.List.{AllByRecursion}
 use Rattle.std.specs.Option.{option_map}
 use Rattle.std.specs.Str.{bytes_eq}
+use Rattle.std.proofs.lemmas.Bool.{and_parts}
 use Rattle.listing_lines.specs.Text.{Line, parts_of}
 use Rattle.listing_lines.specs.Tokens.{bytes_of, decimal_of, hexadecimal_of, is_name}
 use Rattle.pcode_model.specs.declared.listing.Space.{Space}
@@ -38,9 +39,8 @@ use Rattle.operations.proofs.Exact.{opcode_is}
 use Rattle.pcodetext.specs.Tables.{place_in, proto_name}
 use Rattle.pcodetext.specs.Written.{before, place_of, range_of, range_or_none, ranges_of, ranges_until, with_first}
 use Rattle.listing_lines.proofs.Bytes.{AreBytes, bytes_small}
-use Rattle.listing_again.proofs.Numbers.{decimal_small, hexadecimal_small, right_true}
+use Rattle.listing_lines.proofs.Numbers.{decimal_small, hexadecimal_small}
 use Rattle.listing_again.proofs.Ranges.{IsCalled, IsRange, IsSpelled, called, place_is, range_is}
-use Rattle.pcodetext.proofs.Passing.{left_true}
 use Rattle.pcodetext.proofs.SpaceLine.{kind_is}
 
 pub record IsSpaceTold (two : Bool) (l : SpaceLine) : Type 0 where
@@ -258,7 +258,7 @@ proto_told : (two : Bool) (spaces : List Space) (protos : List Proto) (parts : L
 proto_told two spaces protos [] = tt
 proto_told two spaces protos (a ∷ []) = tt
 proto_told two spaces protos (a ∷ b ∷ parts) = when two spaces protos (is_name a && bytes_eq b (codes "args")) _ _
-    (λ e. args_told (left_true _ _ e) (ranges_until (codes "result") spaces parts)
+    (λ e. args_told (and_parts _ _ e).0 (ranges_until (codes "result") spaces parts)
     (until_is (codes "result") spaces parts))
     tt
   where
@@ -288,10 +288,9 @@ function_told spaces protos name proto (Some place) (Some returns) h = by_names 
           proto = place_in proto (map proto_name protos);
           returns = returns;
         }) else None) (λ l. IsFunctionTold spaces protos l × (Some l.returns ≡ Some returns))
-    by_names true e = (
-      record { name = left_true _ _ e; space = h.0; address = h.1; proto = called protos proto (right_true _ _ e) },
-      refl,
-    )
+    by_names true e =
+        let names = and_parts _ _ e in
+        (record { name = names.0; space = h.0; address = h.1; proto = called protos proto names.1 }, refl)
     by_names false e = tt
 
 func_told : (two : Bool) (spaces : List Space) (protos : List Proto) (parts : List Line)

@@ -31,6 +31,7 @@ end_keeps s f is h =
         first = f.code.first;
         formed = f.code.formed;
         known = f.code.known;
+        short = f.code.short;
         total = f.code.total;
         few = f.code.few;
         closed = λ e. some_is s.last (left_false _ _ p.0);

@@ -1,6 +1,6 @@
 -- What a form that is read has, kind by kind: names of their form, a declared space's kind, the number of a known
--- prototype, bytes, and of an op the numbers of known spaces.
-use Rattle.std.proofs.Common.{◌≡◌, ◌<◌, ◌+◌, ℕ, Bool, true, false, List, [], ◌∷◌, length, map, arith, refl}
+-- prototype, bytes, the numbers of known spaces, and sizes and lengths of at most five decimal digits.
+use Rattle.std.proofs.Common.{◌≡◌, ◌<◌, ◌+◌, ◌^◌, ℕ, Bool, true, false, List, [], ◌∷◌, length, map, arith, refl}
 use Rattle.std.specs.Prelude.{Option, Some, None, IfSome, if◌then◌else◌}
 use Rattle.std.specs.List.{AllByRecursion}
 use Rattle.std.proofs.lemmas.List.{length-map}
@@ -47,8 +47,10 @@ IsAmong spaces (named.Space n) = n < spaces
 IsAmong spaces named.Stack = Unit {0}
 IsAmong spaces named.Unknown = Unit {0}
 
-abbrev pub IsWritten : ℕ → Written → Type 0
-IsWritten spaces w = IsAmong spaces w.space
+-- a range in one of so many spaces, where it is known, in a size of at most five decimal digits
+pub record IsWritten (spaces : ℕ) (w : Written) : Type 0 where
+  pub space : IsAmong spaces w.space
+  pub size : w.size < 10 ^ 5
 
 -- only in version 2 some value is another one than in version 1
 abbrev pub IsOneBefore : {A : Type 0} → Bool → A → A → Type 0
@@ -60,10 +62,10 @@ IsForm n (form.Callee l) = IsFunctionLine n.protos l × IsOneBefore n.two true l
 IsForm n (form.Nothing) = Unit {0}
 IsForm n (form.Pcode version) = Unit {0}
 IsForm n (form.Space l) = (same_kind Constant l.kind ≡ false) × ((is_name l.name ≡ true) × IsOneBefore n.two 1 l.word)
-IsForm n (form.Stack w) = Unit {0}
-IsForm n (form.Proto l) = is_name l.name ≡ true
+IsForm n (form.Stack w) = IsWritten n.spaces w
+IsForm n (form.Proto l) = (is_name l.name ≡ true) × AllByRecursion (IsWritten n.spaces) l.keep
 IsForm n (form.Bytes l) = (0 < length l.bytes) × AreBytes l.bytes
-IsForm n (form.At l) = Unit {0}
+IsForm n (form.At l) = l.length < 10 ^ 5
 IsForm n (form.Op l) = IfSome l.out (IsWritten n.spaces) × AllByRecursion (IsWritten n.spaces) l.inputs
 IsForm n form.End = Unit {0}
 

@@ -1,6 +1,6 @@
 -- What has been said keeps to the rules of a listing: the rules, what holds where a part is empty yet, and what is to
 -- be shown of each kind of line.
-use Rattle.std.proofs.Common.{◌≡◌, ◌<◌, ◌≤◌, ◌⊎◌, ℕ, Bool, true, false, List, [], ◌∷◌, ◌++◌, length, ap, arith}
+use Rattle.std.proofs.Common.{◌≡◌, ◌<◌, ◌≤◌, ◌⊎◌, ℕ, Bool, true, false, List, [], ◌∷◌, ◌++◌, length, arith}
 use Rattle.std.specs.Prelude.{Option, Some, None, IfSome, codes}
 use Rattle.std.specs.List.{AllByRecursion}
 use Rattle.std.specs.Option.{is_none, is_some, option_to_list}
@@ -12,7 +12,7 @@ use Rattle.pcode_model.specs.declared.listing.Proto.{Proto}
 use Rattle.pcode_model.specs.declared.listing.Space.{Space}
 use Rattle.pcode_model.specs.declared.listing.Varnode.{Varnode}
 use Rattle.pcode_model.specs.Flow.{AreApart}
-use Rattle.pcode_model.specs.WellFormed.{AreDistinct, AreSpaces, FixedRise, HasKnownOps, HasOps, HaveWords, IsComplete, IsFixed, IsFunction, IsNamedFunction, IsNamedProto, IsNamedSpace, IsProto, IsStackPointer, total_ops}
+use Rattle.pcode_model.specs.WellFormed.{AreDistinct, AreSpaces, FixedRise, HasKnownOps, HasOps, HaveWords, IsComplete, IsFixed, IsFunction, IsNamedFunction, IsNamedProto, IsNamedSpace, IsProto, IsShort, IsStackPointer, total_ops}
 use Rattle.pcodetext.specs.declared.partial_listing.PartialListing.{PartialListing}
 use Rattle.pcodetext.specs.declared.line_kinds.Form.{Form}
 use Rattle.pcodetext.specs.LineKinds.{after, faults, is_two}
@@ -64,6 +64,7 @@ pub record KeepCode
   pub first : is_some last ≡ false → done ≡ []
   pub formed : AllByRecursion HasOps (done ++ option_to_list last)
   pub known : AllByRecursion (HasKnownOps spaces) (done ++ option_to_list last)
+  pub short : AllByRecursion IsShort (done ++ option_to_list last)
   pub total : total_ops (done ++ option_to_list last) ≡ ops
   pub few : ops ≤ 16384
   pub closed : ended ≡ true → is_some last ≡ true
@@ -97,9 +98,6 @@ has_protos s f some z = not_both s.func some (f.no_func z)
 
 -- ---- where there are none yet
 
-not_nil : {A : Type 0} (x : A) (xs : List A) → x ∷ xs ≡ [] → ⊥
-not_nil x xs e = let one = ap length e in omega (arith, one)
-
 pub no_protos : (spaces : List Space) (stack : Option Varnode) (protos : List Proto)
     → length protos ≡ 0
     → KeepProtos spaces stack protos
@@ -123,8 +121,8 @@ no_functions two spaces protos None [] none empty = record {
   addresses = tt;
   one = λ e. tt;
 }
-no_functions two spaces protos None (f ∷ callees) none empty = absurd (not_nil f callees empty)
+no_functions two spaces protos None (f ∷ callees) none empty = absurd cc
 
 pub no_fixed : (spaces : List Space) (fixed : List Fixed) → fixed ≡ [] → KeepFixed spaces fixed
 no_fixed spaces [] empty = record { formed = tt; rising = tt }
-no_fixed spaces (f ∷ fixed) empty = absurd (not_nil f fixed empty)
+no_fixed spaces (f ∷ fixed) empty = absurd cc

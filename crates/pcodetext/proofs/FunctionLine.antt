@@ -4,7 +4,7 @@ use Rattle.std.specs.Prelude.{◌==◌, ◌&&◌, ◌||◌, codes, not, Option, 
 use Rattle.std.specs.List.{AllByRecursion, list_any}
 use Rattle.std.specs.Option.{is_none, option_to_list}
 use Rattle.std.specs.Str.{bytes_eq}
-use Rattle.std.proofs.lemmas.Bool.{not-false, eqb-true}
+use Rattle.std.proofs.lemmas.Bool.{and_parts, not-false, eqb-true}
 use Rattle.line_reader.proofs.Faults.{AllFalse, all_false}
 use Rattle.listing_lines.specs.Text.{Line}
 use Rattle.listing_lines.specs.Tokens.{is_name}
@@ -28,7 +28,7 @@ use Rattle.pcodetext.specs.Written.{place_of}
 use Rattle.pcodetext.proofs.Distinct.{distinct_after, other_number, other_text}
 use Rattle.pcodetext.proofs.FormIs.{IsForm, IsFunctionLine, IsOneBefore, Known, NamesProto, known, named_small}
 use Rattle.pcodetext.proofs.Formed.{KeepFunctions, Keeps}
-use Rattle.pcodetext.proofs.Passing.{all_snoc, le_false, left_false, left_true, length_snoc, never, not_both, right_false, zero_false}
+use Rattle.pcodetext.proofs.Passing.{all_snoc, le_false, left_false, length_snoc, never, not_both, right_false, zero_false}
 
 -- ---- their form
 
@@ -52,7 +52,7 @@ function_made_is Q protos name proto (Some place) (Some returns) q = by_names _ 
     by_names : (t : Bool)
         → (is_name name && is_name proto) ≡ t
         → IfSome (if t then Some made else None) (λ l. IsFunctionLine (length protos) l × Q l.returns)
-    by_names true e = ((named_small proto_name proto protos, left_true _ _ e), q)
+    by_names true e = ((named_small proto_name proto protos, (and_parts _ _ e).0), q)
     by_names false e = tt
 
 func_made_is : (n : Known) (o : Option FunctionLine)

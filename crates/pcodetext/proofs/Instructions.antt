@@ -11,7 +11,7 @@ use Rattle.pcode_model.specs.Rules.{HasFewOps}
 use Rattle.pcodetext.specs.AtLine.{is_behind}
 use Rattle.pcodetext.specs.Checks.{of_some}
 use Rattle.pcode_model.specs.WellFormed.{total_ops}
-use Rattle.pcodetext.proofs.Passing.{all_snoc, length_snoc, right_false}
+use Rattle.pcodetext.proofs.Passing.{all_last, all_snoc, length_snoc, right_false}
 
 apart_snoc : (xs : List Instruction) (x y : Instruction)
     → AreApart (xs ++ x ∷ [])
@@ -71,5 +71,5 @@ pub ops_op : (P : Op → Type 0) (done : List Instruction) (x : Instruction) (op
     → AllByRecursion (EachOp P) (done ++ x ∷ [])
     → P op
     → AllByRecursion (EachOp P) (done ++ record x { ops = x.ops ++ op ∷ [] } ∷ [])
-ops_op P [] x op h p = (all_snoc P x.ops op h.0 p, tt)
-ops_op P (a ∷ done) x op h p = (h.0, ops_op P done x op h.1 p)
+ops_op P done x op h p =
+    all_last (EachOp P) done x (record x { ops = x.ops ++ op ∷ [] }) (λ ops. all_snoc P x.ops op ops p) h

@@ -7,6 +7,7 @@ pub mod Instructions
 pub mod Distinct
 pub mod FormIs
 pub mod Formed
+pub mod RangeForms
 pub mod Spaces
 pub mod Ranges
 pub mod PcodeLine

@@ -31,8 +31,8 @@ module _ (s : PartialListing) (word : Line) (parts : List Line) where
   head_is =
       by_word (codes "pcode") _ _ (pcode_form_is (known_of s) parts)
       (by_word (codes "space") _ _ (space_form_is (known_of s) parts)
-      (by_word (codes "stack") _ _ (stack_form_is (known_of s) s.spaces parts)
-      (by_word (codes "proto") _ _ (proto_form_is (known_of s) s.spaces parts)
+      (by_word (codes "stack") _ _ (stack_form_is (is_two s.version) s.spaces s.protos parts)
+      (by_word (codes "proto") _ _ (proto_form_is (is_two s.version) s.spaces s.protos parts)
       (by_word (codes "func") _ _ (func_form_is (is_two s.version) s.spaces s.protos parts)
       (by_word (codes "end") _ form.Nothing (end_form_is (known_of s) parts) (tt {0}))))))
 

@@ -1,19 +1,18 @@
 -- The line of an op: what its form has, and that it keeps to the rules.
-use Rattle.std.proofs.Common.{◌≡◌, ◌∙◌, ◌<◌, ◌+◌, ◌^◌, ℕ, Bool, true, false, List, [], ◌∷◌, ◌++◌, length, ap, sym, refl, arith, subst, map, lit<}
+use Rattle.std.proofs.Common.{◌≡◌, ◌∙◌, ◌<◌, ◌+◌, ◌^◌, ℕ, Bool, false, List, [], ◌∷◌, ◌++◌, length, ap, sym, refl, arith, subst, map, lit<}
 use Rattle.std.proofs.Math.Nat.{mod-lt, one-le-pow}
-use Rattle.std.specs.Prelude.{◌==◌, codes, Option, Some, None, IfSome, if◌then◌else◌}
+use Rattle.std.specs.Prelude.{◌==◌, Option, Some, None, IfSome}
 use Rattle.std.specs.List.{AllByRecursion, list_any}
 use Rattle.std.specs.Option.{is_none, option_map}
-use Rattle.std.specs.Str.{bytes_eq}
 use Rattle.line_reader.proofs.Faults.{AllFalse, all_false}
-use Rattle.listing_lines.specs.Text.{Line, parts_of}
-use Rattle.listing_lines.specs.Tokens.{decimal_of, hexadecimal_of, is_name}
+use Rattle.listing_lines.specs.Text.{Line}
+use Rattle.listing_lines.specs.Tokens.{is_name}
 use Rattle.pcode_model.specs.declared.listing.Instruction.{Instruction}
 use Rattle.pcode_model.specs.declared.listing.Op.{Op}
 use Rattle.pcode_model.specs.declared.listing.Proto.{Proto}
 use Rattle.pcode_model.specs.declared.listing.Space.{Space}
 use Rattle.pcode_model.specs.declared.opcode.Opcode.{Opcode}
-use Rattle.pcode_model.specs.WellFormed.{AreSpaces, IsKnown, IsKnownOp, IsOp, IsOperand}
+use Rattle.pcode_model.specs.WellFormed.{AreSpaces, IsKnown, IsKnownOp, IsOp, IsOperand, IsShort}
 use Rattle.pcodetext.specs.declared.partial_listing.PartialListing.{PartialListing}
 use Rattle.pcodetext.specs.declared.line_kinds.Form.TheVariants as form
 use Rattle.pcodetext.specs.declared.op_line.OpLine.{OpLine}
@@ -23,64 +22,13 @@ use Rattle.pcodetext.specs.declared.written.Written.{Written}
 use Rattle.pcodetext.specs.Checks.{is_empty, of_some}
 use Rattle.pcodetext.specs.Convert.{number, reduced, varnode}
 use Rattle.pcodetext.specs.OpLine.{op_assigned, op_by, op_faults, op_form, op_made, with_op}
-use Rattle.pcodetext.specs.Tables.{place_in, space_name}
-use Rattle.pcodetext.specs.Written.{named_by, numbered, range_by, range_of, ranges_of, with_first, written}
-use Rattle.pcodetext.proofs.FormIs.{IsAmong, IsForm, IsWritten, Known, either, known, named_small, when}
+use Rattle.pcodetext.specs.Written.{range_of, ranges_of}
+use Rattle.pcodetext.proofs.FormIs.{IsAmong, IsForm, IsWritten, Known, either, known, when}
 use Rattle.pcodetext.proofs.Formed.{KeepCode, Keeps}
 use Rattle.pcodetext.proofs.Instructions.{apart_same, ops_op, total_op}
-use Rattle.pcodetext.proofs.Passing.{le_false, left_false, never, not_both, right_false, zero_false}
+use Rattle.pcodetext.proofs.Passing.{all_last, le_false, left_false, never, not_both, right_false, zero_false}
+use Rattle.pcodetext.proofs.RangeForms.{range_small, ranges_small}
 use Rattle.pcodetext.proofs.Spaces.{some_spaces}
-
--- ---- the spaces that it names
-
-numbered_small : (n : ℕ) (o : Option ℕ) → IfSome o (λ k. k < n) → IsAmong n (numbered o)
-numbered_small n None h = tt
-numbered_small n (Some k) h = h
-
-space_small : (spaces : List Space) (name : Line) → IsAmong (length spaces) (named_by spaces name)
-space_small spaces name = by_name (bytes_eq name (codes "stack"))
-  where
-    by_name : (t : Bool)
-        → IsAmong (length spaces) (if t then named.Stack else numbered (place_in name (map space_name spaces)))
-    by_name true = tt
-    by_name false = numbered_small (length spaces) _ (named_small space_name name spaces)
-
-written_small : (n : ℕ) (space : Named) (offset size : Option ℕ)
-    → IsAmong n space
-    → IfSome (written space offset size) (IsWritten n)
-written_small n space None size h = tt
-written_small n space (Some o) None h = tt
-written_small n space (Some o) (Some k) h = h
-
-range_small : (spaces : List Space) (part : Line) → IfSome (range_of spaces part) (IsWritten (length spaces))
-range_small spaces part = by_parts (parts_of 58 part)
-  where
-    by_name : (t : Bool) (name offset size : Line)
-        → IfSome (if t then written (named_by spaces name) (hexadecimal_of offset) (decimal_of size) else None)
-        (IsWritten (length spaces))
-    by_name true name offset size = written_small (length spaces) _ _ _ (space_small spaces name)
-    by_name false name offset size = tt
-
-    by_parts : (parts : List Line) → IfSome (range_by spaces parts) (IsWritten (length spaces))
-    by_parts [] = tt
-    by_parts (a ∷ []) = tt
-    by_parts (a ∷ b ∷ []) = tt
-    by_parts (a ∷ b ∷ c ∷ []) = by_name (is_name a) a b c
-    by_parts (a ∷ b ∷ c ∷ d ∷ parts) = tt
-
-ranges_small : (spaces : List Space) (parts : List Line)
-    → IfSome (ranges_of spaces parts) (AllByRecursion (IsWritten (length spaces)))
-ranges_small spaces [] = tt
-ranges_small spaces (part ∷ parts) =
-    joined (range_of spaces part) (ranges_of spaces parts) (range_small spaces part) (ranges_small spaces parts)
-  where
-    joined : (o : Option Written) (more : Option (List Written))
-        → IfSome o (IsWritten (length spaces))
-        → IfSome more (AllByRecursion (IsWritten (length spaces)))
-        → IfSome (with_first o more) (AllByRecursion (IsWritten (length spaces)))
-    joined None more h g = tt
-    joined (Some w) None h g = tt
-    joined (Some w) (Some ws) h g = (h, g)
 
 -- ---- its form
 
@@ -121,17 +69,9 @@ reduced_small : (n offset size : ℕ) → n ≡ 0 → reduced n offset size < 25
 reduced_small n offset size e =
     subst (λ (k : ℕ). reduced k offset size < 256 ^ size) (sym e) (mod-lt offset (one-le-pow size 256 (lit< tt)))
 
-operand_is : (w : Written) → is_empty w ≡ false → IsOperand (varnode w)
-operand_is w some =
-    record { some = zero_false _ some; reduced = λ e. reduced_small (number w.space) w.offset w.size e }
-
-output_is : (out : Option Written) → of_some is_empty out ≡ false → IfSome (option_map varnode out) IsOperand
-output_is None some = tt
-output_is (Some w) some = operand_is w some
-
-inputs_are : (ws : List Written) → list_any is_empty ws ≡ false → AllByRecursion IsOperand (map varnode ws)
-inputs_are [] some = tt
-inputs_are (w ∷ ws) some = (operand_is w (left_false _ _ some), inputs_are ws (right_false _ _ some))
+operand_is : (w : Written) → is_empty w ≡ false → w.size < 10 ^ 5 → IsOperand (varnode w)
+operand_is w some few =
+    record { some = zero_false _ some; few = few; reduced = λ e. reduced_small (number w.space) w.offset w.size e }
 
 -- a range with the number of one of so many spaces
 known_by : (n : ℕ) (space : Named) → 0 < n → IsAmong n space → number space < n
@@ -140,18 +80,33 @@ known_by n named.Stack some h = some
 known_by n named.Unknown some h = some
 
 module _ (spaces : List Space) (are : AreSpaces spaces) where
+  output_is : (out : Option Written)
+      → of_some is_empty out ≡ false
+      → IfSome out (IsWritten (length spaces))
+      → IfSome (option_map varnode out) IsOperand
+  output_is None some is = tt
+  output_is (Some w) some is = operand_is w some is.size
+
+  inputs_are : (ws : List Written)
+      → list_any is_empty ws ≡ false
+      → AllByRecursion (IsWritten (length spaces)) ws
+      → AllByRecursion IsOperand (map varnode ws)
+  inputs_are [] some is = tt
+  inputs_are (w ∷ ws) some is =
+      (operand_is w (left_false _ _ some) is.0.size, inputs_are ws (right_false _ _ some) is.1)
+
   output_known : (out : Option Written)
       → IfSome out (IsWritten (length spaces))
       → IfSome (option_map varnode out) (IsKnown spaces)
   output_known None is = tt
-  output_known (Some w) is = known_by (length spaces) w.space (some_spaces spaces are) is
+  output_known (Some w) is = known_by (length spaces) w.space (some_spaces spaces are) is.space
 
   inputs_known : (ws : List Written)
       → AllByRecursion (IsWritten (length spaces)) ws
       → AllByRecursion (IsKnown spaces) (map varnode ws)
   inputs_known [] is = tt
   inputs_known (w ∷ ws) is =
-      (known_by (length spaces) w.space (some_spaces spaces are) is.0, inputs_known ws is.1)
+      (known_by (length spaces) w.space (some_spaces spaces are) is.0.space, inputs_known ws is.1)
 
   -- ---- one op more of the last instruction
 
@@ -173,7 +128,7 @@ module _ (spaces : List Space) (are : AreSpaces spaces) where
     op_more (Some code) None known opened f = absurd (never opened)
     op_more (Some code) (Some i) known opened f =
         let op : Op = record { code = code; out = option_map varnode l.out; inputs = map varnode l.inputs } in
-        let formed : IsOp op = record { out = output_is l.out out; inputs = inputs_are l.inputs inputs } in
+        let formed : IsOp op = record { out = output_is l.out out is.0; inputs = inputs_are l.inputs inputs is.1 } in
         let known_op : IsKnownOp spaces op =
         record { out = output_known l.out is.0; inputs = inputs_known l.inputs is.1 } in
         record {
@@ -181,6 +136,7 @@ module _ (spaces : List Space) (are : AreSpaces spaces) where
           first = λ e. absurd (never e);
           formed = ops_op IsOp done i op f.formed formed;
           known = ops_op (IsKnownOp spaces) done i op f.known known_op;
+          short = all_last IsShort done i (record i { ops = i.ops ++ op ∷ [] }) (λ short. short) f.short;
           total = total_op done i op ∙ ap (λ n. n + 1) f.total;
           few = omega arith;
           closed = λ e. refl;

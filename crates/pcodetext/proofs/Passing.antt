@@ -1,6 +1,6 @@
 -- What follows where a test doesn't hold, and lists that grow by one.
 use Rattle.std.proofs.Common.{◌≡◌, ◌<◌, ◌≤◌, ◌+◌, ℕ, Bool, true, false, List, [], ◌∷◌, ◌++◌, length, refl, arith}
-use Rattle.std.specs.Prelude.{◌==◌, ◌&&◌, ◌||◌, nat_le, not, Option, Some, None, IfSome}
+use Rattle.std.specs.Prelude.{◌==◌, ◌||◌, nat_le, not, Option, Some, None, IfSome}
 use Rattle.std.specs.List.{AllByRecursion}
 use Rattle.std.specs.Option.{is_none, is_some}
 use Rattle.std.proofs.lemmas.Bool.{not-false, eqb-true}
@@ -11,10 +11,6 @@ never h = cc
 
 pub never_back : false ≡ true → ⊥
 never_back h = cc
-
-pub left_true : (a b : Bool) → (a && b) ≡ true → a ≡ true
-left_true true b h = refl
-left_true false b h = absurd (cc)
 
 pub left_false : (a b : Bool) → (a || b) ≡ false → a ≡ false
 left_false true b h = h
@@ -60,6 +56,14 @@ pub all_snoc : {A : Type 0} (P : A → Type 0) (xs : List A) (y : A)
     → AllByRecursion P xs → P y → AllByRecursion P (xs ++ y ∷ [])
 all_snoc P [] y h p = (p, tt)
 all_snoc P (x ∷ xs) y h p = (h.0, all_snoc P xs y h.1 p)
+
+-- another last one
+pub all_last : {A : Type 0} (P : A → Type 0) (xs : List A) (x y : A)
+    → (P x → P y)
+    → AllByRecursion P (xs ++ x ∷ [])
+    → AllByRecursion P (xs ++ y ∷ [])
+all_last P [] x y f h = (f h.0, tt)
+all_last P (a ∷ xs) x y f h = (h.0, all_last P xs x y f h.1)
 
 pub length_snoc : {A : Type 0} (xs : List A) (y : A) → length (xs ++ y ∷ []) ≡ length xs + 1
 length_snoc [] y = refl

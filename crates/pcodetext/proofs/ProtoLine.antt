@@ -1,15 +1,16 @@
 -- The line that declares a prototype: what its form has, and that it keeps to the rules.
-use Rattle.std.proofs.Common.{◌≡◌, ◌<◌, ◌≤◌, ℕ, Bool, true, false, List, [], ◌∷◌, ◌++◌, length, ap, sym, refl, arith, subst, map}
+use Rattle.std.proofs.Common.{◌≡◌, ◌<◌, ◌≤◌, ◌^◌, ℕ, Bool, true, false, List, [], ◌∷◌, ◌++◌, length, ap, sym, refl, arith, subst, map}
 use Rattle.std.specs.Prelude.{◌==◌, ◌&&◌, ◌||◌, codes, not, nat_lt, Option, Some, None, IfSome, IsSome}
 use Rattle.std.specs.List.{AllByRecursion, list_any}
 use Rattle.std.specs.Option.{is_none, option_map}
 use Rattle.std.specs.Str.{bytes_eq}
-use Rattle.std.proofs.lemmas.Bool.{not-false, ltb-false}
+use Rattle.std.proofs.lemmas.Bool.{and_parts, not-false, ltb-false}
 use Rattle.std.proofs.lemmas.List.{length-map}
 use Rattle.line_reader.proofs.Faults.{AllFalse, all_false}
 use Rattle.listing_lines.specs.Text.{Line}
 use Rattle.listing_lines.specs.Tokens.{hexadecimal_of, is_name}
 use Rattle.pcode_model.specs.declared.listing.Function.{Function}
+use Rattle.pcode_model.specs.declared.listing.Proto.{Proto}
 use Rattle.pcode_model.specs.declared.listing.Space.{Space}
 use Rattle.pcode_model.specs.declared.listing.SpaceKind.TheVariants.{Register}
 use Rattle.pcode_model.specs.declared.listing.Varnode.{Varnode}
@@ -28,49 +29,60 @@ use Rattle.pcodetext.specs.ProtoLine.{has_bad_size, is_bad_argument, is_bad_kept
 use Rattle.pcodetext.specs.Tables.{proto_name}
 use Rattle.pcodetext.specs.Written.{range_or_none, ranges_of, ranges_until}
 use Rattle.pcodetext.proofs.Distinct.{distinct_snoc, others}
-use Rattle.pcodetext.proofs.FormIs.{IsForm, Known, when}
+use Rattle.pcodetext.proofs.FormIs.{IsForm, IsWritten, Known, known, when}
 use Rattle.pcodetext.proofs.Formed.{KeepFunctions, KeepProtos, Keeps}
-use Rattle.pcodetext.proofs.Passing.{all_map, all_snoc, le_false, le_snoc, left_false, left_true, length_snoc, never, right_false, some_length, some_map, zero_false}
+use Rattle.pcodetext.proofs.Passing.{all_map, all_snoc, le_false, le_snoc, left_false, length_snoc, never, right_false, some_length, some_map, zero_false}
+use Rattle.pcodetext.proofs.RangeForms.{ranges_small}
 use Rattle.pcodetext.proofs.Ranges.{register_by, register_is, register_kind, register_offset}
 use Rattle.pcodetext.proofs.Spaces.{complete_is}
 
 -- ---- its form
 
-module _ (n : Known) (spaces : List Space) (name : Line) where
+module _ (two : Bool) (spaces : List Space) (protos : List Proto) (name : Line) where
+  abbrev here : Known
+  here = known two spaces protos
+
   proto_made_is :
       (args : List Written) (gives : Option (Option Written)) (pop : Option ℕ) (keep : Option (List Written))
       → is_name name ≡ true
-      → IsForm n (proto_made name args gives pop keep)
-  proto_made_is args None pop keep h = tt
-  proto_made_is args (Some g) None keep h = tt
-  proto_made_is args (Some g) (Some p) None h = tt
-  proto_made_is args (Some g) (Some p) (Some k) h = h
+      → IfSome keep (AllByRecursion (IsWritten (length spaces)))
+      → IsForm here (proto_made name args gives pop keep)
+  proto_made_is args None pop keep h few = tt
+  proto_made_is args (Some g) None keep h few = tt
+  proto_made_is args (Some g) (Some p) None h few = tt
+  proto_made_is args (Some g) (Some p) (Some k) h few = (h, few)
 
   proto_rest_is : (args : List Written) (parts : List Line)
       → is_name name ≡ true
-      → IsForm n (proto_rest spaces name args parts)
+      → IsForm here (proto_rest spaces name args parts)
   proto_rest_is args [] h = tt
   proto_rest_is args (a ∷ []) h = tt
   proto_rest_is args (a ∷ b ∷ []) h = tt
   proto_rest_is args (a ∷ b ∷ c ∷ []) h = tt
   proto_rest_is args (a ∷ b ∷ c ∷ d ∷ parts) h =
-      when n (bytes_eq b (codes "pop") && bytes_eq d (codes "keep")) _
-      (λ e. proto_made_is args (range_or_none spaces a) (hexadecimal_of c) (ranges_of spaces parts) h)
+      when here (bytes_eq b (codes "pop") && bytes_eq d (codes "keep")) _
+      (λ e. proto_made_is args (range_or_none spaces a) (hexadecimal_of c) (ranges_of spaces parts) h
+      (ranges_small spaces parts))
 
   proto_args_is : (found : Option (List Written × List Line))
       → is_name name ≡ true
-      → IsForm n (proto_args spaces name found)
+      → IsForm here (proto_args spaces name found)
   proto_args_is None h = tt
   proto_args_is (Some found) h = proto_rest_is found.0 found.1 h
 
-pub proto_form_is : (n : Known) (spaces : List Space) (parts : List Line) → IsForm n (proto_form spaces parts)
-proto_form_is n spaces [] = tt
-proto_form_is n spaces (a ∷ []) = tt
-proto_form_is n spaces (a ∷ b ∷ parts) =
-    when n (is_name a && bytes_eq b (codes "args")) _
-    (λ e. proto_args_is n spaces a (ranges_until (codes "result") spaces parts) (left_true _ _ e))
+pub proto_form_is : (two : Bool) (spaces : List Space) (protos : List Proto) (parts : List Line)
+    → IsForm (known two spaces protos) (proto_form spaces parts)
+proto_form_is two spaces protos [] = tt
+proto_form_is two spaces protos (a ∷ []) = tt
+proto_form_is two spaces protos (a ∷ b ∷ parts) =
+    when (known two spaces protos) (is_name a && bytes_eq b (codes "args")) _
+    (λ e. proto_args_is two spaces protos a (ranges_until (codes "result") spaces parts) (and_parts _ _ e).0)
 
 -- ---- arguments
+
+-- so few bytes are fewer than five decimal digits write
+short_size : (size : ℕ) → size ≤ 16 → size < 10 ^ 5
+short_size size few = omega (arith, few)
 
 argument_by : (spaces : List Space) (stack : Option Varnode) (space : Named) (offset size : ℕ)
     → (((size == 0 || nat_lt 16 size) || leaves_known spaces space offset size) || (is_stack space && is_none stack))
@@ -83,9 +95,10 @@ argument_by spaces stack (named.Space n) offset size bad other known far =
     let sizes : (size == 0 || nat_lt 16 size) ≡ false = left_false _ _ (left_false _ _ bad) in
     let some : 0 < size = zero_false _ (left_false _ _ sizes) in
     let inside = right_false _ _ (left_false _ _ bad) in
+    let few : size ≤ 16 = ltb-false _ _ (right_false _ _ sizes) in
     record {
-      register = register_by spaces (named.Space n) offset size (not-false _ other) some inside;
-      few = ltb-false _ _ (right_false _ _ sizes);
+      register = register_by spaces (named.Space n) offset size (not-false _ other) some (short_size size few) inside;
+      few = few;
     }
 argument_by spaces stack named.Stack offset size bad other known far =
     let sizes : (size == 0 || nat_lt 16 size) ≡ false = left_false _ _ (left_false _ _ bad) in (
@@ -164,10 +177,9 @@ module _ (s : PartialListing) (are : AreSpaces s.spaces) where
   result_is None bad other known = tt
   result_is (Some w) bad other known =
       let kind = register_kind s.spaces w.space other known in
-      record {
-        register = register_is s.spaces w kind (zero_false _ (left_false _ _ (sized w bad))) (inside w bad);
-        few = ltb-false _ _ (right_false _ _ (sized w bad));
-      }
+      let some : 0 < w.size = zero_false _ (left_false _ _ (sized w bad)) in
+      let few : w.size ≤ 16 = ltb-false _ _ (right_false _ _ (sized w bad)) in
+      record { register = register_is s.spaces w kind some (short_size w.size few) (inside w bad); few = few }
 
   result_apart : (gives : Option Written)
       → of_some (is_bad_result s) gives ≡ false
@@ -194,13 +206,14 @@ module _ (s : PartialListing) (are : AreSpaces s.spaces) where
         → list_any (is_bad_kept s gives) ws ≡ false
         → list_any (of_other s.spaces) ws ≡ false
         → list_any of_unknown ws ≡ false
+        → AllByRecursion (IsWritten (length s.spaces)) ws
         → AllByRecursion (IsRegister s.spaces) (map varnode ws)
-    kept_are [] bad other known = tt
-    kept_are (w ∷ ws) bad other known =
+    kept_are [] bad other known is = tt
+    kept_are (w ∷ ws) bad other known is =
         let here : (is_empty w || leaves_space s.spaces w) ≡ false = left_false _ _ (left_false _ _ bad) in
         let kind = register_kind s.spaces w.space (left_false _ _ other) (left_false _ _ known) in (
-          register_is s.spaces w kind (zero_false _ (left_false _ _ here)) (right_false _ _ here),
-          kept_are ws (right_false _ _ bad) (right_false _ _ other) (right_false _ _ known),
+          register_is s.spaces w kind (zero_false _ (left_false _ _ here)) is.0.size (right_false _ _ here),
+          kept_are ws (right_false _ _ bad) (right_false _ _ other) (right_false _ _ known) is.1,
         )
 
     kept_apart : (ws : List Written)
@@ -230,15 +243,16 @@ module _ (s : PartialListing) (are : AreSpaces s.spaces) where
       (unknown : is_unknown_proto l ≡ false)
       (pop : nat_lt 0xffff l.pop ≡ false)
       (far : list_any is_far l.args ≡ false)
-      (bad : is_bad_proto s l ≡ false) where
+      (bad : is_bad_proto s l ≡ false)
+      (kept : AllByRecursion (IsWritten (length s.spaces)) l.keep) where
     counts : (nat_lt 16 (length l.args) || nat_lt 64 (length l.keep)) ≡ false
     counts = left_false _ _ (left_false _ _ bad)
 
     other : of_some (of_other s.spaces) l.gives ≡ false
     other = right_false _ _ (left_false _ _ foreign)
 
-    known : of_some of_unknown l.gives ≡ false
-    known = right_false _ _ (left_false _ _ unknown)
+    known_result : of_some of_unknown l.gives ≡ false
+    known_result = right_false _ _ (left_false _ _ unknown)
 
     bad_result : of_some (is_bad_result s) l.gives ≡ false
     bad_result = left_false _ _ (right_false _ _ bad)
@@ -248,7 +262,7 @@ module _ (s : PartialListing) (are : AreSpaces s.spaces) where
 
     proto_is : IsProto s.spaces s.stack (proto_of l)
     proto_is =
-        let registers = result_in_registers l.gives other known in
+        let registers = result_in_registers l.gives other known_result in
         record {
           args =
               let bad_args = right_false _ _ (left_false _ _ bad) in
@@ -256,12 +270,12 @@ module _ (s : PartialListing) (are : AreSpaces s.spaces) where
               arguments_are l.args bad_args other_args (left_false _ _ (left_false _ _ unknown)) far;
           args_few =
               subst (λ (n : ℕ). n ≤ 16) (sym (length-map l.args storage_of)) (ltb-false _ _ (left_false _ _ counts));
-          gives = result_is l.gives bad_result other known;
+          gives = result_is l.gives bad_result other known_result;
           pop = ltb-false _ _ pop;
-          keep = kept_are l.gives registers l.keep bad_kept (right_false _ _ foreign) (right_false _ _ unknown);
+          keep = kept_are l.gives registers l.keep bad_kept (right_false _ _ foreign) (right_false _ _ unknown) kept;
           keep_few =
               subst (λ (n : ℕ). n ≤ 64) (sym (length-map l.keep varnode)) (ltb-false _ _ (right_false _ _ counts));
-          result_apart = result_apart l.gives bad_result other known;
+          result_apart = result_apart l.gives bad_result other known_result;
           kept_apart = kept_apart l.gives registers l.keep bad_kept (right_false _ _ foreign) (right_false _ _ unknown);
         }
 
@@ -271,13 +285,14 @@ keep_proto : (s : PartialListing) (l : ProtoLine)
     → AreSpaces s.spaces
     → KeepProtos s.spaces s.stack s.protos
     → IsNamedProto (proto_of l)
+    → AllByRecursion (IsWritten (length s.spaces)) l.keep
     → AllFalse (proto_faults s l)
     → KeepProtos s.spaces s.stack (s.protos ++ proto_of l ∷ [])
-keep_proto s l are f named p =
+keep_proto s l are f named kept p =
     let whole : is_complete s.spaces ≡ true = not-false _ (left_false _ _ p.1.0) in
     let other = others proto_name l.name s.protos p.1.1.1.0 in
     let few : length s.protos < 64 = le_false _ _ p.1.1.1.1.0 in
-    let new = proto_is s are l p.0 p.1.1.0 p.1.1.1.1.1.0 p.1.1.1.1.1.1.0 p.1.1.1.1.1.1.1.0 in
+    let new = proto_is s are l p.0 p.1.1.0 p.1.1.1.1.1.0 p.1.1.1.1.1.1.0 p.1.1.1.1.1.1.1.0 kept in
     record {
       complete = λ some. complete_is s.spaces whole;
       formed = all_snoc (IsProto s.spaces s.stack) s.protos (proto_of l) f.formed new;
@@ -309,7 +324,7 @@ functions_more two spaces n m func callees le f =
     }
 
 pub proto_keeps : (s : PartialListing) (l : ProtoLine) → Keeps s (form.Proto l)
-proto_keeps s l f named h =
+proto_keeps s l f is h =
     let p : AllFalse (proto_faults s l) = all_false (proto_faults s l) h in
     let e = f.early (right_false _ _ p.1.0) in
     let more : length s.protos ≤ length (s.protos ++ proto_of l ∷ []) = le_snoc s.protos (proto_of l) in
@@ -317,7 +332,7 @@ proto_keeps s l f named h =
       version = f.version;
       spaces = f.spaces;
       stack = f.stack;
-      protos = keep_proto s l f.spaces.formed f.protos named p;
+      protos = keep_proto s l f.spaces.formed f.protos is.0 is.1 p;
       functions = functions_more (is_two s.version) s.spaces (length s.protos) _ s.func s.callees more f.functions;
       fixed = f.fixed;
       code = f.code;

@@ -29,20 +29,22 @@ reduced_le n offset size = by_space (n == 0)
 pub register_by : (spaces : List Space) (space : Named) (offset size : ℕ)
     → is_of_kind Register spaces space ≡ true
     → 0 < size
+    → size < 10 ^ 5
     → leaves_known spaces space offset size ≡ false
     → IsRegister spaces (varnode (record { space = space; offset = offset; size = size }))
-register_by spaces (named.Space n) offset size kind some inside =
+register_by spaces (named.Space n) offset size kind some few inside =
     let le : reduced n offset size ≤ offset = reduced_le n offset size in
-    record { kind = kind; some = some; inside = less_is_inside _ offset (reduced n offset size) size le inside }
-register_by spaces named.Stack offset size kind some inside = absurd (never (sym kind))
-register_by spaces named.Unknown offset size kind some inside = absurd (never (sym kind))
+    record { kind = kind; some = some; few = few; inside = less_is_inside _ offset (reduced n offset size) size le inside }
+register_by spaces named.Stack offset size kind some few inside = absurd (never (sym kind))
+register_by spaces named.Unknown offset size kind some few inside = absurd (never (sym kind))
 
 pub register_is : (spaces : List Space) (w : Written)
     → is_of_kind Register spaces w.space ≡ true
     → 0 < w.size
+    → w.size < 10 ^ 5
     → leaves_space spaces w ≡ false
     → IsRegister spaces (varnode w)
-register_is spaces w kind some inside = register_by spaces w.space w.offset w.size kind some inside
+register_is spaces w kind some few inside = register_by spaces w.space w.offset w.size kind some few inside
 
 -- a known space that isn't another one is the register space
 pub register_kind : (spaces : List Space) (space : Named)

@@ -245,6 +245,7 @@ space_keeps s l f is h =
         first = f.code.first;
         formed = f.code.formed;
         known = no_code (HasKnownOps spaces) s.done s.last e.done e.last;
+        short = f.code.short;
         total = f.code.total;
         few = f.code.few;
         closed = f.code.closed;

@@ -57,6 +57,7 @@ start_formed = record {
     first = λ e. refl;
     formed = tt;
     known = tt;
+    short = tt;
     total = refl;
     few = omega arith;
     closed = λ e. absurd (never (sym e));
@@ -107,6 +108,7 @@ module _
         rising = f.fixed.rising;
         some = some_code s.done s.last (f.code.closed ended);
         apart = f.code.apart;
+        short = f.code.short;
         few = few_ops (s.done ++ option_to_list s.last) (omega (arith, f.code.total, f.code.few));
         ops = f.code.formed;
         known = f.code.known;

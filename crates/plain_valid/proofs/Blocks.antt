@@ -78,7 +78,8 @@ module _
 
     direct_fits : (v : Varnode) → IsDirect l v → Fits ws n (address_of l v) (offset_bytes l v.space) 1
     direct_fits v is =
-        constant_fits ws n (offset_bytes l v.space) v.offset (is.0).some (let small = (is.0).few in omega (arith, small))
+        let small = (is.0).few in
+        constant_fits ws n (offset_bytes l v.space) v.offset (is.0).some (omega (arith, small))
 
     -- an address that an operand counts
     address_right : (s w : ℕ) (e : Expr)
@@ -257,8 +258,8 @@ module _
         let of_x : Fits ws n d z.size 1 = as_wide ws n d x.size z.size 1 h.0.0 two.word in
         let of_y : Fits ws n e z.size 1 = as_wide ws n e y.size z.size 1 h.0.1 two.other in
         computes_right next z r make two.loads h.1.1 are
-        (λ v is. divided_right op z.size d ((h.1.1).0).0 ((h.1.1).0).1 of_x v is (kind_of l y.space) (behind_one next x) y
-        h.0.1 ((h.1.0).1).1 of_y)
+        (λ v is. divided_right op z.size d ((h.1.1).0).0 ((h.1.1).0).1 of_x v is (kind_of l y.space)
+        (behind_one next x) y h.0.1 ((h.1.0).1).1 of_y)
     op_right next O.Load (Some z) (s ∷ x ∷ []) h are =
         let r = reads l ranges next (x ∷ []) in
         let e = (read_one l ranges next x).word in
@@ -330,9 +331,10 @@ module _
     test_right next c here to behind F.Return is byte h by are = absurd by
     test_right next c here to behind (F.Jump b) is byte h by are = absurd by
     test_right next c here to behind (F.Test a b) is byte h by are =
-        let R : ReadOne → Type 0 = λ r. AreLocals ws n next (cond (a == b) (directly (X.Jump a)) (tests r a b)).locals in
-        let S : ReadOne → Type 0 = λ r. Leaves (cond (a == b) (directly (X.Jump a)) (tests r a b)) in
-        subst S (sym is)
+        let out : ReadOne → WayOut = λ r. cond (a == b) (directly (X.Jump a)) (tests r a b) in
+        let R : ReadOne → Type 0 = λ r. AreLocals ws n next (out r).locals in
+        let T : ReadOne → Type 0 = λ r. Leaves (out r) in
+        subst T (sym is)
         (test_if next c a b (a == b) byte h (start_below to a by.0) (start_below behind b by.1) (subst R is are))
     test_right next c here to behind (F.Switch t ns) is byte h by are = absurd by
     test_right next c here to behind F.Stop is byte h by are = absurd by

@@ -1,4 +1,4 @@
--- What is asked of each kind of statement and of exit that the plain lowering makes, so that it holds of all its blocks.
+-- What is asked of each kind of statement and exit that the plain lowering makes, so that it holds of all blocks.
 use Rattle.std.proofs.Common.{◌≡◌, ℕ, ◌+◌, ◌<◌, ◌≤◌, List, [], ◌∷◌, ◌++◌, length, length-append, Option, Some, None, arith}
 use Rattle.pcode_model.specs.declared.listing.Varnode.{Varnode}
 use Rattle.pcode_model.specs.declared.listing.Listing.{Listing}

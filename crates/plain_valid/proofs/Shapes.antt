@@ -170,7 +170,9 @@ module _ (ws : ℕ → ℕ) (n : ℕ) where
       }
 
   constant_is : (w value : ℕ) → shape_of ws (constant w value) ≡ Some (constant_shape w value)
-  constant_is w value = shape_layer (constant w value) (Expr-F.Const (word_by w value)) (E.rolls-Const (word_by w value))
+  constant_is w value =
+      let c = word_by w value in
+      shape_layer (E.Const c) (Expr-F.Const c) (E.rolls-Const c)
 
   constant_below : (w value : ℕ) → AllBelow n (in_expr (constant w value))
   constant_below w value =

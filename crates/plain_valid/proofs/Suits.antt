@@ -40,8 +40,8 @@ all_suit : (h : Head) (xs : List Block) → AllHold (BodySuits h) (ExitSuits h) 
 all_suit h [] all = tt
 all_suit h (x ∷ xs) all = (all.0, all_suit h xs all.1)
 
--- Each statement and each exit of the plain lowering obeys its rule, and mentions what the head has, where the variables
--- have numbers of 32 bits and the listing's spaces have names.
+-- Each statement and each exit of the plain lowering obeys its rule, and mentions what the head has, where the
+-- variables have numbers of 32 bits and the names of the listing's spaces have the form of names.
 pub plain_suits : (l : Listing) (t : List TableAt) (blocks : List flow_block.Block) (atoms : List Atom)
     → IsLowerable l t blocks atoms
     → length (lowered l blocks atoms).variables ≤ 2 ^ 32

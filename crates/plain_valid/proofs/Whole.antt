@@ -1,4 +1,4 @@
--- What holds of each kind of statement and of exit holds of all blocks of a lowered code, by the widths of its variables.
+-- What holds of each kind of statement and exit holds of all blocks of a lowered code, by its variables' widths.
 use Rattle.std.proofs.Common.{◌≡◌, ℕ, ◌≤◌, ◌^◌, List, length, length-append, map, sym, subst, arith}
 use Rattle.std.proofs.lemmas.List.{length-map}
 use Rattle.pcode_model.specs.declared.listing.Listing.{Listing}
@@ -26,12 +26,10 @@ module _
     (P : List Stmt → Type 0)
     (Q : Exit → Type 0)
   where
-    abbrev pub Named : Type 0
-    Named =
-        let vs = (lowered l blocks atoms).variables in
+    -- All blocks of the code.
+    pub each_block : (let vs = (lowered l blocks atoms).variables in
         Kinds l (ranges_of l atoms) (widths vs) (length vs) (length blocks) P Q
-
-    pub each_block : Named → AllHold P Q (lowered l blocks atoms).blocks
+        → AllHold P Q (lowered l blocks atoms).blocks)
     each_block kinds =
         let vs = (lowered l blocks atoms).variables in
         let ranges = ranges_of l atoms in
