@@ -12,6 +12,14 @@ use Rattle.blockcode.specs.declared.code.Block.{Block}
 use Rattle.blockcode.specs.declared.code.Code.{Code}
 use Rattle.blockcode.specs.Run.{CodeState, at, widths, call_returns, pass, pass_in, code_step}
 
+-- What stands in the first of two lists stands at the same place of both.
+pub get_in_front : {A : Type 0} (xs ys : List A) (n : ℕ) (x : A)
+    → slice_get xs n ≡ Some x
+    → slice_get (xs ++ ys) n ≡ Some x
+get_in_front [] ys n x e = absurd (cc)
+get_in_front (y ∷ xs) ys zero x e = e
+get_in_front (y ∷ xs) ys (suc n) x e = get_in_front xs ys n x e
+
 -- What is left behind the first ones begins with the next one.
 pub dropped : {A : Type 0} (xs : List A) (n : ℕ) (x : A) → slice_get xs n ≡ Some x → drop n xs ≡ x ∷ drop (suc n) xs
 dropped [] n x e = absurd (cc)

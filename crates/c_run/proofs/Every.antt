@@ -6,7 +6,8 @@ use Rattle.std.proofs.lemmas.List.{map-id}
 use Rattle.pcode_model.specs.declared.listing.Listing.{Listing}
 use Rattle.pcode_model.specs.Spaces.{register_space}
 use Rattle.pcode_model.specs.WellFormed.{IsWellFormed}
-use Rattle.cmeaning.specs.declared.tree.Arm.{Arm, fold_out-Arm, roll-Arm, map-Arm}
+use Rattle.cmeaning.proofs.Layers.{arm_fits_is}
+use Rattle.cmeaning.specs.declared.tree.Arm.{Arm, roll-Arm, map-Arm}
 use Rattle.cmeaning.specs.declared.tree.CFunction.{CFunction}
 use Rattle.cmeaning.specs.declared.tree.Stmt.{Stmt, out-Stmt, roll-Stmt, map-Stmt, fold-roll-Stmt}
 use Rattle.cmeaning.specs.declared.tree.Stmt.TheFolds.{ind-Stmt}
@@ -90,10 +91,6 @@ body_sound l f labels g h (x ∷ xs) after_call in_loop room ok fit place out p 
     (body_sound l f labels g h xs r.calls in_loop room two.1 fits.1 place out (p + piece.span))
 
 -- ---- arms
-
-arm_fits_is : (l : Listing) (ws : ℕ → ℕ) (a : Arm) → arm_fits l ws a ≡ all_true (map (stmt_fits l ws) a.body)
-unfolding arm_fits stmt_fits
-arm_fits_is l ws a = fold_out-Arm Bool Bool (fits_step l ws) arm_step a
 
 break_sound : (l : Listing) (f : CFunction) (past : ℕ) (b : Bool) → AllSound l f (if b then Jump past ∷ [] else [])
 break_sound l f past true = ((tt, tt), tt)

@@ -13,3 +13,4 @@ pub mod Order
 mod Entries
 pub mod Grows
 pub mod Names
+pub mod Layers

@@ -20,7 +20,7 @@ use Rattle.cmeaning.specs.declared.tree.Stmt.{Stmt, fold-roll-Stmt, roll-Stmt, m
 use Rattle.cmeaning.specs.declared.tree.Stmt.TheOpen.{Stmt-F}
 use Rattle.cmeaning.specs.declared.tree.Stmt.TheVariants as S
 use Rattle.cmeaning.specs.declared.tree.CalleeDecl.{CalleeDecl}
-use Rattle.cmeaning.specs.Mentions.{Mention, Callee, Variable, mentioned, numbered, expr_step, in_expr, in_exprs, in_target, stmt_step, arm_step, in_stmt, in_arm, in_arms, in_body}
+use Rattle.cmeaning.specs.Mentions.{Mention, Callee, LabelLine, Variable, mentioned, numbered, expr_step, in_expr, in_exprs, in_target, stmt_step, arm_step, in_stmt, in_arm, in_arms, in_body}
 
 pub in_append : (xs ys : List Stmt) → in_body (xs ++ ys) ≡ in_body xs ++ in_body ys
 in_append [] ys = refl
@@ -200,6 +200,12 @@ pub numbered_switch : (callees : List CalleeDecl) (next : Option Next) (e : Expr
 numbered_switch callees next e arms =
     of_parts callees (S.Switch e arms) (in_expr e) (in_arms arms) next
     (in_statement (S.Switch e arms) (Stmt-F.Switch e arms) (S.rolls-Switch e arms))
+
+pub in_goto : (n : ℕ) → in_stmt (S.Goto n) ≡ []
+in_goto n = in_statement (S.Goto n) (Stmt-F.Goto n) (S.rolls-Goto n)
+
+pub in_label : (n : ℕ) → in_stmt (S.Label n) ≡ LabelLine n ∷ []
+in_label n = in_statement (S.Label n) (Stmt-F.Label n) (S.rolls-Label n)
 
 pub in_arm_body : (a : Arm) → in_arm a ≡ in_body a.body
 unfolding in_arm in_stmt

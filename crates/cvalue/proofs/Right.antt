@@ -14,19 +14,15 @@ use Rattle.cmeaning.specs.declared.tree.SignedCompareOp.{SignedCompareOp}
 use Rattle.cmeaning.specs.declared.tree.ExtendOp.{ExtendOp}
 use Rattle.cmeaning.specs.declared.tree.OverflowOp.{OverflowOp}
 use Rattle.cmeaning.specs.declared.tree.CountOp.{CountOp}
-use Rattle.cmeaning.specs.declared.tree.Expr.{Expr, fold-roll-Expr, ind-Expr, roll-Expr, map-Expr}
+use Rattle.cmeaning.specs.declared.tree.Expr.{Expr, ind-Expr, roll-Expr, map-Expr}
 use Rattle.cmeaning.specs.declared.tree.Expr.TheOpen.{Expr-F}
 use Rattle.cmeaning.specs.declared.tree.Expr.TheVariants as E
 use Rattle.cmeaning.specs.Shape.{leaf, above, one_shape, two_shape, shape_step, shape_of, is_right, same_width, left_width, may_divide, may_divide_signed, may_join, by_constant, by_signed, is_part}
 use Rattle.cmeaning.specs.Value.{Meaning, meaning_step, meaning_of, width_of}
+use Rattle.cmeaning.proofs.Layers.{shape_roll}
 use Rattle.cmeaning.proofs.Value.{meaning_roll}
 
 -- ---- shapes
-
-shape_roll : (ws : ℕ → ℕ) (l : Expr-F Expr)
-    → shape_of ws (roll-Expr l) ≡ shape_step ws (map-Expr Expr (Option Shape) (shape_of ws) l)
-unfolding shape_of
-shape_roll ws l = fold-roll-Expr (Option Shape) (shape_step ws) l
 
 chosen : (b : Bool) (r s : Shape) → (if b then Some r else None) ≡ Some s → r ≡ s
 chosen true r s is = cc

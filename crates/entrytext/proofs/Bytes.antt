@@ -7,7 +7,8 @@ use Rattle.std.specs.Option.{option_map}
 use Rattle.std.proofs.lemmas.Bool.Decides.{nat_tests}
 use Rattle.listing_lines.specs.Text.{Line}
 use Rattle.listing_lines.specs.Tokens.{bytes_of, pairs_of}
-use Rattle.pcode_model.specs.Spaces.{any_at, is_some, next, or}
+use Rattle.pcode_model.specs.Spaces.{any_at, is_some, next}
+use Rattle.pcode_laws.proofs.Rules.{neither}
 use Rattle.run_world.specs.declared.entry.Byte.{Byte}
 use Rattle.entrytext.specs.Meaning.{bytes_from}
 
@@ -79,20 +80,12 @@ from_all P n (b ∷ bytes) o each small =
 
 -- ---- no byte is read-only
 
-or_left : (a b : Bool) → or a b ≡ false → a ≡ false
-or_left false b h = refl
-or_left true b h = h
-
-or_right : (a b : Bool) → or a b ≡ false → b ≡ false
-or_right false b h = h
-or_right true b h = absurd (cc)
-
 pub none_at : (size : ℕ) (f : ℕ → Bool) (k o : ℕ)
     → o + k ≤ size
     → any_at size f o k ≡ false
     → (i : ℕ) → i < k → f (o + i) ≡ false
 none_at size f zero o fits none i within = absurd (omega (arith, within))
-none_at size f (suc k) o fits none zero within = ap f (first o) ∙ or_left _ _ none
+none_at size f (suc k) o fits none zero within = ap f (first o) ∙ (neither _ _ none).0
   where
     first : (p : ℕ) → p + 0 ≡ p
     first p = omega arith
@@ -102,7 +95,7 @@ none_at size f (suc k) o fits none (suc i) within =
     let last : suc o < size = omega (arith, fits, within) in
     let goes_on : (suc o == size) ≡ false = grind (arith, nat_tests, last) in
     let on : next size o ≡ suc o = ap (λ b. cond b 0 (suc o)) goes_on in
-    let rest : any_at size f (suc o) k ≡ false = ap (λ p. any_at size f p k) (sym on) ∙ or_right _ _ none in
+    let rest : any_at size f (suc o) k ≡ false = ap (λ p. any_at size f p k) (sym on) ∙ (neither _ _ none).1 in
     ap f (later o) ∙ none_at size f k (suc o) inner rest i before
   where
     later : (p : ℕ) → p + suc i ≡ suc p + i

@@ -3,9 +3,10 @@ use Rattle.std.proofs.Common.{◌≡◌, ℕ, ◌&&◌, Bool, true, List, [], �
 use Rattle.std.proofs.lemmas.Bool.{and_parts}
 use Rattle.pcode_model.specs.declared.listing.Listing.{Listing}
 use Rattle.cmeaning.specs.declared.tree.Arm.{Arm}
-use Rattle.cmeaning.specs.declared.tree.Stmt.{Stmt, roll-Stmt, fold-roll-Stmt, map-Stmt}
+use Rattle.cmeaning.specs.declared.tree.Stmt.{Stmt, roll-Stmt, map-Stmt}
 use Rattle.cmeaning.specs.declared.tree.Stmt.TheOpen.{Stmt-F}
-use Rattle.cmeaning.specs.Fits.{arm_fits, arm_step, body_fits, fits_step, stmt_fits}
+use Rattle.cmeaning.specs.Fits.{arm_fits, body_fits, fits_step, stmt_fits}
+use Rattle.cmeaning.proofs.Layers.{fits_roll}
 use Rattle.layout.specs.Fitting.{BodyFits}
 
 module _ (l : Listing) (ws : ℕ → ℕ) where
@@ -13,8 +14,7 @@ module _ (l : Listing) (ws : ℕ → ℕ) where
   pub fits_layer : (s : Stmt) (y : Stmt-F Stmt Arm)
       → roll-Stmt y ≡ s
       → stmt_fits l ws s ≡ fits_step l ws (map-Stmt Stmt Arm Bool Bool (stmt_fits l ws) (arm_fits l ws) y)
-  unfolding stmt_fits arm_fits
-  fits_layer s y is = ap (stmt_fits l ws) (sym is) ∙ fold-roll-Stmt Bool Bool (fits_step l ws) arm_step y
+  fits_layer s y is = ap (stmt_fits l ws) (sym is) ∙ fits_roll l ws y
 
   -- one line
   pub one_fits : (s : Stmt) → stmt_fits l ws s ≡ true → BodyFits l ws (s ∷ [])

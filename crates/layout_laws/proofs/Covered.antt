@@ -8,7 +8,7 @@ use Rattle.cmeaning.specs.declared.tree.Stmt.{Stmt}
 use Rattle.cmeaning.specs.declared.tree.Stmt.TheOpen.{Stmt-F}
 use Rattle.cmeaning.specs.declared.tree.Stmt.TheVariants as S
 use Rattle.cmeaning.specs.Mentions.{Mention, Variable, Callee, LabelLine, all, in_expr, in_option, in_stmt, in_arms, in_body}
-use Rattle.cmeaning.proofs.Mentions.{in_append, in_arm_body, in_statement}
+use Rattle.cmeaning.proofs.Mentions.{in_append, in_arm_body, in_goto, in_label, in_statement}
 use Rattle.naming.specs.declared.head.Head.{Head}
 use Rattle.naming.specs.Listed.{is_listed, with_one}
 use Rattle.naming.specs.Covered.{Covers, HasOnce, IsCovered, has_line}
@@ -23,12 +23,6 @@ use Rattle.layout.specs.Suits.{Knows, BodySuits, ExitSuits, AllSuit}
 use Rattle.layout.proofs.Suiting.{knows_append, knows_in, knows_one}
 
 -- ---- what lines mention
-
-in_goto : (n : ℕ) → in_stmt (S.Goto n) ≡ []
-in_goto n = in_statement (S.Goto n) (Stmt-F.Goto n) (S.rolls-Goto n)
-
-in_label : (n : ℕ) → in_stmt (S.Label n) ≡ LabelLine n ∷ []
-in_label n = in_statement (S.Label n) (Stmt-F.Label n) (S.rolls-Label n)
 
 -- a goto alone
 only_goto : (n : ℕ) → in_body (S.Goto n ∷ []) ≡ []

@@ -26,7 +26,7 @@ use Rattle.blockcode.specs.Run.{CodeState, widths, chosen, enters, enters_by, re
 use Rattle.blockcode.proofs.Arms.{rising_distinct}
 use Rattle.blockcode.specs.CanLay.{AreSimple, CanLeave, any_switch, has_switch, is_switch, values_of}
 use Rattle.blockcode.specs.Laid.{branches, goto, exit_lines, laid_from, targets}
-use Rattle.blockcode.proofs.Straight.{get_of_drop, rest_of_drop, still, step_in}
+use Rattle.blockcode.proofs.Straight.{get_in_front, get_of_drop, rest_of_drop, still, step_in}
 use Rattle.layout_laws.proofs.Switches.{case_leads, cases_from, chosen_by, chosen_is, jumps, leads_to, switch_span, switch_steps}
 use Rattle.layout_laws.proofs.Follows.{Lines, flat_from, Leads, JumpLeads, ArmsLead, IsLaid, Given, behind, NeverLost, Related, Went, body_run, goes_on, entered, arrives, ended_goes, jump_goes, simple_goes, c_is, c_still, front}
 
@@ -94,13 +94,6 @@ module _ (k : Code) (g : Lines) where
       ∙ ap (λ l. l ++ flat_from k g rest (p + (piece_of g.returns s).span))
       (switch_steps arms g.returns e g.place g.out p)
       ∙ ap (λ n. first ∷ (jumps g.place (targets arms) ++ flat_from k g rest (p + n))) (switch_span arms g.returns e)
-
-get_in_front : {A : Type 0} (xs ys : List A) (n : ℕ) (x : A)
-    → slice_get xs n ≡ Some x
-    → slice_get (xs ++ ys) n ≡ Some x
-get_in_front [] ys n x e = absurd (cc)
-get_in_front (y ∷ xs) ys zero x e = e
-get_in_front (y ∷ xs) ys (suc n) x e = get_in_front xs ys n x e
 
 get_behind : {A : Type 0} (xs : List A) (n m : ℕ) → slice_get xs (n + m) ≡ slice_get (drop n xs) m
 get_behind xs zero m = ap (slice_get xs) (let e : 0 + m ≡ m = omega arith in e)

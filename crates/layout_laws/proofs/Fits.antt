@@ -7,10 +7,11 @@ use Rattle.cmeaning.specs.declared.tree.Stmt.{Stmt}
 use Rattle.cmeaning.specs.declared.tree.Stmt.TheOpen.{Stmt-F}
 use Rattle.cmeaning.specs.declared.tree.Stmt.TheVariants as S
 use Rattle.cmeaning.specs.Fits.{Fits, all_true, arm_fits, params_fit}
+use Rattle.cmeaning.proofs.Layers.{arm_fits_is}
 use Rattle.naming.specs.declared.head.Head.{Head}
 use Rattle.naming.specs.Covered.{IsCovered}
 use Rattle.naming.specs.Run.{widths_of}
-use Rattle.naming_laws.proofs.Fit.{arm_fits_is, named_fits}
+use Rattle.naming_laws.proofs.Fit.{named_fits}
 use Rattle.blockcode.specs.declared.code.Arm.{Arm}
 use Rattle.blockcode.specs.declared.code.Block.{Block}
 use Rattle.blockcode.specs.declared.code.Code.{Code}

@@ -5,6 +5,7 @@ use Rattle.std.specs.Prelude.{◌==◌, cond, slice_get}
 use Rattle.std.proofs.lemmas.Bool.{and_parts}
 use Rattle.std.proofs.lemmas.Bool.Decides.{nat_tests}
 use Rattle.pcode_model.specs.Spaces.{or}
+use Rattle.pcode_laws.proofs.Rules.{neither, or_rest}
 use Rattle.cmeaning.specs.declared.tree.Expr.{Expr}
 use Rattle.cmeaning.specs.declared.tree.Stmt.TheOpen.{Stmt-F}
 use Rattle.cmeaning.specs.declared.tree.Stmt.TheVariants as S
@@ -125,10 +126,6 @@ chosen_is (a ∷ rest) s w = by (a.value == w) (chosen_is rest s w) where
 self : (n : ℕ) → (n == n) ≡ true
 self n = grind (arith, nat_tests)
 
-or_rest : (a b : Bool) → a ≡ false → or a b ≡ true → b ≡ true
-or_rest true b e h = absurd (cc)
-or_rest false b e h = h
-
 or_first : (a b : Bool) → a ≡ true → or a b ≡ true
 or_first a b e = ap (λ x. or x b) e
 
@@ -245,10 +242,6 @@ found_behind : (vs : List ℕ) (more : List (ℕ × ℕ)) (d q w : ℕ)
     → found_in (cases_at q vs ++ more) d w ≡ found_in more d w
 found_behind [] more d q w h = refl
 found_behind (v ∷ vs) more d q w h = by (v == w) refl h (found_behind vs more d q w) where
-  neither : (a b : Bool) → or a b ≡ false → (a ≡ false) × (b ≡ false)
-  neither true b h = absurd (cc)
-  neither false b h = (refl, h)
-
   by : (b : Bool) → (v == w) ≡ b
       → or (w == v) (is_in w vs) ≡ false
       → (is_in w vs ≡ false → found_in (cases_at q vs ++ more) d w ≡ found_in more d w)

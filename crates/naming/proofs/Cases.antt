@@ -8,8 +8,8 @@ use Rattle.cmeaning.specs.declared.tree.Expr.TheVariants as E
 use Rattle.cmeaning.specs.declared.tree.Stmt.{Stmt, fold-roll-Stmt, roll-Stmt, map-Stmt}
 use Rattle.cmeaning.specs.declared.tree.Stmt.TheOpen.{Stmt-F}
 use Rattle.cmeaning.specs.declared.tree.Stmt.TheVariants as S
-use Rattle.cmeaning.specs.Mentions.{Variable, Callee, LabelLine, in_expr, in_exprs, in_option, in_target, in_stmt, in_body}
-use Rattle.cmeaning.proofs.Mentions.{in_layer, in_statement}
+use Rattle.cmeaning.specs.Mentions.{Variable, Callee, in_expr, in_exprs, in_option, in_target, in_stmt, in_body}
+use Rattle.cmeaning.proofs.Mentions.{in_goto, in_label, in_layer, in_statement}
 use Rattle.naming.specs.Renamed as R
 use Rattle.naming.specs.Renamed.{Names, expr_by, exprs_by, option_by, target_by, stmt_layer, stmt_by, arm_by, body_by}
 use Rattle.naming.specs.declared.head.Head.{Head}
@@ -29,12 +29,6 @@ in_call v a es = in_statement (S.Call v a es) (Stmt-F.Call v a es) (S.rolls-Call
 
 in_if : (c : Expr) (body : List Stmt) → in_stmt (S.If c body) ≡ in_expr c ++ in_body body
 in_if c body = in_statement (S.If c body) (Stmt-F.If c body) (S.rolls-If c body)
-
-in_goto : (n : ℕ) → in_stmt (S.Goto n) ≡ []
-in_goto n = in_statement (S.Goto n) (Stmt-F.Goto n) (S.rolls-Goto n)
-
-in_label : (n : ℕ) → in_stmt (S.Label n) ≡ LabelLine n ∷ []
-in_label n = in_statement (S.Label n) (Stmt-F.Label n) (S.rolls-Label n)
 
 in_return : (e : Option Expr) → in_stmt (S.Return e) ≡ in_option e
 in_return e = in_statement (S.Return e) (Stmt-F.Return e) (S.rolls-Return e)

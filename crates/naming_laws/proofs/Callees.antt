@@ -2,7 +2,7 @@
 use Rattle.std.proofs.Common.{◌≡◌, ℕ, ◌&&◌, not, Bool, true, false, cond, List, [], ◌∷◌, map, refl, sym, ap, ap₂, ◌∙◌, Option, Some}
 use Rattle.std.specs.Prelude.{◌==◌}
 use Rattle.std.proofs.lemmas.Bool.{eqb-true}
-use Rattle.pcode_model.specs.Spaces.{or}
+use Rattle.pcode_laws.proofs.Rules.{neither, or_rest}
 use Rattle.cmeaning.specs.declared.tree.CName.{CName}
 use Rattle.cmeaning.specs.declared.tree.CName.TheVariants.{Declared, Bare}
 use Rattle.cmeaning.specs.declared.tree.CalleeDecl.{CalleeDecl}
@@ -11,7 +11,7 @@ use Rattle.cmeaning.specs.Do.{same_name}
 use Rattle.cmeaning.specs.Valid.{same_callee_name, are_apart, is_apart_from, is_callee, are_callees}
 use Rattle.naming.specs.Listed.{is_listed}
 use Rattle.naming.specs.Named.{with_found, declared_all}
-use Rattle.naming_laws.proofs.Found.{All, AreDistinct, IsFound, or_left, or_right, turned}
+use Rattle.naming_laws.proofs.Found.{All, AreDistinct, IsFound, turned}
 use Rattle.naming_laws.proofs.Places.{own}
 
 same_decl : (c d : CalleeDecl) → Some c ≡ Some d → c ≡ d
@@ -30,9 +30,6 @@ and_right false b h = absurd (cc)
 
 both : (a b : Bool) → a ≡ true → b ≡ true → a && b ≡ true
 both a b p q = ap₂ (λ (c d : Bool). c && d) p q
-
-or_rest : (a b : Bool) → a ≡ false → or a b ≡ true → b ≡ true
-or_rest a b not_a h = sym (ap (λ c. or c b) not_a) ∙ h
 
 pub declared_address : (cs : List CalleeDecl) (a : ℕ) (c : CalleeDecl) → declared_in cs a ≡ Some c → c.address ≡ a
 declared_address [] a c is = absurd (cc)
@@ -177,8 +174,8 @@ module _ (cs : List CalleeDecl) (right : are_callees cs ≡ true) where
   apart_all a c (n ∷ ns) is h new =
       ap (λ (o : Option CalleeDecl). is_apart_from c (with_found o (declared_all cs ns))) h.0.1
       ∙ both (are_apart c h.0.0) (is_apart_from c (declared_all cs ns))
-      (two_apart cs a n c h.0.0 right is h.0.1 (turned a n ∙ or_left (n == a) (is_listed a ns) new))
-      (apart_all a c ns is h.1 (or_right (n == a) (is_listed a ns) new))
+      (two_apart cs a n c h.0.0 right is h.0.1 (turned a n ∙ (neither (n == a) (is_listed a ns) new).0))
+      (apart_all a c ns is h.1 (neither (n == a) (is_listed a ns) new).1)
 
   pub callees_all : (ns : List ℕ) → AreDeclared cs ns → AreDistinct ns → are_callees (declared_all cs ns) ≡ true
   callees_all [] h distinct = refl

@@ -4,14 +4,14 @@ use Rattle.std.specs.Prelude.{◌&&◌, IsTrue}
 use Rattle.pcode_model.specs.declared.listing.Listing.{Listing}
 use Rattle.pcode_model.specs.Spaces.{register_space}
 use Rattle.cmeaning.specs.declared.tree.Arm.{Arm, roll-Arm, map-Arm}
-use Rattle.cmeaning.specs.declared.tree.Stmt.{Stmt, fold-roll-Stmt, roll-Stmt, map-Stmt}
-use Rattle.cmeaning.specs.declared.tree.Stmt.TheFolds.{ind-Stmt, fold_out-Arm}
+use Rattle.cmeaning.specs.declared.tree.Stmt.{Stmt, roll-Stmt, map-Stmt}
+use Rattle.cmeaning.specs.declared.tree.Stmt.TheFolds.{ind-Stmt}
 use Rattle.cmeaning.specs.declared.tree.Stmt.TheOpen.{Stmt-F, Arm-F}
 use Rattle.cmeaning.specs.Callees.{returns_by}
 use Rattle.cmeaning.specs.Do.{widths_in}
 use Rattle.cmeaning.specs.Fits.{Fits, lies_in, all_true, fits_step, stmt_fits, arm_fits, body_fits, params_fit}
-use Rattle.cmeaning.specs.Fits as F
 use Rattle.cmeaning.specs.Mentions.{Mention, stmt_step, in_expr, in_stmt, in_arm, in_arms, in_body}
+use Rattle.cmeaning.proofs.Layers.{arm_fits_is, fits_roll}
 use Rattle.cmeaning.proofs.Mentions.{in_arm_body}
 use Rattle.naming.specs.declared.head.Head.{Head}
 use Rattle.naming.specs.Renamed.{Names, stmt_layer, stmt_by, arm_by, body_by}
@@ -22,15 +22,6 @@ use Rattle.naming.specs.Covered.{IsCovered}
 use Rattle.naming_laws.proofs.Mentions.{stmt_by_roll, arm_by_is, in_stmt_roll}
 use Rattle.naming_laws.proofs.Values.{kept_first, kept_second}
 use Rattle.naming_laws.proofs.Named.{names, named_keeps}
-
-fits_roll : (l : Listing) (ws : ℕ → ℕ) (y : Stmt-F Stmt Arm)
-    → stmt_fits l ws (roll-Stmt y) ≡ fits_step l ws (map-Stmt Stmt Arm Bool Bool (stmt_fits l ws) (arm_fits l ws) y)
-unfolding stmt_fits arm_fits
-fits_roll l ws y = fold-roll-Stmt Bool Bool (fits_step l ws) F.arm_step y
-
-pub arm_fits_is : (l : Listing) (ws : ℕ → ℕ) (a : Arm) → arm_fits l ws a ≡ body_fits l ws a.body
-unfolding stmt_fits arm_fits
-arm_fits_is l ws a = fold_out-Arm Bool Bool (fits_step l ws) F.arm_step a
 
 module _ (l : Listing) (r : Names) (ws vs : ℕ → ℕ) (returns gives_back : ℕ → Bool) where
   abbrev Stays : List Mention → Type 0

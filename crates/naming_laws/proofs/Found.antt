@@ -4,16 +4,9 @@ use Rattle.std.specs.Prelude.{◌==◌, slice_get}
 use Rattle.std.proofs.lemmas.Bool.{eqb-true}
 use Rattle.std.proofs.lemmas.Bool.Decides.{nat_tests}
 use Rattle.pcode_model.specs.Spaces.{or}
+use Rattle.pcode_laws.proofs.Rules.{neither}
 use Rattle.naming.specs.Listed.{is_listed, with_one, place_in}
 use Rattle.naming.specs.Named.{with_found, all_found}
-
-pub or_left : (a b : Bool) → or a b ≡ false → a ≡ false
-or_left true b h = h
-or_left false b h = refl
-
-pub or_right : (a b : Bool) → or a b ≡ false → b ≡ false
-or_right true b h = absurd (cc)
-or_right false b h = h
 
 pub turned : (x y : ℕ) → (x == y) ≡ (y == x)
 turned x y = grind (arith, nat_tests)
@@ -68,8 +61,9 @@ listed_more (y ∷ ys) x a = ap (or (y == a)) (listed_more ys x a) ∙ grouped (
 distinct_more : (xs : List ℕ) (x : ℕ) → AreDistinct xs → is_listed x xs ≡ false → AreDistinct (xs ++ x ∷ [])
 distinct_more [] x h new = (refl, tt)
 distinct_more (y ∷ ys) x h new =
-    let other : (x == y) ≡ false = turned x y ∙ or_left (y == x) (is_listed x ys) new in
-    (listed_more ys x y ∙ ap₂ or h.0 other, distinct_more ys x h.1 (or_right (y == x) (is_listed x ys) new))
+    let parts = neither (y == x) (is_listed x ys) new in
+    let other : (x == y) ≡ false = turned x y ∙ parts.0 in
+    (listed_more ys x y ∙ ap₂ or h.0 other, distinct_more ys x h.1 parts.1)
 
 pub distinct_one : (xs : List ℕ) (x : ℕ) → AreDistinct xs → AreDistinct (with_one xs x)
 distinct_one xs x h = by_test (is_listed x xs) refl

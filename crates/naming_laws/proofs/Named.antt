@@ -1,11 +1,12 @@
 -- The function that is made of a body below a head that has all that the body mentions: its numbers are those of a valid
 -- function, and it keeps what is mentioned.
-use Rattle.std.proofs.Common.{◌≡◌, ℕ, zero, suc, ◌+◌, ◌-◌, ◌^◌, ◌<◌, ◌≤◌, Bool, true, false, cond, List, [], ◌∷◌, length, map, refl, sym, ap, ◌∙◌, Option, Some, None, arith}
+use Rattle.std.proofs.Common.{◌≡◌, ℕ, suc, ◌+◌, ◌-◌, ◌^◌, ◌<◌, ◌≤◌, Bool, true, false, cond, List, [], ◌∷◌, length, map, refl, sym, ap, ◌∙◌, Option, Some, None, arith}
 use Rattle.std.specs.Prelude.{◌==◌, nat_lt, slice_get}
 use Rattle.std.proofs.lemmas.Bool.{ltb-true}
 use Rattle.std.proofs.lemmas.Bool.Decides.{nat_tests}
 use Rattle.std.proofs.lemmas.Option.{slice_get_past}
 use Rattle.pcode_model.specs.Spaces.{or}
+use Rattle.pcode_laws.proofs.Within.{get_within}
 use Rattle.cmeaning.specs.declared.tree.Stmt.{Stmt}
 use Rattle.cmeaning.specs.declared.tree.Param.{Param}
 use Rattle.cmeaning.specs.declared.tree.Local.{Local}
@@ -43,11 +44,6 @@ place_of_is (c ∷ cs) a h = by_test (c.address == a) h (λ g. place_of_is cs a 
         → cond b 0 (suc (place_of cs a)) ≡ cond b 0 (suc (place_in (addresses cs) a))
     by_test true g next = refl
     by_test false g next = ap suc (next g)
-
-get_within : {A : Type 0} (xs : List A) (n : ℕ) → n < length xs → (x : A) × (slice_get xs n ≡ Some x)
-get_within [] n low = absurd (omega (arith, low))
-get_within (x ∷ xs) zero low = (x, refl)
-get_within (x ∷ xs) (suc n) low = get_within xs n (let e : n < length xs = omega (arith, low) in e)
 
 no_some : (q : Param) → Some q ≡ None → ⊥
 no_some q e = cc

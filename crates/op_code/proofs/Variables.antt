@@ -14,7 +14,7 @@ use Rattle.pcode_model.specs.declared.atoms.Atom.{Atom}
 use Rattle.pcode_model.specs.declared.flow.Block as flow_block
 use Rattle.blockcode.specs.declared.code.Variable.{Variable}
 use Rattle.blockcode.specs.Run.{widths, width_in}
-use Rattle.blockcode.proofs.Straight.{get_of_drop, rest_of_drop}
+use Rattle.blockcode.proofs.Straight.{get_in_front, get_of_drop, rest_of_drop}
 use Rattle.op_values.proofs.Means.{nearest_is}
 use Rattle.op_code.specs.Form.{IsNarrow}
 use Rattle.op_code.specs.Lowered.{blocks_made, lowered, range_at, range_of, ranges_of, variable_for}
@@ -39,16 +39,11 @@ atom_at l (a ∷ atoms) zero v all e = record { atom = a; get = refl; range = cc
 atom_at l (a ∷ atoms) (suc n) v all e = let r = atom_at l atoms n v all.1 e in
     record { atom = r.atom; get = r.get; range = r.range; storage = r.storage; narrow = r.narrow }
 
-get_front : {A : Type 0} (xs ys : List A) (n : ℕ) (x : A) → slice_get xs n ≡ Some x → slice_get (xs ++ ys) n ≡ Some x
-get_front [] ys n x e = absurd (cc)
-get_front (z ∷ xs) ys zero x e = e
-get_front (z ∷ xs) ys (suc n) x e = get_front xs ys n x e
-
 -- The variable of an atom's number is the atom's.
 pub variable_get : (atoms : List Atom) (locals : List Variable) (n : ℕ) (a : Atom)
     → slice_get atoms n ≡ Some a
     → slice_get (map variable_for atoms ++ locals) n ≡ Some (variable_for a)
-variable_get atoms locals n a e = get_front (map variable_for atoms) locals n (variable_for a)
+variable_get atoms locals n a e = get_in_front (map variable_for atoms) locals n (variable_for a)
     (slice_get-map variable_for atoms n ∙ ap (option_map variable_for) e)
 
 -- a range has the size of its atom

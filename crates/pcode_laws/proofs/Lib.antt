@@ -4,3 +4,4 @@ pub mod Grows
 pub mod Puts
 pub mod Rules
 pub mod Sizes
+pub mod Within

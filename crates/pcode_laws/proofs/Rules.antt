@@ -18,6 +18,10 @@ pub either : (a b : Bool) → or a b ≡ true → (a ≡ true) ⊎ (b ≡ true)
 either true b h = inl refl
 either false b h = inr h
 
+pub or_rest : (a b : Bool) → a ≡ false → or a b ≡ true → b ≡ true
+or_rest true b e h = absurd (cc)
+or_rest false b e h = h
+
 -- an op breaks none of these rules
 pub BreaksNone : Listing → Op → List OpWhy → Type 0
 BreaksNone l op rs = (why : OpWhy) → IsIn why rs → breaks l op why ≡ false

@@ -14,6 +14,7 @@ use Rattle.pcode_model.specs.Spaces.{kind_of, same_kind}
 use Rattle.pcode_model.specs.Step.{callee_at, callee_in, proto_at, proto_in, proto_of}
 use Rattle.pcode_model.specs.WellFormed as formed
 use Rattle.pcode_model.specs.WellFormed.{AreSpaces, IsFunction, IsProto, IsRegister, IsStorage}
+use Rattle.pcode_laws.proofs.Within.{get_within}
 use Rattle.pcode_operands.specs.Calls.{Ends}
 use Rattle.pcode_operands.specs.Used.{IsArgument, IsLocal, IsStack, IsUsed}
 use Rattle.pcode_operands.proofs.Registers.{register_inside, stack_is}
@@ -89,14 +90,9 @@ got P [] n all below = tt
 got P (x ∷ xs) zero all below = all.0
 got P (x ∷ xs) (suc n) all below = got P xs n all.1 (omega (arith, below))
 
-some_got : {A : Type 0} (xs : List A) (n : ℕ) → n < length xs → (x : A) × (slice_get xs n ≡ Some x)
-some_got [] n below = absurd (omega (arith, below))
-some_got (x ∷ xs) zero below = (x, refl)
-some_got (x ∷ xs) (suc n) below = some_got xs n (omega (arith, below))
-
 proto_runs : (l : Listing) (n : ℕ) → formed.IsWellFormed l → n < length l.protos → Runs l (proto_at l n)
 proto_runs l n good below =
-    let s = some_got l.protos n below in
+    let s = get_within l.protos n below in
     let P : Option Proto → Type 0 = λ o. IfSome o (IsProto l.spaces l.stack) in
     let Q : Option Proto → Type 0 = λ o. Runs l (proto_in o) in
     subst Q (sym s.1)

@@ -1,16 +1,12 @@
 -- An expression of a valid tree has the width and the depth that its shape says.
 use Rattle.std.proofs.Common.{◌≡◌, ℕ, ◌+◌, ◌==◌, ◌&&◌, nat_lt, nat_le, max, Bool, true, false, if◌then◌else◌, Option, Some, None, refl, sym, ap, ◌∙◌, subst}
 use Rattle.cmeaning.specs.declared.shape.Shape.{Shape}
-use Rattle.cmeaning.specs.declared.tree.Expr.{Expr, fold-roll-Expr, ind-Expr, roll-Expr, map-Expr}
+use Rattle.cmeaning.specs.declared.tree.Expr.{Expr, ind-Expr, roll-Expr, map-Expr}
 use Rattle.cmeaning.specs.declared.tree.Expr.TheOpen.{Expr-F}
+use Rattle.cmeaning.proofs.Layers.{shape_roll}
 use Rattle.cmeaning.specs.Shape.{above, one_shape, two_shape, shape_step, shape_of, same_width, may_divide, may_divide_signed, may_join, is_part}
 use Rattle.rules.specs.Size.{one_size, two_size, size_step, size_of, depth_step, depth_of}
 use Rattle.rules.proofs.Nodes.{size_roll, depth_roll}
-
-pub shape_roll : (ws : ℕ → ℕ) (l : Expr-F Expr)
-    → shape_of ws (roll-Expr l) ≡ shape_step ws (map-Expr Expr (Option Shape) (shape_of ws) l)
-unfolding shape_of
-shape_roll ws l = fold-roll-Expr (Option Shape) (shape_step ws) l
 
 -- what is known of a level above operands
 pub record Level (right : Bool) (w d : ℕ) (comparison : Bool) (s : Shape) : Type 0 where

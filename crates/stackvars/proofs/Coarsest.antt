@@ -21,6 +21,7 @@ use Rattle.supported.specs.Ranges.{AreApart, storage_ranges}
 use Rattle.supported.specs.Supported.{is_empty, keeps_nothing}
 use Rattle.stackvars.specs.Accessed.{ListsAccessed, range, range_at, range_of}
 use Rattle.stackvars.specs.Laws.{AccessedAreAtoms, IsUncut}
+use Rattle.stackvars.proofs.Placed.{registers_stacked, registers_uniques, same_number, uniques_stacked}
 
 -- ---- no range is kept
 
@@ -36,18 +37,6 @@ no_kept (p ∷ ps) h r is =
     no_kept ps b.1 r (subst Q (no_range p.keep b.0) is)
 
 -- ---- areas
-
-registers_uniques : Registers ≡ Uniques → ⊥
-registers_uniques e = cc
-
-registers_stacked : Registers ≡ Stacked → ⊥
-registers_stacked e = cc
-
-uniques_stacked : Uniques ≡ Stacked → ⊥
-uniques_stacked e = cc
-
-same_number : (m n : ℕ) → pos m ≡ pos n → m ≡ n
-same_number m n e = cc
 
 -- a storage is told by its area and its offset
 same_storage : (s t : ParamStorage) → area_of s ≡ area_of t → offset_of s ≡ offset_of t → s ≡ t

@@ -18,11 +18,11 @@ use Rattle.pcode_model.specs.Rules.{past_first}
 use Rattle.instructions.specs.Standing.{op_of}
 use Rattle.stackvars.specs.Collected.{atom_of, atoms_of, read_inputs}
 
-read_all : (vs : List Varnode) → ranges_read (all_read vs) ≡ vs
+pub read_all : (vs : List Varnode) → ranges_read (all_read vs) ≡ vs
 read_all [] = refl
 read_all (v ∷ vs) = ap (λ (xs : List Varnode). v ∷ xs) (read_all vs)
 
-read_past : (vs : List Varnode) → ranges_read (all_but_first vs) ≡ past_first vs
+pub read_past : (vs : List Varnode) → ranges_read (all_but_first vs) ≡ past_first vs
 read_past [] = refl
 read_past (v ∷ vs) = read_all vs
 

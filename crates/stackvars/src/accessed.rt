@@ -77,7 +77,7 @@ fn all_accessed(alloc: Global, listing: &Listing, flow: &Flow) -> Result<Vec<Ato
 }
 
 // A count past 32 bits is told as want of memory.
-fn too_many(count: usize) -> AtomFault
+pub(crate) fn too_many(count: usize) -> AtomFault
     ensures { Counts count result }
 {
     match u32::try_from(count) {

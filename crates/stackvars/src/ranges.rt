@@ -25,7 +25,11 @@ fn storage_of(listing: &Listing, range: &Varnode) -> Option<ParamStorage>
     }
 }
 
-fn push_range(out: &mut Vec<Atom>, listing: &Listing, range: &Varnode) -> Result<(), Memory>
+pub(crate) fn push_range(
+    out: &mut Vec<Atom>,
+    listing: &Listing,
+    range: &Varnode,
+) -> Result<(), Memory>
     ensures { OnOk result (out.new.items ≡ out.old.items ++ atom_of listing.now range.now) }
 {
     if let Some(storage) = storage_of(listing, range) {
@@ -35,7 +39,11 @@ fn push_range(out: &mut Vec<Atom>, listing: &Listing, range: &Varnode) -> Result
     Ok(())
 }
 
-fn push_ranges(out: &mut Vec<Atom>, listing: &Listing, ranges: &[Varnode]) -> Result<(), Memory>
+pub(crate) fn push_ranges(
+    out: &mut Vec<Atom>,
+    listing: &Listing,
+    ranges: &[Varnode],
+) -> Result<(), Memory>
     ensures { OnOk result (out.new.items ≡ out.old.items ++ atoms_of listing.now ranges.now) }
 {
     for range in ranges {
@@ -44,7 +52,7 @@ fn push_ranges(out: &mut Vec<Atom>, listing: &Listing, ranges: &[Varnode]) -> Re
     Ok(())
 }
 
-fn push_optional(
+pub(crate) fn push_optional(
     out: &mut Vec<Atom>,
     listing: &Listing,
     range: Option<Varnode>,
