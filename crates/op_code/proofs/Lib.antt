@@ -14,3 +14,4 @@ pub mod Unstored
 pub mod Variables
 pub mod Worked
 pub mod WorkedBlocks
+pub mod WorkedSeveral
