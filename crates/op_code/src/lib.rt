@@ -30,13 +30,16 @@
 //! `proofs/Ops.antt` and of `src/statements.rt`.
 #![tactic(auto)]
 
+mod covers;
 mod locals;
 mod memory;
 mod outputs;
 mod reads;
 mod statements;
 mod table;
+mod words;
 
 pub use reads::read;
 pub use statements::add_op;
 pub use table::Table;
+pub use words::range_word;
