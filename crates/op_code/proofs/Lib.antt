@@ -3,6 +3,9 @@ pub mod Rows
 pub mod Bytes
 pub mod Reading
 pub mod Writing
+pub mod Apart
+pub mod Atoms
+pub mod WorkedCovers
 pub mod Entering
 pub mod Joined
 pub mod Numbers
