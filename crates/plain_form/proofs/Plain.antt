@@ -165,7 +165,8 @@ module _ (l : Listing) (read : IsWellFormed l) (ranges : List Varnode) where
 
   second_is : (op : Binary) (x y : Varnode) → inputs_stand l (O.Binary op) (x ∷ y ∷ []) ≡ true → IsSecond l op y
   second_is B.Subpiece x y h =
-      let P : ℕ → Type 0 = λ n. kind_of l n ≡ Constant in subst P (sym (eqb-true y.space 0 h)) (first_constant l.spaces read.spaces)
+      let P : ℕ → Type 0 = λ n. kind_of l n ≡ Constant in
+      subst P (sym (eqb-true y.space 0 h)) (first_constant l.spaces read.spaces)
   second_is op x y h = tt
 
   unary_form : (op : Unary) (z x : Varnode) → HasForm (O.Unary op) (Some z) (x ∷ [])

@@ -1,6 +1,6 @@
--- The ranges of a listing's atoms are a table: each lies inside its space and has 1 to 16 bytes, and no two share a byte,
--- since an atom that began inside another one would cut it.
-use Rattle.std.proofs.Common.{◌≡◌, ◌≢◌, ◌≤◌, ◌<◌, ◌+◌, ◌-◌, ℕ, zero, suc, List, [], ◌∷◌, Some, refl, inl, inr, sym, subst, ap, ◌∙◌, arith, ⊎_elim}
+-- The ranges of a listing's atoms are a table: each lies inside its space, and no two share a byte, since an atom that
+-- began inside another one would cut it. Each has 1 to 16 bytes.
+use Rattle.std.proofs.Common.{◌≡◌, ◌≤◌, ◌<◌, ◌+◌, ◌-◌, ℕ, zero, suc, List, [], ◌∷◌, Some, refl, inl, inr, sym, subst, ap, arith, ⊎_elim}
 use Rattle.std.specs.Prelude.{slice_get, pos}
 use Rattle.std.proofs.lemmas.Bool.{cases_lt}
 use Rattle.std.proofs.lemmas.Int.{ints}
@@ -18,6 +18,7 @@ use Rattle.range_words.specs.Ranges.{AreApart, IsInside, IsTable}
 use Rattle.op_code.specs.Lowerable.{AreNarrow, IsLocalStorage}
 use Rattle.op_code.specs.Lowered.{range_at, range_of, ranges_of}
 use Rattle.op_code.proofs.Rows.{AreSome}
+use Rattle.op_code.proofs.Variables.{IsAtomAt, atom_at}
 use Rattle.plain_form.proofs.Formed.{Inside}
 
 -- ---- the order of atoms
@@ -82,23 +83,10 @@ one_before (x ∷ xs) order (suc m) (suc n) a b p q less =
 same_number : (m n : ℕ) → pos m ≡ pos n → m ≡ n
 same_number m n e = cc
 
-size_at : (l : Listing) (s : ParamStorage) (k : ℕ) → (range_at l s k).size ≡ k
-size_at l (P.Register o) k = refl
-size_at l (P.Unique o) k = refl
-size_at l (P.Stack o) k = refl
-
 apart_turned : (v w : Varnode) → AreApart v w → AreApart w v
 apart_turned v w (inl ne) = inl (λ e. ne (sym e))
 apart_turned v w (inr (inl before)) = inr (inr before)
 apart_turned v w (inr (inr behind)) = inr (inl behind)
-
--- the atom of a variable's range
-mapped : (l : Listing) (atoms : List Atom) (n : ℕ) (v : Varnode)
-    → slice_get (ranges_of l atoms) n ≡ Some v
-    → (a : Atom) × ((slice_get atoms n ≡ Some a) × (v ≡ range_of l a))
-mapped l [] n v h = absurd (cc)
-mapped l (x ∷ xs) zero v h = let e : range_of l x ≡ v = cc in (x, (refl, sym e))
-mapped l (x ∷ xs) (suc n) v h = mapped l xs n v h
 
 -- The range of an atom is a variable's.
 pub in_ranges : (l : Listing) (atoms : List Atom) (a : Atom) → IsIn a atoms → IsIn (range_of l a) (ranges_of l atoms)
@@ -111,6 +99,7 @@ in_ranges l (x ∷ xs) a (inr is) = inr (in_ranges l xs a is)
 -- what is known of an atom's range
 record Placed (l : Listing) (s : ParamStorage) (k : ℕ) : Type 0 where
   local : IsLocalStorage s
+  some : 0 < (range_at l s k).size
   narrow : k ≤ 16
   inside : IsInside l (range_at l s k)
 
@@ -119,35 +108,38 @@ module _
     (differ : register_space l ≡ unique_space l → ⊥)
     (inner : (v : Varnode) → Accesses l [] v → Inside l v)
   where
+    -- a part of a range that lies inside its space
+    part : (s m k o d j : ℕ)
+        → Inside l (varnode s o j)
+        → pos m ≡ pos (o + d)
+        → d + k ≤ j
+        → (k ≤ 16) × IsInside l (varnode s m k)
+    part s m k o d j whole at fits =
+        let same : m ≡ o + d = same_number m (o + d) at in
+        (omega (arith, whole.narrow, fits), omega (arith, whole.inside, same, fits))
+
     -- an atom lies in a range that is accessed
     lies : (s : ParamStorage) (k : ℕ) (t : ParamStorage) (j : ℕ)
+        → 0 < k
         → IsAccessed l [] no_variables (range t j)
         → LiesIn (range s k) (range t j)
         → Placed l s k
-    lies (P.Register m) k (P.Register o) j acc within =
-        let i = inner (varnode (register_space l) o j) acc in
-        let at : m ≡ o + within.1.0 = same_number m (o + within.1.0) within.1.1.0 in
-        record {
-          local = tt;
-          narrow = omega (arith, i.narrow, within.1.1.1);
-          inside = omega (arith, i.inside, at, within.1.1.1);
-        }
-    lies (P.Unique m) k (P.Unique o) j acc within =
-        let i = inner (varnode (unique_space l) o j) acc in
-        let at : m ≡ o + within.1.0 = same_number m (o + within.1.0) within.1.1.0 in
-        record {
-          local = tt;
-          narrow = omega (arith, i.narrow, within.1.1.1);
-          inside = omega (arith, i.inside, at, within.1.1.1);
-        }
-    lies (P.Register m) k (P.Unique o) j acc within = let e : Registers ≡ Uniques = within.0 in absurd (cc)
-    lies (P.Unique m) k (P.Register o) j acc within = let e : Uniques ≡ Registers = within.0 in absurd (cc)
-    lies (P.Stack z) k (P.Register o) j acc within = let e : Stacked ≡ Registers = within.0 in absurd (cc)
-    lies (P.Stack z) k (P.Unique o) j acc within = let e : Stacked ≡ Uniques = within.0 in absurd (cc)
-    lies s k (P.Stack z) j acc within = absurd acc.1.0
+    lies (P.Register m) k (P.Register o) j some acc within =
+        let r = register_space l in
+        let p = part r m k o within.1.0 j (inner (varnode r o j) acc) within.1.1.0 within.1.1.1 in
+        record { local = tt; some = some; narrow = p.0; inside = p.1 }
+    lies (P.Unique m) k (P.Unique o) j some acc within =
+        let u = unique_space l in
+        let p = part u m k o within.1.0 j (inner (varnode u o j) acc) within.1.1.0 within.1.1.1 in
+        record { local = tt; some = some; narrow = p.0; inside = p.1 }
+    lies (P.Register m) k (P.Unique o) j some acc within = let e : Registers ≡ Uniques = within.0 in absurd (cc)
+    lies (P.Unique m) k (P.Register o) j some acc within = let e : Uniques ≡ Registers = within.0 in absurd (cc)
+    lies (P.Stack z) k (P.Register o) j some acc within = let e : Stacked ≡ Registers = within.0 in absurd (cc)
+    lies (P.Stack z) k (P.Unique o) j some acc within = let e : Stacked ≡ Uniques = within.0 in absurd (cc)
+    lies s k (P.Stack z) j some acc within = absurd acc.1.0
 
     placed : (a : Atom) → IsAtom l [] no_variables a → Placed l a.storage a.size
-    placed a is = lies a.storage a.size is.access.storage is.access.size is.accessed is.inside
+    placed a is = lies a.storage a.size is.access.storage is.access.size is.some is.accessed is.inside
 
     -- of two atoms of one area the second begins where the first one ends, or later
     ends_before : (area : Area) (m j n : ℕ)
@@ -188,54 +180,47 @@ module _
         ((p.local, (is.some, p.narrow)), narrow_all rest (λ b h. each b (inr h)))
 
     module _ (atoms : List Atom) (are : AreAtoms l [] no_variables atoms) where
+      -- Atoms are of the register space or the unique space, and have 1 to 16 bytes.
+      pub atoms_narrow : AreNarrow atoms
+      atoms_narrow = narrow_all atoms (λ a. (are.each a).0)
+
+      of_range : (n : ℕ) (v : Varnode) → slice_get (ranges_of l atoms) n ≡ Some v → IsAtomAt l atoms n v
+      of_range n v h = atom_at l atoms n v atoms_narrow h
+
       at : (n : ℕ) (a : Atom) → slice_get atoms n ≡ Some a → IsAtom l [] no_variables a
       at n a h = (are.each a).0 (member_at atoms n a h)
 
-      rising : (m n : ℕ) (a b : Atom)
-          → slice_get atoms m ≡ Some a
-          → slice_get atoms n ≡ Some b
+      rising : (m n : ℕ) (v w : Varnode)
+          → slice_get (ranges_of l atoms) m ≡ Some v
+          → slice_get (ranges_of l atoms) n ≡ Some w
           → m < n
-          → AreApart (range_of l a) (range_of l b)
-      rising m n a b p q less =
-          let x = at m a p in
-          let y = at n b q in
-          before_apart a.storage a.size b.storage b.size x y (placed a x).local (placed b y).local
-          (one_before atoms are.in_order m n a b p q less)
-
-      different : (m n : ℕ) (a b : Atom)
-          → slice_get atoms m ≡ Some a
-          → slice_get atoms n ≡ Some b
-          → m ≢ n
-          → AreApart (range_of l a) (range_of l b)
-      different m n a b p q ne = ⊎_elim
-          (λ (less : m < n). rising m n a b p q less)
-          (λ (more : n ≤ m). apart_turned (range_of l b) (range_of l a)
-          (rising n m b a q p (omega (arith, more, ne))))
-          (cases_lt m n)
+          → AreApart v w
+      rising m n v w p q less =
+          let a = of_range m v p in
+          let b = of_range n w q in
+          let V : Varnode → Type 0 = λ x. AreApart x w in
+          let W : Varnode → Type 0 = λ x. AreApart (range_of l a.atom) x in
+          let first = one_before atoms are.in_order m n a.atom b.atom a.get b.get less in
+          subst V a.range (subst W b.range
+          (before_apart (a.atom).storage (a.atom).size (b.atom).storage (b.atom).size (at m a.atom a.get)
+          (at n b.atom b.get) a.storage b.storage first))
 
       -- The atoms' ranges lie inside their spaces, and no two share a byte.
       pub atoms_table : IsTable l (ranges_of l atoms)
       atoms_table = record {
         inside = λ n v h.
-            let m = mapped l atoms n v h in
-            let Q : Varnode → Type 0 = λ x. IsInside l x in
-            subst Q (sym m.1.1) (placed m.0 (at n m.0 m.1.0)).inside;
-        apart = λ n o v w h i ne.
-            let m = mapped l atoms n v h in
-            let k = mapped l atoms o w i in
-            let Q : Varnode → Type 0 = λ x. AreApart x w in
-            let R : Varnode → Type 0 = λ x. AreApart (range_of l m.0) x in
-            subst Q (sym m.1.1) (subst R (sym k.1.1) (different n o m.0 k.0 m.1.0 k.1.0 ne));
+            let a = of_range n v h in
+            let V : Varnode → Type 0 = λ x. IsInside l x in
+            subst V a.range (placed a.atom (at n a.atom a.get)).inside;
+        apart = λ m n v w p q ne. ⊎_elim
+            (λ (less : m < n). rising m n v w p q less)
+            (λ (more : n ≤ m). apart_turned w v (rising n m w v q p (omega (arith, more, ne))))
+            (cases_lt m n);
       }
 
       -- Each has a byte.
       pub atoms_some : AreSome (ranges_of l atoms)
       atoms_some n v h =
-          let m = mapped l atoms n v h in
-          let is = at n m.0 m.1.0 in
-          let Q : ℕ → Type 0 = λ k. 0 < k in
-          subst Q (sym (ap (λ (x : Varnode). x.size) m.1.1 ∙ size_at l m.0.storage m.0.size)) is.some
-
-      -- They are of the register space or the unique space, and have 1 to 16 bytes.
-      pub atoms_narrow : AreNarrow atoms
-      atoms_narrow = narrow_all atoms (λ a. (are.each a).0)
+          let a = of_range n v h in
+          let V : Varnode → Type 0 = λ x. 0 < x.size in
+          subst V a.range (placed a.atom (at n a.atom a.get)).some
