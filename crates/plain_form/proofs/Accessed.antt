@@ -1,6 +1,6 @@
 -- Each range of the register space or of the unique space that a supported listing accesses has 1 to 16 bytes and lies
 -- inside its space.
-use Rattle.std.proofs.Common.{◌≡◌, ◌≤◌, ◌+◌, ◌^◌, Bool, true, false, List, [], ◌∷◌, ◌++◌, None, refl, inl, inr, subst}
+use Rattle.std.proofs.Common.{◌≡◌, ◌≤◌, ◌+◌, ◌^◌, Bool, true, false, List, [], ◌++◌, None, refl, inl, inr, subst}
 use Rattle.std.specs.Prelude.{if◌then◌else◌}
 use Rattle.pcode_model.specs.declared.opcode.Opcode.{Opcode}
 use Rattle.pcode_model.specs.declared.opcode.Opcode.TheVariants as O
@@ -19,6 +19,7 @@ use Rattle.pcode_model.proofs.Members.{in_either}
 use Rattle.supported.specs.Supported.{IsSupported, is_supported_code}
 use Rattle.stackvars.proofs.Ops.{read_all, read_past}
 use Rattle.plain_form.proofs.Standing.{StandsIn, stands_in, supported_in}
+use Rattle.plain_form.proofs.Rules.{past_in}
 use Rattle.plain_form.proofs.Formed.{Inside}
 use Rattle.plain_form.proofs.Read.{input_inside, output_inside, result_inside}
 
@@ -30,10 +31,6 @@ all_in vs v h = let P : List Varnode → Type 0 = λ xs. IsIn v xs in subst P (r
 rest_in : (vs : List Varnode) (v : Varnode) → IsIn v (ranges_read (all_but_first vs)) → IsIn v (past_first vs)
 rest_in vs v h = let P : List Varnode → Type 0 = λ xs. IsIn v xs in subst P (read_past vs) h
 
-among : (vs : List Varnode) (v : Varnode) → IsIn v (past_first vs) → IsIn v vs
-among [] v h = absurd h
-among (x ∷ vs) v h = inr h
-
 -- What an op reads is one of its inputs that aren't addresses.
 pub operand_is : (l : Listing) (code : Opcode) (vs : List Varnode)
     → is_supported_code code ≡ true
@@ -43,14 +40,14 @@ pub operand_is : (l : Listing) (code : Opcode) (vs : List Varnode)
 operand_is l (O.Unary op) vs s v h = all_in vs v h
 operand_is l (O.Binary op) vs s v h = all_in vs v h
 operand_is l (O.Divide op) vs s v h = all_in vs v h
-operand_is l O.Load vs s v h = among vs v (rest_in vs v h)
-operand_is l O.Store vs s v h = among vs v (rest_in vs v h)
+operand_is l O.Load vs s v h = past_in vs v (rest_in vs v h)
+operand_is l O.Store vs s v h = past_in vs v (rest_in vs v h)
 operand_is l O.Branch vs s v h = absurd h
 operand_is l O.CBranch vs s v h = by_test (names_address O.CBranch vs) (rest_in vs v h)
   where
     by_test : (b : Bool) → IsIn v (past_first vs) → IsIn v (if b then past_first vs else vs)
     by_test true k = k
-    by_test false k = among vs v k
+    by_test false k = past_in vs v k
 operand_is l O.Return vs s v h = all_in vs v h
 operand_is l O.BranchInd vs s v h = absurd (cc)
 operand_is l O.Call vs s v h = absurd (cc)

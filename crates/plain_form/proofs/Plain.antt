@@ -22,7 +22,7 @@ use Rattle.pcode_model.specs.declared.rules.OpWhy.TheVariants.{Arity, BadSpace, 
 use Rattle.pcode_model.specs.declared.rules.Output.TheVariants as output
 use Rattle.pcode_model.specs.Flow.{IsIn, Reached, Fails, NoFault, standing_ways}
 use Rattle.pcode_model.specs.declared.flow.FlowWhy.TheVariants.{NoTarget}
-use Rattle.pcode_model.specs.Spaces.{kind_of, register_space, same_kind}
+use Rattle.pcode_model.specs.Spaces.{kind_of, register_space}
 use Rattle.pcode_model.specs.Places.{Standing, Nothing, Passes, Does, standing}
 use Rattle.pcode_model.specs.Step.{operands, proto_of, size_out}
 use Rattle.pcode_model.specs.Atoms.{Accesses, IsLocal, further_ranges, one_range, op_ranges, ranges_in, ranges_read}
@@ -36,7 +36,7 @@ use Rattle.pcode_model.proofs.Members.{behind, in_front}
 use Rattle.pcode_laws.proofs.Rules.{breaks_none}
 use Rattle.pcode_laws.proofs.Sizes.{binary_is, two_of, unary_is}
 use Rattle.plain_form.proofs.Standing.{StandsIn, stands_in, supported_in}
-use Rattle.plain_form.proofs.Spaces.{first_constant}
+use Rattle.plain_form.proofs.Spaces.{differ, first_constant, same_is}
 use Rattle.plain_form.proofs.Memory.{memory_is}
 use Rattle.plain_form.proofs.Formed.{IsInput, IsWritten}
 use Rattle.plain_form.proofs.Read.{input, output as written, register_home, register_kind, result_home, result_inside, unique_home}
@@ -49,9 +49,6 @@ constant_fits : (l : Listing) (v : Varnode) → IsInput l v → kind_of l v.spac
 unfolding limit
 constant_fits l v known e = known.fits e
 
-constant_ram : Constant ≡ Ram → ⊥
-constant_ram h = cc
-
 module _ (l : Listing) (read : IsWellFormed l) (good : first_bad l ≡ None) (ranges : List Varnode) where
   -- a range of memory that ends within its space is direct
   direct_is : (v : Varnode)
@@ -61,7 +58,7 @@ module _ (l : Listing) (read : IsWellFormed l) (good : first_bad l ≡ None) (ra
       → IsDirect l v
   direct_is v some stays e =
       let P : ℕ → Type 0 = λ n. kind_of l n ≡ Ram in
-      let other : v.space ≡ 0 → ⊥ = λ f. constant_ram (sym (first_constant l.spaces read.spaces) ∙ subst P f e) in
+      let other : v.space ≡ 0 → ⊥ = λ f. differ Ram Constant refl (sym (first_constant l.spaces read.spaces) ∙ subst P f e) in
       let within = ends_within l v other stays in
       (memory_is l read v.space e, omega (arith, some, within))
 
@@ -142,12 +139,6 @@ of_three P (x ∷ vs) h f = of_two (λ ys. P (x ∷ ys)) vs (omega arith) (f x)
 
 -- ---- the form of an op
 
-ram_kind : (k : SpaceKind) → same_kind Ram k ≡ true → k ≡ Ram
-ram_kind Constant h = absurd (cc)
-ram_kind Ram h = refl
-ram_kind Register h = absurd (cc)
-ram_kind Unique h = absurd (cc)
-
 module _ (l : Listing) (read : IsWellFormed l) (ranges : List Varnode) where
   -- what is known of an op of a supported listing
   record Known (code : Opcode) (out : Option Varnode) (vs : List Varnode) : Type 0 where
@@ -161,7 +152,7 @@ module _ (l : Listing) (read : IsWellFormed l) (ranges : List Varnode) where
   HasForm code out vs = Known code out vs → IsPlainOp l ranges code out vs
 
   named_memory : (s : Varnode) → names_ram l s ≡ true → IsMemory l s.offset
-  named_memory s h = memory_is l read s.offset (ram_kind (kind_of l s.offset) (and_parts _ _ h).1)
+  named_memory s h = memory_is l read s.offset (sym (same_is Ram (kind_of l s.offset) (and_parts _ _ h).1))
 
   second_is : (op : Binary) (x y : Varnode) → inputs_stand l (O.Binary op) (x ∷ y ∷ []) ≡ true → IsSecond l op y
   second_is B.Subpiece x y h =

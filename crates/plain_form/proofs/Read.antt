@@ -9,8 +9,7 @@ use Rattle.pcode_model.specs.declared.listing.Instruction.{Instruction}
 use Rattle.pcode_model.specs.declared.listing.Listing.{Listing}
 use Rattle.pcode_model.specs.declared.listing.Op.{Op}
 use Rattle.pcode_model.specs.declared.listing.Proto.{Proto}
-use Rattle.pcode_model.specs.declared.listing.SpaceKind.{SpaceKind}
-use Rattle.pcode_model.specs.declared.listing.SpaceKind.TheVariants.{Constant, Ram, Register, Unique}
+use Rattle.pcode_model.specs.declared.listing.SpaceKind.TheVariants.{Constant, Register, Unique}
 use Rattle.pcode_model.specs.declared.listing.Varnode.{Varnode}
 use Rattle.pcode_model.specs.declared.opcode.Opcode.{Opcode}
 use Rattle.pcode_model.specs.declared.rules.OpWhy.{OpWhy}
@@ -24,8 +23,8 @@ use Rattle.pcode_model.specs.WellFormed.{HasKnownOps, HasOps, IsKnown, IsKnownOp
 use Rattle.pcode_model.proofs.Members.{of_member}
 use Rattle.pcode_laws.proofs.Rules.{breaks_none, neither}
 use Rattle.plain_form.proofs.Standing.{StandsIn}
-use Rattle.plain_form.proofs.Spaces.{constant_is, first_constant, kind_of_first, low, only}
-use Rattle.plain_form.proofs.Rules.{ends_within, narrow_in, output_narrow, output_stays, stays_in}
+use Rattle.plain_form.proofs.Spaces.{constant_is, differ, first_constant, kind_of_first, low, only, same_is}
+use Rattle.plain_form.proofs.Rules.{ends_within, narrow_in, output_narrow, output_stays, past_in, stays_in}
 use Rattle.plain_form.proofs.Formed.{IsInput, IsWritten, Inside}
 
 -- what holds of an output
@@ -38,27 +37,9 @@ one_in P (Some w) h v (inr is) = absurd is
 input_in : (code : Opcode) (vs : List Varnode) (v : Varnode) → IsIn v (input_ranges code vs) → IsIn v vs
 input_in code vs v = by_test (names_address code vs) vs
   where
-    rest_in : (vs : List Varnode) → IsIn v (past_first vs) → IsIn v vs
-    rest_in [] h = absurd h
-    rest_in (x ∷ vs) h = inr h
-
     by_test : (b : Bool) (vs : List Varnode) → IsIn v (if b then past_first vs else vs) → IsIn v vs
-    by_test true vs h = rest_in vs h
+    by_test true vs h = past_in vs v h
     by_test false vs h = h
-
--- ---- kinds
-
-same_register : (k : SpaceKind) → same_kind Register k ≡ true → k ≡ Register
-same_register Constant h = absurd (cc)
-same_register Ram h = absurd (cc)
-same_register Register h = refl
-same_register Unique h = absurd (cc)
-
-register_constant : Register ≡ Constant → ⊥
-register_constant h = cc
-
-unique_constant : Unique ≡ Constant → ⊥
-unique_constant h = cc
 
 -- ---- what the rules say of the ranges of an op
 
@@ -84,14 +65,14 @@ module _ (l : Listing) (read : IsWellFormed l) (good : first_bad l ≡ None) whe
 
   -- There is one register space.
   pub register_home : (n : ℕ) → kind_of l n ≡ Register → n ≡ register_space l
-  register_home n e = only Register register_constant l.spaces read.complete.register n e
+  register_home n e = only Register (differ Constant Register refl) l.spaces read.complete.register n e
 
   -- There is one unique space.
   pub unique_home : (n : ℕ) → kind_of l n ≡ Unique → n ≡ unique_space l
-  unique_home n e = only Unique unique_constant l.spaces read.complete.unique n e
+  unique_home n e = only Unique (differ Constant Unique refl) l.spaces read.complete.unique n e
 
   pub register_number : (n : ℕ) → same_kind Register (kind_of l n) ≡ true → n ≡ register_space l
-  register_number n h = register_home n (same_register (kind_of l n) h)
+  register_number n h = register_home n (sym (same_is Register (kind_of l n) h))
 
   -- Its kind.
   pub register_kind : (n : ℕ) → n ≡ register_space l → kind_of l n ≡ Register
@@ -103,8 +84,8 @@ module _ (l : Listing) (read : IsWellFormed l) (good : first_bad l ≡ None) whe
 
   not_constant : (n : ℕ) → IsLocal l n → kind_of l n ≡ Constant → ⊥
   not_constant n home e = elim (local_kind n home) [
-    | inl f ↦ register_constant (sym f ∙ e)
-    | inr f ↦ unique_constant (sym f ∙ e)
+    | inl f ↦ differ Constant Register refl (sym f ∙ e)
+    | inr f ↦ differ Constant Unique refl (sym f ∙ e)
   ]
 
   inside : (v : Varnode)
