@@ -24,7 +24,7 @@ worked_reads = record {
 }
 
 pub worked_writes : WorkedWrites
-worked_writes = record { splits = refl; to_local = refl; little = refl; big = refl }
+worked_writes = record { to_local = refl; little = refl; big = refl }
 
 pub worked_bytes : WorkedBytes
-worked_bytes = record { unsplit = refl; target_big = refl; big = refl; target_little = refl; little = refl }
+worked_bytes = record { target_big = refl; big = refl; target_little = refl; little = refl }

@@ -6,7 +6,7 @@ use Rattle.cmeaning.specs.declared.tree.Expr.TheVariants as E
 use Rattle.cmeaning.specs.declared.tree.Stmt.TheVariants as S
 use Rattle.op_values.specs.Nodes.{width_by}
 use Rattle.op_code.specs.Cover.{Piece, cover}
-use Rattle.op_code.specs.Words.{is_split, read_range, target, write_range}
+use Rattle.op_code.specs.Words.{read_range, target, write_range}
 
 abbrev pub varnode : ℕ → ℕ → ℕ → Varnode
 varnode space offset size = record { space = space; offset = offset; size = size }
@@ -61,7 +61,6 @@ part k w = E.Part k (width_by w) (E.Var 9)
 
 -- Three are assigned the parts of local 9 by rising offset.
 pub record WorkedWrites : Type 0 where
-  pub splits : is_split ranges whole ≡ true
   pub to_local : target ranges 9 whole ≡ 9
   pub little : write_range false ranges whole 9
       ≡ S.Assign 2 (part 0 2) ∷ S.Assign 1 (part 2 1) ∷ S.Assign 4 (part 3 1) ∷ []
@@ -71,7 +70,6 @@ pub record WorkedWrites : Type 0 where
 -- The low byte is the last one in space 3 with the big end first, and the first one in space 4 with the little end
 -- first. It is written to its own variable and nothing else is done, so those of the other bytes keep theirs.
 pub record WorkedBytes : Type 0 where
-  pub unsplit : is_split ranges last ≡ false
   pub target_big : target ranges 9 last ≡ 4
   pub big : write_range true ranges last 9 ≡ []
   pub target_little : target ranges 9 first ≡ 3
