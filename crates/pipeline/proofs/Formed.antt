@@ -18,9 +18,9 @@ use Rattle.pcode_model.proofs.Members.{behind, in_front}
 use Rattle.supported.specs.Ranges.{code_ranges, named_ranges, result_range, storage_ranges}
 use Rattle.supported.specs.Supported.{IsSupported}
 use Rattle.stackvars.specs.Laws.{IsArgument, IsUncut}
-use Rattle.plaincode.specs.Lowered.{result_width, width_of_result}
-use Rattle.plaincode.specs.Nodes.{width_by}
-use Rattle.plaincode.proofs.Nodes.{nearest_is}
+use Rattle.op_code.specs.Lowered.{result_width, width_of_result}
+use Rattle.op_values.specs.Nodes.{width_by}
+use Rattle.op_values.proofs.Means.{nearest_is}
 use Rattle.plain_form.proofs.Accessed.{accessed_named}
 use Rattle.plain_form.proofs.Form.{accessed_equal_or_apart, accessed_sized, spaces_differ}
 use Rattle.plain_form.proofs.Formed.{IsFormed}

@@ -10,6 +10,7 @@ use Rattle.pcode_model.specs.Flow.{IsFlow, IsIn, NoFault}
 use Rattle.pcode_model.specs.Frame.{IsFrameOf, NoStackPointer, frame_of, no_variables}
 use Rattle.pcode_model.specs.Limits.{max_blocks}
 use Rattle.pcode_model.specs.Rules.{first_bad}
+use Rattle.pcode_model.specs.Spaces.{first_ram}
 use Rattle.pcode_model.specs.WellFormed.{IsWellFormed}
 use Rattle.supported.specs.Ranges.{AllInSpace, named_ranges}
 use Rattle.supported.specs.Supported.{IsSupported}
@@ -27,24 +28,34 @@ use Rattle.refusals.specs.declared.refusal.Refusal.{Refusal}
 use Rattle.refusals.specs.declared.refusal.Refusal.TheVariants as R
 use Rattle.refusals.proofs.Blocks.{few_starts}
 use Rattle.cmeaning.specs.declared.tree.CFunction.{CFunction}
+use Rattle.cmeaning.specs.Fits.{Fits}
+use Rattle.cmeaning.specs.Valid.{IsValid}
 use Rattle.ctext.specs.Text.{text_of}
 use Rattle.naming.specs.declared.head.Head.{Head}
+use Rattle.naming.specs.Covered.{IsCovered}
 use Rattle.blockcode.specs.declared.code.Code.{Code}
+use Rattle.blockcode.specs.Laid.{laid_body}
 use Rattle.layout.specs.Function.{head_of, laid_out}
-use Rattle.plaincode.specs.Form as code
-use Rattle.plaincode.specs.Lowered.{lowered, result_width}
-use Rattle.plain_valid.specs.Function.{plain_function}
-use Rattle.plain_valid.proofs.Fit.{plain_fits}
+use Rattle.op_code.specs.Lowerable as code
+use Rattle.op_code.specs.Lowered.{lowered, result_width}
+use Rattle.plain_valid.specs.Function.{plain_function, plain_head}
+use Rattle.plain_valid.specs.Long.{AreLong}
+use Rattle.plain_valid.proofs.Fit.{plain_body_fits, plain_params_fit}
+use Rattle.plain_valid.proofs.Laying.{can_lay}
 use Rattle.plain_valid.proofs.Long.{atoms_long}
 use Rattle.plain_valid.proofs.Signature.{plain_inputs}
-use Rattle.plain_valid.proofs.Valid.{plain_valid}
+use Rattle.plain_valid.proofs.Suits.{plain_suits}
+use Rattle.plain_valid.proofs.Valid.{few_declared, params_right}
+use Rattle.layout_laws.proofs.Fits.{laid_fits}
+use Rattle.layout_laws.proofs.Obeys.{laid_valid}
 use Rattle.plain_form.proofs.Accessed.{accessed_inside}
 use Rattle.plain_form.proofs.Form.{plain_form}
 use Rattle.plain_form.proofs.Formed.{Inside}
+use Rattle.plain_form.proofs.Read.{formed_is}
+use Rattle.plain_form.proofs.Spaces.{space_some}
 use Rattle.pipeline.specs.Passed.{Lowers}
 use Rattle.pipeline.specs.PlainForm.{IsPlainForm}
 use Rattle.pipeline.specs.Verdict.{Accepts, IsCause, MayPrint, Stops}
-use Rattle.plain_form.proofs.Read.{formed_is}
 use Rattle.pipeline.proofs.Formed.{gives_is, uncut}
 use Rattle.pipeline.proofs.Keeps as keeps
 
@@ -76,27 +87,56 @@ module _
     are_atoms : AreAtoms l [] no_variables atoms
     are_atoms = accessed_are_atoms l atoms (uncut l read good built) are.listed
 
-    few_variables : length atoms ≤ 2 ^ 32
-    few_variables = omega (arith, are.few)
+    abbrev made : Code
+    made = lowered l blocks atoms
 
-    -- All that is said of the function of the plain lowering.
-    pub lowers : Lowers l (plain_function l blocks atoms)
-    lowers = record {
-      valid = plain_valid l [] blocks atoms form are.listed.in_order
-          (atoms_long l [] atoms are_atoms (λ v acc. (accessed_inside l built (formed_is l read good) v acc).low))
-          few_variables read.named.func;
-      fits = plain_fits l [] blocks atoms form few_variables;
-      agrees = keeps.agrees l (frame_of l no_variables) [] blocks atoms form few_variables;
-      form = record {
-        name = refl;
-        gives = gives_is l read good;
-        params = (atoms, (are_atoms, plain_inputs l [] blocks atoms form));
-      };
-    }
+    abbrev head : Head
+    head = plain_head l made
+
+    long : AreLong atoms
+    long = atoms_long l [] atoms are_atoms (λ v acc. (accessed_inside l built (formed_is l read good) v acc).low)
+
+    module _ (small : length made.variables ≤ 2 ^ 32) where
+      covered : IsCovered head (laid_body made)
+      covered = keeps.plain_covered l [] blocks atoms form built.stack (space_some l (first_ram l)) small read.named.spaces
+
+      valid : IsValid (plain_function l blocks atoms)
+      valid = laid_valid head made
+          (can_lay l [] blocks atoms (λ a. true) form small).numbers
+          (plain_suits l [] blocks atoms form small read.named.spaces)
+          (few_declared l blocks atoms small)
+          read.named.func
+          (params_right l blocks atoms long are.listed.in_order)
+          refl
+
+      fits : Fits l (plain_function l blocks atoms)
+      fits = laid_fits l head made covered
+          (plain_params_fit l [] blocks atoms form)
+          (plain_body_fits l [] blocks atoms form small)
+
+      -- All that is said of the function of the plain lowering.
+      pub lowers : Lowers l (plain_function l blocks atoms)
+      lowers = record {
+        valid = valid;
+        fits = fits;
+        agrees = keeps.agrees l [] blocks atoms form built.stack (space_some l (first_ram l)) small read.named.spaces;
+        form = record {
+          name = refl;
+          gives = gives_is l read good;
+          params = (atoms, (are_atoms, plain_inputs l [] blocks atoms form));
+        };
+      }
 
 -- The same of a function that is this one.
 pub lowers_to : (l : Listing) (f g : CFunction) → f ≡ g → Lowers l g → Lowers l f
 lowers_to l f g is h = subst (λ (x : CFunction). Lowers l x) (sym is) h
+
+-- as many variables as the code that was made
+pub few_made : (l : Listing) (blocks : List Block) (atoms : List Atom) (k : Code)
+    → k ≡ lowered l blocks atoms
+    → length k.variables ≤ 2 ^ 32
+    → length (lowered l blocks atoms).variables ≤ 2 ^ 32
+few_made l blocks atoms k is few = subst (λ (x : Code). length x.variables ≤ 2 ^ 32) is few
 
 -- the laid out function, by its parts
 pub laid_is : (l : Listing) (blocks : List Block) (atoms : List Atom) (name : List ℕ) (gives : Option Width)

@@ -1,6 +1,6 @@
 use Rattle.std.proofs.Common.{ap, ◌∙◌, arith}
 use Rattle.layout.specs.Function.{head_of}
-use Rattle.pipeline.proofs.Forms.{laid_is, lowers, lowers_to}
+use Rattle.pipeline.proofs.Forms.{few_made, laid_is, lowers, lowers_to}
 use Rattle.pipeline.proofs.passes.lower.Goals as goal
 
 pub plain-requires-clause-code : goal.plain-requires-clause-code
@@ -18,7 +18,7 @@ returns c =
     let is = laid_is l blocks atoms c.in_ok-name.name c.result_width.result c.in_ok-head.head c.in_ok-code.code
     c.in_ok-function.function c.in_ok-function.ensures
     (c.in_ok-head.ensures ∙ ap (head_of c.in_ok-name.name c.result_width.result) c.as_slice-2.ensures)
-    (c.in_ok-name.ensures ∙ c.as_slice.ensures) c.result_width.ensures c.in_ok-code.ensures in
+    (c.in_ok-name.ensures ∙ c.as_slice.ensures) c.result_width.ensures c.in_ok-code.ensures.code in
     lowers_to l c.in_ok-function.function _ is
     (lowers l passed.read passed.ops passed.built blocks passed.blocks passed.no_fault passed.few atoms
-    passed.atoms)
+    passed.atoms (few_made l blocks atoms c.in_ok-code.code c.in_ok-code.ensures.code c.in_ok-code.ensures.few))
