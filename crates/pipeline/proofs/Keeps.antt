@@ -59,18 +59,15 @@ pub never_word : (l : Listing) (f : Frame) (e : Entry) (w : ℕ)
     → (proto_of l None).gives ≡ None
     → NeverEnds (Returned (Some w)) (seen_p l f e)
 never_word l f e w none n over =
-    ends_within (whole y) l f (IsOther w) allows (start l e (first_whole e)) refl n (Returned (Some w)) over refl
+    ends_within (whole (layout_of l f e)) l f (IsOther w) allows (start l e (first_whole e)) refl n (Returned (Some w)) over refl
   where
-    abbrev y : Layout
-    y = layout_of l f e
-
     outside : IsOther w Outside
     outside d = absurd (cc)
 
     fixed : IsOther w ReadOnlyWrite
     fixed d = absurd (cc)
 
-    allows : Allows (whole y) l (IsOther w)
+    allows : Allows (whole (layout_of l f e)) l (IsOther w)
     allows = record {
       div_zero = λ d. absurd (cc);
       no_return = λ d. absurd (cc);
@@ -80,13 +77,13 @@ never_word l f e w none n over =
           let g : Returned (result_of l b (proto_of l None).gives) ≡ Returned None =
           ap (λ o. Returned (result_of l b o)) none in
           absurd (cc);
-      read = λ s a k v e f. ends_unless w (any_framed y s a k) Outside _ e outside
-          (λ e g. ends_unless w (any_hidden y.listing v s a k) Outside _ e outside (ok_never w _) g) f;
-      write = λ s a bs v e f. ends_unless w (any_framed y s a (length bs)) Outside _ e outside
-          (λ e g. ends_unless w (any_fixed y.listing s a (length bs)) ReadOnlyWrite _ e fixed (ok_never w _) g) f;
-      read_own = λ a c k v e f. ends_unless w _ Outside _ e outside (ok_never w _) f;
-      answer = λ x v e f. ends_unless w (is_framed y x.space x.offset) Outside _ e outside
-          (λ e g. ends_unless w (is_fixed y.listing x.space x.offset) ReadOnlyWrite _ e fixed (ok_never w _) g) f;
+      read = λ s a k v d h. ends_unless w (any_framed (layout_of l f e) s a k) Outside _ d outside
+          (λ d g. ends_unless w (any_hidden l v s a k) Outside _ d outside (ok_never w _) g) h;
+      write = λ s a bs v d h. ends_unless w (any_framed (layout_of l f e) s a (length bs)) Outside _ d outside
+          (λ d g. ends_unless w (any_fixed l s a (length bs)) ReadOnlyWrite _ d fixed (ok_never w _) g) h;
+      read_own = λ a c k v d h. ends_unless w _ Outside _ d outside (ok_never w _) h;
+      answer = λ x v d h. ends_unless w (is_framed (layout_of l f e) x.space x.offset) Outside _ d outside
+          (λ d g. ends_unless w (is_fixed l x.space x.offset) ReadOnlyWrite _ d fixed (ok_never w _) g) h;
     }
 
 wordless_end : (o : Option End) → ((w : ℕ) → o ≢ Some (Returned (Some w))) → bare_end o ≡ o
