@@ -1,5 +1,5 @@
 -- What the tests of a listing give the passes.
-use Rattle.std.proofs.Common.{◌≡◌, ◌≤◌, ◌^◌, ℕ, true, List, [], Option, None, length, refl, ap, ◌∙◌, subst, sym}
+use Rattle.std.proofs.Common.{◌≡◌, ◌≤◌, ◌<◌, ◌-◌, ◌^◌, ℕ, true, List, [], Option, None, length, refl, ap, ◌∙◌, subst, sym, arith}
 use Rattle.bits_core.specs.declared.word.Width.{Width}
 use Rattle.pcode_model.specs.declared.atoms.Atom.{Atom}
 use Rattle.pcode_model.specs.declared.flow.Block.{Block}
@@ -33,11 +33,11 @@ use Rattle.blockcode.specs.declared.code.Code.{Code}
 use Rattle.blockcode.specs.Laid.{laid_body}
 use Rattle.layout.specs.Function.{head_of, laid_out}
 use Rattle.op_code.specs.Lowerable as code
-use Rattle.op_code.specs.Lowered.{lowered, result_width}
+use Rattle.op_code.specs.Lowered.{lowered, ranges_of, result_width}
 use Rattle.plain_valid.specs.Function.{plain_function, plain_head}
 use Rattle.plain_valid.specs.Long.{AreLong}
 use Rattle.plain_valid.proofs.Fit.{plain_body_fits, plain_params_fit}
-use Rattle.plain_valid.proofs.Laying.{can_lay}
+use Rattle.plain_valid.proofs.Laying.{blocks_length, can_lay}
 use Rattle.plain_valid.proofs.Long.{atoms_long}
 use Rattle.plain_valid.proofs.Signature.{plain_inputs}
 use Rattle.plain_valid.proofs.Suits.{plain_suits}
@@ -119,6 +119,16 @@ pub few_made : (l : Listing) (blocks : List Block) (atoms : List Atom) (k : Code
     → length k.variables ≤ 2 ^ 32
     → length (lowered l blocks atoms).variables ≤ 2 ^ 32
 few_made l blocks atoms k is few = subst (λ (x : Code). length x.variables ≤ 2 ^ 32) is few
+
+-- as many blocks as the flow has
+pub few_blocks_made : (l : Listing) (blocks : List Block) (atoms : List Atom) (k : Code)
+    → k ≡ lowered l blocks atoms
+    → length blocks ≤ max_blocks
+    → length k.blocks < 2 ^ 32 - 1
+few_blocks_made l blocks atoms k is few =
+    let made : length k.blocks ≡ length (lowered l blocks atoms).blocks = ap (λ (x : Code). length x.blocks) is in
+    let same = blocks_length l (ranges_of l atoms) (length atoms) blocks in
+    omega (arith, few, made, same)
 
 -- the laid out function, by its parts
 pub laid_is : (l : Listing) (blocks : List Block) (atoms : List Atom) (name : List ℕ) (gives : Option Width)

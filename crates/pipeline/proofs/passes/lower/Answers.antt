@@ -1,6 +1,6 @@
 use Rattle.std.proofs.Common.{ap, ◌∙◌, arith}
 use Rattle.layout.specs.Function.{head_of}
-use Rattle.pipeline.proofs.Forms.{few_made, laid_is, lowers, lowers_to}
+use Rattle.pipeline.proofs.Forms.{few_blocks_made, few_made, laid_is, lowers, lowers_to}
 use Rattle.pipeline.proofs.passes.lower.Goals as goal
 
 pub plain-requires-clause-code : goal.plain-requires-clause-code
@@ -8,6 +8,11 @@ plain-requires-clause-code c = c.requires.read.apart
 
 pub plain-requires-clause-spaces : goal.plain-requires-clause-spaces
 plain-requires-clause-spaces c = let few = c.requires.read.limited.spaces in omega (arith, few)
+
+pub laid_out-requires : goal.laid_out-requires
+laid_out-requires c =
+    few_blocks_made c.args.accepted.now.listing c.args.accepted.now.flow c.args.accepted.now.atoms c.in_ok-code.code
+    c.in_ok-code.ensures.code c.requires.few_blocks
 
 pub returns : goal.returns
 returns c =
