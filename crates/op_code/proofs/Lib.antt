@@ -3,7 +3,11 @@ pub mod Rows
 pub mod Bytes
 pub mod Reading
 pub mod Writing
+pub mod Apart
+pub mod Atoms
+pub mod WorkedCovers
 pub mod Entering
+pub mod Joined
 pub mod Numbers
 pub mod Operands
 pub mod Ops
@@ -12,5 +16,7 @@ pub mod Sets
 pub mod Steps
 pub mod Unstored
 pub mod Variables
+pub mod Walks
 pub mod Worked
 pub mod WorkedBlocks
+pub mod WorkedSeveral

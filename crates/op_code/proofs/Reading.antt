@@ -1,6 +1,6 @@
 -- What is read for a range of several variables has the range's word.
-use Rattle.std.proofs.Common.{◌≡◌, ℕ, suc, ◌+◌, ◌-◌, ◌<◌, ◌≤◌, Bool, true, false, List, [], ◌∷◌, ◌++◌, reverse, Option, Some, refl, sym, ap, ◌∙◌, subst, arith}
-use Rattle.std.specs.Prelude.{slice_get, if◌then◌else◌}
+use Rattle.std.proofs.Common.{◌≡◌, ℕ, ◌+◌, ◌-◌, ◌<◌, ◌≤◌, Bool, true, false, List, [], ◌∷◌, ◌++◌, reverse, Option, Some, refl, sym, ap, ◌∙◌, subst, arith}
+use Rattle.std.specs.Prelude.{slice_get}
 use Rattle.std.proofs.lemmas.List.{reverse-append}
 use Rattle.bits_core.specs.declared.ops.Binary.TheVariants as B
 use Rattle.bits_core.specs.Bytes.{word_of}
@@ -80,10 +80,16 @@ fall_more ranges space offset [] p k h fall =
     (0, (omega (arith, fall), (begins_at ranges space offset (offset + 0) p (omega arith) h, refl)))
 fall_more ranges space offset (q ∷ qs) p k h fall =
     let n = p.range.size in
-    let j = fall.0 in
-    (n + j, (omega (arith, fall.1.0),
-    (begins_at ranges space (offset + n + j) (offset + (n + j)) q (omega arith) fall.1.1.0,
-    fall_more ranges space offset qs p j h fall.1.1.1)))
+    let j = fall.0 in (
+      n + j,
+      (
+        omega (arith, fall.1.0),
+        (
+          begins_at ranges space (offset + n + j) (offset + (n + j)) q (omega arith) fall.1.1.0,
+          fall_more ranges space offset qs p j h fall.1.1.1,
+        ),
+      ),
+    )
 
 fall_of_row : (ranges : List Varnode) (space offset : ℕ) (ps : List Piece) (k : ℕ)
     → IsRow ranges space offset ps (offset + k)

@@ -1,5 +1,5 @@
 -- What is done to write a range of several variables writes its word.
-use Rattle.std.proofs.Common.{◌≡◌, ◌≢◌, ℕ, suc, ◌+◌, ◌-◌, ◌/◌, ◌<◌, ◌≤◌, Bool, true, false, List, [], ◌∷◌, ◌++◌, length, map, take, drop, Option, Some, None, refl, sym, ap, ◌∙◌, subst, arith, take-append-drop, drop-drop, length-drop, length-take-le, drop_of_length-le}
+use Rattle.std.proofs.Common.{◌≡◌, ◌≢◌, ℕ, ◌+◌, ◌-◌, ◌/◌, ◌<◌, ◌≤◌, Bool, true, false, List, [], ◌∷◌, ◌++◌, length, map, take, drop, Some, None, refl, sym, ap, ◌∙◌, subst, arith, take-append-drop, drop-drop, length-drop, length-take-le, drop_of_length-le}
 use Rattle.std.specs.Prelude.{slice_get}
 use Rattle.std.proofs.Math.Nat.{mod-lt}
 use Rattle.bits_core.proofs.Limits.{limit_pos}
@@ -11,7 +11,7 @@ use Rattle.pcode_model.specs.declared.listing.Listing.{Listing}
 use Rattle.pcode_model.specs.Memory.{Bytes}
 use Rattle.pcode_model.specs.Spaces.{each_at, is_big, put_in, size_of}
 use Rattle.pcode_model.specs.Step.{bytes_in, with_word}
-use Rattle.pcode_model.specs.World.{World, unless_over}
+use Rattle.pcode_model.specs.World.{unless_over}
 use Rattle.pcode_laws.proofs.Puts.{put_at, put_else}
 use Rattle.range_words.specs.Ranges.{Holds, IsInside, IsTable}
 use Rattle.range_words.proofs.Variables.{holds_other, holds_written}
@@ -25,8 +25,8 @@ use Rattle.cmeaning.specs.Do as code
 use Rattle.cmeaning.proofs.Do.{do_assign}
 use Rattle.cmeaning.proofs.Value.{value_of_var, width_of_var}
 use Rattle.blockcode.proofs.Straight.{run_all}
-use Rattle.op_values.specs.Nodes.{part_node}
-use Rattle.op_values.proofs.Means.{Means}
+use Rattle.op_values.specs.Nodes.{nearest, part_node}
+use Rattle.op_values.proofs.Means.{Means, nearest_is}
 use Rattle.op_values.proofs.Parts.{part_means}
 use Rattle.op_code.specs.Cover.{Begins, HasCover, IsRow, Piece, cover}
 use Rattle.op_code.specs.Words.{assigns_part, bytes_below, parts_by, target, target_by, write_range}
@@ -157,12 +157,15 @@ module _
             part_value : (x : Local)
                 → x.env local ≡ Some w
                 → value_of ws x.env
-                (part_node v.size (bytes_below big v p.range) p.range.size (E.Var local)) ≡ Some (part_at p)
+                (part_node (nearest v.size) (bytes_below big v p.range) p.range.size (E.Var local)) ≡ Some (part_at p)
             part_value x held =
                 let means : Means ws x.env (E.Var local) v.size w = record {
                   width = width_of_var ws local ∙ wide;
                   value = value_of_var ws x.env local ∙ held;
                 } in
+                let P : ℕ → Type 0 = λ u. value_of ws x.env
+                (part_node u (bytes_below big v p.range) p.range.size (E.Var local)) ≡ Some (part_at p) in
+                subst P (sym (nearest_is v.size some few))
                 (part_means ws x.env v.size (bytes_below big v p.range) p.range.size w (E.Var local) h.some
                 (omega (arith, within, few)) word means).value
 
@@ -190,7 +193,7 @@ module _
             let listed : slice_get ranges p.variable ≡ Some p.range = first.listed in
             absurd (cc) in
             let ran = assign_runs l ws returns p.variable k
-            (part_node v.size (bytes_below big v p.range) n (E.Var local)) (map (assigns_part big v local) ps) x go
+            (part_node (nearest v.size) (bytes_below big v p.range) n (E.Var local)) (map (assigns_part big v local) ps) x go
             (part_value at p first within x held) in
             let R : ℕ → Type 0 = λ o. IsRow ranges v.space o ps (v.offset + v.size) in
             let rest = parts_run (at + n) ps m1 y (subst R (omega arith) row.1)

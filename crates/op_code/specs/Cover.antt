@@ -2,11 +2,8 @@
 use Rattle.std.specs.Prelude.{◌≡◌, ℕ, zero, suc, ◌+◌, ◌<◌, ◌==◌, ◌&&◌, Bool, List, [], ◌∷◌, ◌++◌, slice_get, Option, Some, None}
 use Rattle.pcode_model.specs.declared.listing.Varnode.{Varnode}
 use Rattle.cmeaning.specs.Places.{place}
-
 -- a variable, and the range that it stands for
-pub record Piece : Type 0 where
-  pub variable : ℕ
-  pub range : Varnode
+pub use Rattle.op_code.specs.declared.covers.Piece.{Piece}
 
 abbrev pub begins : ℕ → ℕ → Varnode → Bool
 begins space offset a = a.space == space && a.offset == offset

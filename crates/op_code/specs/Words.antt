@@ -6,7 +6,7 @@ use Rattle.cmeaning.specs.declared.tree.Expr.{Expr}
 use Rattle.cmeaning.specs.declared.tree.Expr.TheVariants as E
 use Rattle.cmeaning.specs.declared.tree.Stmt.{Stmt}
 use Rattle.cmeaning.specs.declared.tree.Stmt.TheVariants as S
-use Rattle.op_values.specs.Nodes.{constant, part_node}
+use Rattle.op_values.specs.Nodes.{constant, nearest, part_node}
 use Rattle.op_code.specs.Cover.{Piece, cover}
 
 -- ---- reading
@@ -30,7 +30,7 @@ bytes_below big v a = place_of_part big v.size (a.offset - v.offset) a.size
 -- a variable is assigned its part of the word that a local holds for a range
 abbrev pub assigns_part : Bool → Varnode → ℕ → Piece → Stmt
 assigns_part big v local p =
-    S.Assign p.variable (part_node v.size (bytes_below big v p.range) p.range.size (E.Var local))
+    S.Assign p.variable (part_node (nearest v.size) (bytes_below big v p.range) p.range.size (E.Var local))
 
 -- One variable is written without a local, so nothing is done then.
 abbrev pub parts_by : Bool → Varnode → ℕ → List Piece → List Stmt

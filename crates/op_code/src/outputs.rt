@@ -1,13 +1,15 @@
 //! What is assigned to outputs.
 
 ghost use Rattle.std.specs.Prelude.{◌≡◌, ◌≤◌, ◌^◌, ◌++◌, [], length, OnOk};
-ghost use Rattle.pcode_model.specs.declared.listing.SpaceKind.TheVariants.{Ram};
+ghost use Rattle.pcode_model.specs.declared.listing.SpaceKind.TheVariants.{Ram, Register};
 ghost use Rattle.op_code.specs.Made.{set_by, sets};
 ghost use Rattle.op_code.specs.Sources.{set_to};
 
+use crate::covers::cover;
 use crate::locals::new_local;
-use crate::memory::{direct_address, space_name};
+use crate::memory::{direct_address, is_big, space_name};
 use crate::table::Table;
+use crate::words::assign_parts;
 use bits_core::Memory;
 use blockcode::Variables;
 use cmeaning::{Body, Expr, StatementDivision, Stmt};
@@ -72,6 +74,32 @@ fn set_memory(
     Ok(())
 }
 
+/// Sets a range: its variable, or variables by a local that holds their word.
+fn set_range(
+    alloc: Global,
+    listing: &Listing,
+    table: &Table,
+    variables: &mut Variables,
+    body: &mut Body,
+    out: Varnode,
+    source: Source,
+) -> Result<(), Memory>
+    requires few { length variables.old ≤ 2 ^ 32 }
+    ensures statements { OnOk result (body.new ≡ body.old ++ (set_by Register listing.now table.now (length variables.old) out (set_to source)).statements) }
+    ensures locals { OnOk result (variables.new ≡ variables.old ++ (set_by Register listing.now table.now (length variables.old) out (set_to source)).locals) }
+    ensures few { OnOk result (length variables.new ≤ 2 ^ 32) }
+{
+    let pieces = cover(alloc, table, out)?;
+    if let [piece] = pieces.as_slice() {
+        body.push(statement(source, piece.variable))?;
+        return Ok(());
+    }
+    let local = new_local(variables, out.size)?;
+    body.push(statement(source, local))?;
+    let big = is_big(listing, u64::from(out.space));
+    assign_parts(alloc, big, body, out, local, pieces.as_slice())
+}
+
 /// Sets an output, where there is one.
 pub(crate) fn set(
     alloc: Global,
@@ -93,8 +121,7 @@ pub(crate) fn set(
     match listing.space_kind(range.space) {
         SpaceKind::Ram => set_memory(alloc, listing, variables, body, range, source),
         SpaceKind::Constant | SpaceKind::Register | SpaceKind::Unique => {
-            body.push(statement(source, table.variable(range)))?;
-            Ok(())
+            set_range(alloc, listing, table, variables, body, range, source)
         }
     }
 }

@@ -23,7 +23,8 @@ same_self Ram = refl
 same_self Register = refl
 same_self Unique = refl
 
-same_is : (j k : SpaceKind) → same_kind j k ≡ true → j ≡ k
+-- What the test takes for one kind is one.
+pub same_is : (j k : SpaceKind) → same_kind j k ≡ true → j ≡ k
 same_is Constant Constant h = refl
 same_is Constant Ram h = absurd (clash (sym h))
 same_is Constant Register h = absurd (clash (sym h))
@@ -41,8 +42,8 @@ same_is Unique Ram h = absurd (clash (sym h))
 same_is Unique Register h = absurd (clash (sym h))
 same_is Unique Unique h = refl
 
--- two that differ by the test aren't one
-differ : (j k : SpaceKind) → same_kind j k ≡ false → k ≡ j → ⊥
+-- Two that differ by the test aren't one.
+pub differ : (j k : SpaceKind) → same_kind j k ≡ false → k ≡ j → ⊥
 differ j k h e = let P : SpaceKind → Type 0 = λ x. same_kind j x ≡ false in clash (sym (same_self j) ∙ subst P e h)
 
 -- ---- constants
