@@ -58,7 +58,8 @@ module _ (l : Listing) (read : IsWellFormed l) (good : first_bad l ≡ None) (ra
       → IsDirect l v
   direct_is v some stays e =
       let P : ℕ → Type 0 = λ n. kind_of l n ≡ Ram in
-      let other : v.space ≡ 0 → ⊥ = λ f. differ Ram Constant refl (sym (first_constant l.spaces read.spaces) ∙ subst P f e) in
+      let first = first_constant l.spaces read.spaces in
+      let other : v.space ≡ 0 → ⊥ = λ f. differ Ram Constant refl (sym first ∙ subst P f e) in
       let within = ends_within l v other stays in
       (memory_is l read v.space e, omega (arith, some, within))
 
