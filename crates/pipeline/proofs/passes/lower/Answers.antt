@@ -12,7 +12,7 @@ plain-requires-clause-spaces c = let few = c.requires.read.limited.spaces in ome
 pub laid_out-requires : goal.laid_out-requires
 laid_out-requires c =
     few_blocks_made c.args.accepted.now.listing c.args.accepted.now.flow c.args.accepted.now.atoms c.in_ok-code.code
-    c.in_ok-code.ensures.code c.requires.few
+    c.in_ok-code.ensures.code c.requires.few_blocks
 
 pub returns : goal.returns
 returns c =
@@ -25,5 +25,5 @@ returns c =
     (c.in_ok-head.ensures ∙ ap (head_of c.in_ok-name.name c.result_width.result) c.as_slice-2.ensures)
     (c.in_ok-name.ensures ∙ c.as_slice.ensures) c.result_width.ensures c.in_ok-code.ensures.code in
     lowers_to l c.in_ok-function.function _ is
-    (lowers l passed.read passed.ops passed.built blocks passed.blocks passed.no_fault passed.few atoms
+    (lowers l passed.read passed.ops passed.built blocks passed.blocks passed.no_fault passed.few_blocks atoms
     passed.atoms (few_made l blocks atoms c.in_ok-code.code c.in_ok-code.ensures.code c.in_ok-code.ensures.few))
