@@ -186,7 +186,8 @@ module _
           let low = joined_big (offset + n) (q ∷ ps) r order (subst R end row.1)
           (omega (arith, all, rises, row.1.0.some)) (omega (arith, all, few)) (omega (arith, end, inside)) in
           let high = ordered_means true offset p order row.0 (omega (arith, all, few)) in
-          as_one (E.Concat d e) (n + r) k (concat r (word true offset n) (word true (offset + n) r)) (word true offset k)
+          as_one (E.Concat d e) (n + r) k (concat r (word true offset n) (word true (offset + n) r))
+          (word true offset k)
           all
           (sym (word_split_big (size_of l space) (m space) offset n r (omega (arith, all, inside)))
           ∙ ap (word true offset) all)
@@ -215,7 +216,8 @@ module _
           (omega (arith, fall.1.1.1.1.0, fall.1.1.1.1.1.0.some)) (omega (arith, all, few))
           (omega (arith, all, inside)) in
           let high = ordered_means false (offset + j) p order fall.1.1.0 (omega (arith, all, few)) in
-          as_one (E.Concat d e) (n + j) k (concat j (word false (offset + j) n) (word false offset j)) (word false offset k)
+          as_one (E.Concat d e) (n + j) k (concat j (word false (offset + j) n) (word false offset j))
+          (word false offset k)
           (omega (arith, all))
           (sym (word_split_little (size_of l space) (m space) offset j n (omega (arith, all, inside)))
           ∙ ap (word false offset) (sym all))

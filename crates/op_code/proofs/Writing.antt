@@ -109,7 +109,11 @@ module _
         abbrev part_at : Piece → ℕ
         part_at p = part w (bytes_below big v p.range) p.range.size
 
-        module _ (at : ℕ) (p : Piece) (h : Begins ranges v.space (v.offset + at) p) (within : at + p.range.size ≤ v.size)
+        module _
+            (at : ℕ)
+            (p : Piece)
+            (h : Begins ranges v.space (v.offset + at) p)
+            (within : at + p.range.size ≤ v.size)
           where
             there : p.range.offset - v.offset ≡ at
             there = omega (arith, h.offset)
