@@ -17,3 +17,4 @@ pub mod Variables
 pub mod Walks
 pub mod Worked
 pub mod WorkedBlocks
+pub mod WorkedSeveral

@@ -1,6 +1,6 @@
 -- What is read for a range of several variables has the range's word.
-use Rattle.std.proofs.Common.{◌≡◌, ℕ, suc, ◌+◌, ◌-◌, ◌<◌, ◌≤◌, Bool, true, false, List, [], ◌∷◌, ◌++◌, reverse, Option, Some, refl, sym, ap, ◌∙◌, subst, arith}
-use Rattle.std.specs.Prelude.{slice_get, if◌then◌else◌}
+use Rattle.std.proofs.Common.{◌≡◌, ℕ, ◌+◌, ◌-◌, ◌<◌, ◌≤◌, Bool, true, false, List, [], ◌∷◌, ◌++◌, reverse, Option, Some, refl, sym, ap, ◌∙◌, subst, arith}
+use Rattle.std.specs.Prelude.{slice_get}
 use Rattle.std.proofs.lemmas.List.{reverse-append}
 use Rattle.bits_core.specs.declared.ops.Binary.TheVariants as B
 use Rattle.bits_core.specs.Bytes.{word_of}
@@ -80,10 +80,16 @@ fall_more ranges space offset [] p k h fall =
     (0, (omega (arith, fall), (begins_at ranges space offset (offset + 0) p (omega arith) h, refl)))
 fall_more ranges space offset (q ∷ qs) p k h fall =
     let n = p.range.size in
-    let j = fall.0 in
-    (n + j, (omega (arith, fall.1.0),
-    (begins_at ranges space (offset + n + j) (offset + (n + j)) q (omega arith) fall.1.1.0,
-    fall_more ranges space offset qs p j h fall.1.1.1)))
+    let j = fall.0 in (
+      n + j,
+      (
+        omega (arith, fall.1.0),
+        (
+          begins_at ranges space (offset + n + j) (offset + (n + j)) q (omega arith) fall.1.1.0,
+          fall_more ranges space offset qs p j h fall.1.1.1,
+        ),
+      ),
+    )
 
 fall_of_row : (ranges : List Varnode) (space offset : ℕ) (ps : List Piece) (k : ℕ)
     → IsRow ranges space offset ps (offset + k)
@@ -180,7 +186,8 @@ module _
           let low = joined_big (offset + n) (q ∷ ps) r order (subst R end row.1)
           (omega (arith, all, rises, row.1.0.some)) (omega (arith, all, few)) (omega (arith, end, inside)) in
           let high = ordered_means true offset p order row.0 (omega (arith, all, few)) in
-          as_one (E.Concat d e) (n + r) k (concat r (word true offset n) (word true (offset + n) r)) (word true offset k)
+          as_one (E.Concat d e) (n + r) k (concat r (word true offset n) (word true (offset + n) r))
+          (word true offset k)
           all
           (sym (word_split_big (size_of l space) (m space) offset n r (omega (arith, all, inside)))
           ∙ ap (word true offset) all)
@@ -209,7 +216,8 @@ module _
           (omega (arith, fall.1.1.1.1.0, fall.1.1.1.1.1.0.some)) (omega (arith, all, few))
           (omega (arith, all, inside)) in
           let high = ordered_means false (offset + j) p order fall.1.1.0 (omega (arith, all, few)) in
-          as_one (E.Concat d e) (n + j) k (concat j (word false (offset + j) n) (word false offset j)) (word false offset k)
+          as_one (E.Concat d e) (n + j) k (concat j (word false (offset + j) n) (word false offset j))
+          (word false offset k)
           (omega (arith, all))
           (sym (word_split_little (size_of l space) (m space) offset j n (omega (arith, all, inside)))
           ∙ ap (word false offset) (sym all))

@@ -1,5 +1,5 @@
 -- What is done to write a range of several variables writes its word.
-use Rattle.std.proofs.Common.{◌≡◌, ◌≢◌, ℕ, suc, ◌+◌, ◌-◌, ◌/◌, ◌<◌, ◌≤◌, Bool, true, false, List, [], ◌∷◌, ◌++◌, length, map, take, drop, Option, Some, None, refl, sym, ap, ◌∙◌, subst, arith, take-append-drop, drop-drop, length-drop, length-take-le, drop_of_length-le}
+use Rattle.std.proofs.Common.{◌≡◌, ◌≢◌, ℕ, ◌+◌, ◌-◌, ◌/◌, ◌<◌, ◌≤◌, Bool, true, false, List, [], ◌∷◌, ◌++◌, length, map, take, drop, Some, None, refl, sym, ap, ◌∙◌, subst, arith, take-append-drop, drop-drop, length-drop, length-take-le, drop_of_length-le}
 use Rattle.std.specs.Prelude.{slice_get}
 use Rattle.std.proofs.Math.Nat.{mod-lt}
 use Rattle.bits_core.proofs.Limits.{limit_pos}
@@ -11,7 +11,7 @@ use Rattle.pcode_model.specs.declared.listing.Listing.{Listing}
 use Rattle.pcode_model.specs.Memory.{Bytes}
 use Rattle.pcode_model.specs.Spaces.{each_at, is_big, put_in, size_of}
 use Rattle.pcode_model.specs.Step.{bytes_in, with_word}
-use Rattle.pcode_model.specs.World.{World, unless_over}
+use Rattle.pcode_model.specs.World.{unless_over}
 use Rattle.pcode_laws.proofs.Puts.{put_at, put_else}
 use Rattle.range_words.specs.Ranges.{Holds, IsInside, IsTable}
 use Rattle.range_words.proofs.Variables.{holds_other, holds_written}
@@ -109,7 +109,11 @@ module _
         abbrev part_at : Piece → ℕ
         part_at p = part w (bytes_below big v p.range) p.range.size
 
-        module _ (at : ℕ) (p : Piece) (h : Begins ranges v.space (v.offset + at) p) (within : at + p.range.size ≤ v.size)
+        module _
+            (at : ℕ)
+            (p : Piece)
+            (h : Begins ranges v.space (v.offset + at) p)
+            (within : at + p.range.size ≤ v.size)
           where
             there : p.range.offset - v.offset ≡ at
             there = omega (arith, h.offset)

@@ -8,3 +8,4 @@ pub mod Lowered
 pub mod Lowerable
 pub mod Worked
 pub mod WorkedBlocks
+pub mod WorkedSeveral

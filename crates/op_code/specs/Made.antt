@@ -1,6 +1,6 @@
 -- What stands for an op: its statements, and the locals that they need, numbered behind the variables that there are.
 -- Both come by one definition, so that there are as many locals as the statements name. This project's own.
-use Rattle.std.specs.Prelude.{ℕ, suc, ◌+◌, ◌==◌, ◌&&◌, Bool, false, if◌then◌else◌, List, [], ◌∷◌, ◌++◌, length, slice_get, Option, Some, None}
+use Rattle.std.specs.Prelude.{ℕ, suc, ◌+◌, ◌==◌, Bool, false, if◌then◌else◌, List, [], ◌∷◌, ◌++◌, length, slice_get, Option, Some, None}
 use Rattle.std.specs.List.{slice_index_or}
 use Rattle.bits_core.specs.declared.ops.Divide.{Divide}
 use Rattle.pcode_model.specs.declared.listing.Space.{Space}
