@@ -1,6 +1,6 @@
 -- The variables by where their ranges begin, by their table.
-use Rattle.std.proofs.Common.{◌≡◌, ℕ, ◌==◌, ◌&&◌, Bool, true, List, [], ◌∷◌, ◌++◌, length, sym, ap, ap₂, ◌∙◌}
-use Rattle.std.specs.Prelude.{Option, Some, None, cond, slice_get}
+use Rattle.std.proofs.Common.{◌≡◌, ℕ, ◌==◌, Bool, true, List, [], ◌∷◌, ◌++◌, length, sym, ap, ap₂, ◌∙◌}
+use Rattle.std.specs.Prelude.{Some, None, cond, slice_get}
 use Rattle.std.specs.Ordering.{is_eq, nat_cmp}
 use Rattle.std.specs.Cmp.{Equal-is, both_tied, unsigned_tied}
 use Rattle.std.specs.BTreeMap.{BTreeMap, get, Updates}

@@ -1,5 +1,5 @@
 -- What follows where a range is set, by the number of its variables.
-use Rattle.std.proofs.Common.{◌≡◌, ◌≢◌, ℕ, Bool, List, [], ◌∷◌, ◌++◌, length, map, refl, sym, ap, ap₂, ◌∙◌, append_assoc}
+use Rattle.std.proofs.Common.{◌≡◌, ◌≢◌, ℕ, Bool, List, [], ◌∷◌, ◌++◌, length, map, refl, ap, ◌∙◌, append_assoc}
 use Rattle.pcode_model.specs.declared.listing.Varnode.{Varnode}
 use Rattle.cmeaning.specs.declared.tree.Stmt.{Stmt}
 use Rattle.op_code.specs.Cover.{Piece}

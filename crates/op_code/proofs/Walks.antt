@@ -1,5 +1,5 @@
 -- A walk along a range, which adds the variables that begin at its offsets.
-use Rattle.std.proofs.Common.{◌≡◌, ℕ, suc, ◌+◌, ◌-◌, ◌<◌, List, ◌++◌, sym, ap, ◌∙◌, append_assoc, arith}
+use Rattle.std.proofs.Common.{◌≡◌, ℕ, suc, ◌+◌, ◌-◌, ◌<◌, List, ◌++◌, ap, ◌∙◌, append_assoc, arith}
 use Rattle.pcode_model.specs.declared.listing.Varnode.{Varnode}
 use Rattle.op_code.specs.Cover.{Piece, pieces_at, pieces_from}
 

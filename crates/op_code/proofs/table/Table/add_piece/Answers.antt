@@ -1,5 +1,4 @@
 use Rattle.std.proofs.Common.{◌≡◌, ℕ, ◌∷◌, ◌++◌, [], List, append-nil, sym, ap, ◌∙◌}
-use Rattle.std.specs.Prelude.{slice_get}
 use Rattle.pcode_model.specs.declared.listing.Varnode.{Varnode}
 use Rattle.op_code.specs.Cover.{Piece, piece_of, pieces_at}
 use Rattle.op_code.proofs.Numbers.{pieces_none, pieces_some}
