@@ -28,7 +28,8 @@ use Rattle.blockcode.specs.declared.code.Exit.{Exit}
 use Rattle.blockcode.specs.declared.code.Exit.TheVariants as X
 use Rattle.op_values.specs.Nodes.{binary_node, constant, divides_by, division_node, nearest, statement_of, unary_node}
 use Rattle.op_values.proofs.Means.{nearest_is}
-use Rattle.op_code.specs.Cover.{HasCover, IsRow, Piece, cover}
+use Rattle.op_code.specs.declared.covers.Piece.{Piece}
+use Rattle.op_code.specs.Cover.{HasCover, IsRow, cover}
 use Rattle.op_code.specs.Words.{assigns_part, parts_by, target_by}
 use Rattle.op_code.specs.Made.{Read, ReadOne, address, address_of, computes, divides, divides_at, local_for, local_of, name_of, offset_bytes, op_made, range_word, read_by, read_one, reads, set_by, sets}
 use Rattle.op_code.specs.Form.{IsDirect, IsLocalBy, IsMemory, IsNarrow, IsOperand, IsOperandBy, IsOutput, IsOutputBy, IsPlainOp, IsResult}
@@ -179,7 +180,7 @@ module _
           let is = local_variable next z narrow are in
           let all = p ∷ q ∷ ps in
           kinds.append (make next ∷ []) (map (assigns_part big z next) all) (makes next is)
-          (parts_right l ranges ws n set few known (length starts) P Q kinds big z next (of_variable next z.size is) all
+          (parts_right l ranges ws n set few known (length starts) P Q kinds big z narrow next (of_variable next z.size is) all
           z.size (row_fills ranges z.space z.offset z.size all row) narrow.1)
 
       set_right : (k : SpaceKind)

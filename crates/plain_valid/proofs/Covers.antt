@@ -10,8 +10,10 @@ use Rattle.cmeaning.specs.declared.tree.Expr.TheVariants as E
 use Rattle.cmeaning.specs.declared.tree.Stmt.{Stmt}
 use Rattle.cmeaning.specs.declared.tree.Stmt.TheVariants as S
 use Rattle.blockcode.specs.declared.code.Exit.{Exit}
-use Rattle.op_values.specs.Nodes.{part_node}
-use Rattle.op_code.specs.Cover.{HasCover, IsRow, Piece, cover}
+use Rattle.op_values.specs.Nodes.{nearest, part_node}
+use Rattle.op_values.proofs.Means.{nearest_is}
+use Rattle.op_code.specs.declared.covers.Piece.{Piece}
+use Rattle.op_code.specs.Cover.{HasCover, IsRow, cover}
 use Rattle.op_code.specs.Form.{IsNarrow}
 use Rattle.op_code.specs.Made.{range_word}
 use Rattle.op_code.specs.Words.{assigns_part, bytes_below, joined, read_range}
@@ -150,6 +152,7 @@ module _
         (kinds : Kinds l ranges ws n blocks P Q)
         (big : Bool)
         (v : Varnode)
+        (narrow : IsNarrow v)
         (local : ℕ)
         (is : Fits ws n (E.Var local) v.size 16)
       where
@@ -163,8 +166,10 @@ module _
             let h = fill.1.1.0 in
             let size : p.range.size ≤ 16 = omega (arith, fill.1.0, small) in
             let below = bytes_below big v p.range in
-            let e = part_node v.size below p.range.size (E.Var local) in
+            let e = part_node (nearest v.size) below p.range.size (E.Var local) in
+            let F : ℕ → Type 0 = λ u. Fits ws n (part_node u below p.range.size (E.Var local)) p.range.size 18 in
             kinds.append (S.Assign p.variable e ∷ []) (map (assigns_part big v local) ps)
             (kinds.assign p.variable p.range.size 18 e (piece_variable p h size)
-            (part_node_fits ws n v.size below (E.Var local) is p.range.size h.some size))
+            (subst F (sym (nearest_is v.size narrow.0 narrow.1))
+            (part_node_fits ws n v.size below (E.Var local) is p.range.size h.some size)))
             (parts_right ps fill.0 fill.1.1.1 (omega (arith, fill.1.0, small)))
