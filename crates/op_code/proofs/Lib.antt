@@ -12,6 +12,7 @@ pub mod Numbers
 pub mod Operands
 pub mod Ops
 pub mod Sees
+pub mod Settled
 pub mod Sets
 pub mod Steps
 pub mod Unstored

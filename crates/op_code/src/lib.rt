@@ -25,9 +25,9 @@
 //! The code makes the lists of the definition by adding to those that there are: what is read, the statement and what
 //! is stored go behind a body, and locals behind the variables, whose count is the next one's number. Each function
 //! adds a whole of the definition, an operand, a pair of them, an output or an op, so that its contract is the
-//! definition's name and one append. A range's variable is found in a table, made once for all ops
-//! (`specs/Numbers.antt`). A further operation is a case of `op_made`, of the form in `specs/Form.antt`, of
-//! `proofs/Ops.antt` and of `src/statements.rt`.
+//! definition's name and one append. The variables that a range is made of are found in a table of where their ranges
+//! begin, made once for all ops (`specs/Numbers.antt`), by a look-up for each byte of the range. A further operation is
+//! a case of `op_made`, of the form in `specs/Form.antt`, of `proofs/Ops.antt` and of `src/statements.rt`.
 #![tactic(auto)]
 
 mod covers;

@@ -1,11 +1,12 @@
 //! What is assigned to outputs.
 
-ghost use Rattle.std.specs.Prelude.{◌≡◌, ◌≤◌, ◌^◌, ◌++◌, [], length, OnOk};
+ghost use Rattle.std.specs.Prelude.{◌≡◌, ◌≤◌, ◌^◌, ◌++◌, [], length, IfOk, OnOk};
 ghost use Rattle.pcode_model.specs.declared.listing.SpaceKind.TheVariants.{Ram, Register};
-ghost use Rattle.op_code.specs.Made.{set_by, sets};
+ghost use Rattle.op_code.specs.Made.{local_for, set_by, sets};
 ghost use Rattle.op_code.specs.Sources.{set_to};
+ghost use Rattle.op_code.specs.Words.{target_by};
 
-use crate::covers::cover;
+use crate::covers::{Piece, cover};
 use crate::locals::new_local;
 use crate::memory::{direct_address, is_big, space_name};
 use crate::table::Table;
@@ -74,6 +75,19 @@ fn set_memory(
     Ok(())
 }
 
+/// The variable that a word is assigned to for these variables: the only one, or a local of so many bytes.
+fn target(variables: &mut Variables, pieces: &[Piece], range: Varnode) -> Result<u32, Memory>
+    requires few { length variables.old ≤ 2 ^ 32 }
+    ensures number { IfOk result (λ n. n ≡ target_by (length variables.old) pieces.now) }
+    ensures locals { OnOk result (variables.new ≡ variables.old ++ local_for pieces.now range) }
+    ensures few { OnOk result (length variables.new ≤ 2 ^ 32) }
+{
+    match pieces {
+        [piece] => Ok(piece.variable),
+        _ => new_local(variables, range.size),
+    }
+}
+
 /// Sets a range: its variable, or variables by a local that holds their word.
 fn set_range(
     alloc: Global,
@@ -90,14 +104,10 @@ fn set_range(
     ensures few { OnOk result (length variables.new ≤ 2 ^ 32) }
 {
     let pieces = cover(alloc, table, out)?;
-    if let [piece] = pieces.as_slice() {
-        body.push(statement(source, piece.variable))?;
-        return Ok(());
-    }
-    let local = new_local(variables, out.size)?;
-    body.push(statement(source, local))?;
+    let target = target(variables, &pieces, out)?;
+    body.push(statement(source, target))?;
     let big = is_big(listing, u64::from(out.space));
-    assign_parts(alloc, big, body, out, local, pieces.as_slice())
+    assign_parts(alloc, big, body, out, target, &pieces)
 }
 
 /// Sets an output, where there is one.

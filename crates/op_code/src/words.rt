@@ -2,7 +2,7 @@
 
 ghost use Rattle.std.specs.Prelude.{◌≡◌, ◌++◌, IfOk, OnOk, map};
 ghost use Rattle.op_code.specs.Made.{range_word as word_of_range};
-ghost use Rattle.op_code.specs.Words.{assigns_part, bytes_below as below_of, joined as joined_of};
+ghost use Rattle.op_code.specs.Words.{assigns_part, bytes_below as below_of, joined as joined_of, parts_by};
 
 use crate::covers::{Piece, cover};
 use crate::memory::is_big;
@@ -78,8 +78,7 @@ fn part_assigned(
     })
 }
 
-/// Assigns to variables their parts of the word that a local holds for a range.
-pub(crate) fn assign_parts(
+fn assign_each(
     alloc: Global,
     big: bool,
     body: &mut Body,
@@ -93,4 +92,22 @@ pub(crate) fn assign_parts(
         body.push(part_assigned(alloc, big, range, local, *piece)?)?;
     }
     Ok(())
+}
+
+/// Assigns to variables their parts of the word that a local holds for a range. One has been written itself.
+#[tactic(auto, using(crate::proofs::Settled::parts_are))]
+pub(crate) fn assign_parts(
+    alloc: Global,
+    big: bool,
+    body: &mut Body,
+    range: Varnode,
+    local: u32,
+    pieces: &[Piece],
+) -> Result<(), Memory>
+    ensures { OnOk result (body.new ≡ body.old ++ parts_by big range local pieces.now) }
+{
+    if pieces.len() == 1 {
+        return Ok(());
+    }
+    assign_each(alloc, big, body, range, local, pieces)
 }
