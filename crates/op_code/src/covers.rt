@@ -10,9 +10,9 @@ use std::alloc::Global;
 
 /// A variable, and the range that it stands for.
 #[derive(Clone, Copy)]
-pub(crate) struct Piece {
-    pub(crate) variable: u32,
-    pub(crate) range: Varnode,
+pub struct Piece {
+    pub variable: u32,
+    pub range: Varnode,
 }
 
 /// The variables whose ranges begin in a range, by rising offset.

@@ -39,6 +39,7 @@ mod statements;
 mod table;
 mod words;
 
+pub use covers::Piece;
 pub use reads::read;
 pub use statements::add_op;
 pub use table::Table;
