@@ -7,7 +7,6 @@ use Rattle.pcode_model.specs.declared.listing.SpaceKind.TheVariants.{Constant, R
 use Rattle.pcode_model.specs.declared.listing.Varnode.{Varnode}
 use Rattle.pcode_model.specs.declared.listing.Listing.{Listing}
 use Rattle.pcode_model.specs.Spaces.{kind_of}
-use Rattle.pcode_model.specs.Flow.{IsIn}
 use Rattle.pcode_model.specs.Memory.{Acts, Bytes, Frame}
 use Rattle.pcode_model.specs.World.{unless_over}
 use Rattle.pcode_model.specs.Step.{State, all_read, local_word, read_all, read_varnode, with_first, word_in_bytes}
@@ -16,17 +15,18 @@ use Rattle.pcode_laws.proofs.Puts.{put_at, put_else}
 use Rattle.range_words.specs.Ranges.{Holds}
 use Rattle.range_words.proofs.Variables.{local_word_below, word_below}
 use Rattle.cmeaning.specs.declared.tree.Expr.{Expr}
-use Rattle.cmeaning.specs.declared.tree.Expr.TheVariants as E
 use Rattle.cmeaning.specs.declared.tree.Stmt.{Stmt}
 use Rattle.cmeaning.specs.declared.tree.Stmt.TheVariants as S
 use Rattle.cmeaning.specs.Do.{Local, assigned, do_simple}
 use Rattle.cmeaning.proofs.Value.{width_of_var, value_of_var}
 use Rattle.blockcode.proofs.Straight.{run_all}
 use Rattle.op_values.proofs.Means.{Means, constant_means, nearest_is}
-use Rattle.op_code.specs.Made.{address_of, name_of, read_by, read_one, reads, variable_of}
+use Rattle.op_code.specs.Cover.{HasCover}
+use Rattle.op_code.specs.Made.{address_of, name_of, range_word, read_by, read_one, reads}
 use Rattle.op_code.specs.Form.{IsDirect, IsNarrow, IsOperand, IsOperandBy}
 use Rattle.op_code.proofs.Access.{direct_points, load_runs, read_is}
-use Rattle.op_code.proofs.Sees.{AreWide, Sees, Setting, found, sees_local, wide_back, wide_front}
+use Rattle.op_code.proofs.Reading.{read_means}
+use Rattle.op_code.proofs.Sees.{AreWide, Sees, Setting, sees_local, wide_back, wide_front}
 
 -- statements one behind another
 pub run_append : (l : Listing) (ws : ℕ → ℕ) (returns : List Stmt → Bool) (xs ys : List Stmt) (x : Local)
@@ -110,17 +110,14 @@ module _
     pub goes : (x : Local) → Sees l ranges look s x → x.world.over ≡ None
     goes x sees = ap (λ w. w.over) (sym sees.world) ∙ go
 
-    pub variable_has : (v : Varnode) (env : ℕ → Option ℕ)
+    -- what stands for a range has its word
+    pub range_has : (v : Varnode) (env : ℕ → Option ℕ)
         → IsNarrow v
-        → IsIn v ranges
+        → HasCover ranges v
         → Holds l ranges s.local env
-        → Means ws env (E.Var (variable_of ranges v)) v.size (local_word l v s.local)
-    variable_has v env narrow h holds =
-        let at = found ranges v h in
-        record {
-          width = width_of_var ws (variable_of ranges v) ∙ set.widths (variable_of ranges v) v at narrow;
-          value = value_of_var ws env (variable_of ranges v) ∙ holds (variable_of ranges v) v at;
-        }
+        → Means ws env (range_word l ranges v) v.size (local_word l v s.local)
+    range_has v env narrow h holds =
+        read_means l ranges set.table ws set.widths s.local env holds v h narrow.0 narrow.1
 
     -- a direct range of memory is loaded to a local
     loads_by : (n : ℕ) (v : Varnode) (x : Local)
@@ -182,7 +179,7 @@ module _
       has = λ env holds agree. record {
         below = local_word_below l v s.local sees.bytes;
         read = refl;
-        means = variable_has v env narrow h holds;
+        means = range_has v env narrow h holds;
       };
       sees = sees;
       kept = λ j lt. refl;
@@ -192,7 +189,7 @@ module _
       has = λ env holds agree. record {
         below = local_word_below l v s.local sees.bytes;
         read = refl;
-        means = variable_has v env narrow h holds;
+        means = range_has v env narrow h holds;
       };
       sees = sees;
       kept = λ j lt. refl;

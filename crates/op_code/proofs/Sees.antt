@@ -1,12 +1,10 @@
 -- The state of a code's run beside that of the listing's.
-use Rattle.std.proofs.Common.{◌≡◌, ℕ, suc, ◌+◌, ◌≤◌, Bool, true, false, List, [], ◌∷◌, ◌++◌, length, Some, None, refl, sym, ap, ◌∙◌, subst, arith, ⊎_elim}
-use Rattle.std.specs.Prelude.{slice_get, cond}
-use Rattle.std.proofs.lemmas.Bool.Decides.{nat_tests}
+use Rattle.std.proofs.Common.{◌≡◌, ℕ, suc, ◌+◌, ◌≤◌, List, [], ◌∷◌, ◌++◌, length, Some, None, sym, subst, arith}
+use Rattle.std.specs.Prelude.{slice_get}
 use Rattle.std.proofs.lemmas.Option.{slice_get_past}
 use Rattle.pcode_model.specs.declared.listing.Varnode.{Varnode}
 use Rattle.pcode_model.specs.declared.listing.Place.{Place}
 use Rattle.pcode_model.specs.declared.listing.Listing.{Listing}
-use Rattle.pcode_model.specs.Flow.{IsIn}
 use Rattle.pcode_model.specs.Memory.{Bytes}
 use Rattle.pcode_model.specs.Step.{State}
 use Rattle.pcode_laws.specs.AsBytes.{seen_over}
@@ -15,7 +13,6 @@ use Rattle.range_words.proofs.Variables.{holds_other}
 use Rattle.cmeaning.specs.Do.{Local, assigned}
 use Rattle.blockcode.specs.declared.code.Variable.{Variable}
 use Rattle.op_code.specs.Form.{IsNarrow}
-use Rattle.op_code.specs.Made.{same_range, variable_of}
 
 -- The worlds are the same over what is seen of memory, and the variables of ranges hold the ranges' words.
 pub record Sees {M : Type 0} (l : Listing) (ranges : List Varnode) (look : M → Bytes) (s : State M) (x : Local) : Type
@@ -54,35 +51,6 @@ wide_back ws n (x ∷ xs) ys h =
     let e : n + suc (length xs) ≡ suc n + length xs = omega arith in
     let P : ℕ → Type 0 = λ k. AreWide ws k ys in
     subst P (sym e) (wide_back ws (suc n) xs ys h.1)
-
--- ---- the variable of a range
-
-same_by : (a v : Varnode) → same_range a v ≡ true → a ≡ v
-same_by a v t =
-    let s : a.space ≡ v.space = grind (arith, nat_tests) in
-    let o : a.offset ≡ v.offset = grind (arith, nat_tests) in
-    let k : a.size ≡ v.size = grind (arith, nat_tests) in
-    ap (λ (x : ℕ). let r : Varnode = record { space = x; offset = a.offset; size = a.size } in r) s
-    ∙ ap (λ (x : ℕ). let r : Varnode = record { space = v.space; offset = x; size = a.size } in r) o
-    ∙ ap (λ (x : ℕ). let r : Varnode = record { space = v.space; offset = v.offset; size = x } in r) k
-
-same_self : (v : Varnode) → same_range v v ≡ true
-same_self v = grind (arith, nat_tests)
-
-found_at : (t : Bool) (a v : Varnode) (rest : List Varnode)
-    → same_range a v ≡ t
-    → (IsIn v rest → slice_get rest (variable_of rest v) ≡ Some v)
-    → IsIn v (a ∷ rest)
-    → slice_get (a ∷ rest) (cond t 0 (suc (variable_of rest v))) ≡ Some v
-found_at true a v rest is later h = ap (λ x. Some x) (same_by a v is)
-found_at false a v rest is later h = ⊎_elim
-    (λ (same : v ≡ a). let s : same_range a v ≡ true = ap (λ x. same_range x v) (sym same) ∙ same_self v in absurd (cc))
-    later h
-
--- The variable of a range stands for that range.
-pub found : (ranges : List Varnode) (v : Varnode) → IsIn v ranges → slice_get ranges (variable_of ranges v) ≡ Some v
-found [] v h = absurd h
-found (a ∷ rest) v h = found_at (same_range a v) a v rest refl (found rest v) h
 
 -- a local is assigned
 pub sees_local : {M : Type 0} (l : Listing) (ranges : List Varnode) (look : M → Bytes) (s : State M) (x : Local)

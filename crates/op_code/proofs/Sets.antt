@@ -1,5 +1,6 @@
--- An output is set: its variable is assigned, or a local that is stored then.
-use Rattle.std.proofs.Common.{◌≡◌, ℕ, ◌<◌, ◌≤◌, Bool, List, [], ◌∷◌, length, Some, None, refl, sym, ap, ◌∙◌, subst}
+-- An output is set: its variable is assigned, or a local that is stored or written to several variables then.
+use Rattle.std.proofs.Common.{◌≡◌, ℕ, ◌+◌, ◌<◌, ◌≤◌, Bool, List, [], ◌∷◌, length, Some, None, refl, sym, ap, ◌∙◌, subst, arith}
+use Rattle.std.proofs.lemmas.Option.{slice_get_past}
 use Rattle.machine.specs.Trace.{End}
 use Rattle.bits_core.specs.Value.{limit}
 use Rattle.pcode_model.specs.declared.listing.SpaceKind.{SpaceKind}
@@ -7,13 +8,13 @@ use Rattle.pcode_model.specs.declared.listing.SpaceKind.TheVariants.{Constant, R
 use Rattle.pcode_model.specs.declared.listing.Varnode.{Varnode}
 use Rattle.pcode_model.specs.declared.listing.Place.{Place}
 use Rattle.pcode_model.specs.declared.listing.Listing.{Listing}
-use Rattle.pcode_model.specs.Flow.{IsIn}
+use Rattle.pcode_model.specs.Spaces.{is_big}
 use Rattle.pcode_model.specs.Memory.{Acts, Bytes, plain}
 use Rattle.pcode_model.specs.World.{ended, store}
 use Rattle.pcode_model.specs.Step.{State, bytes_in, in_world, moved, with_word, write_varnode}
 use Rattle.pcode_laws.specs.AsBytes.{AsBytes}
 use Rattle.pcode_laws.proofs.Puts.{put_at}
-use Rattle.range_words.proofs.Variables.{bytes_written, holds_written}
+use Rattle.range_words.proofs.Variables.{bytes_written}
 use Rattle.cmeaning.specs.declared.tree.Expr.TheVariants as E
 use Rattle.cmeaning.specs.declared.tree.Stmt.{Stmt}
 use Rattle.cmeaning.specs.declared.tree.Stmt.TheVariants as S
@@ -22,11 +23,14 @@ use Rattle.cmeaning.specs.Do as code
 use Rattle.cmeaning.proofs.Value.{width_of_var, value_of_var}
 use Rattle.blockcode.proofs.Straight.{run_all, run_over}
 use Rattle.op_values.proofs.Means.{Means, nearest_is}
-use Rattle.op_code.specs.Made.{address_of, name_of, set_by, variable_of}
+use Rattle.op_code.specs.Cover.{HasCover, IsRow, Piece, cover}
+use Rattle.op_code.specs.Words.{target, target_by, write_range}
+use Rattle.op_code.specs.Made.{address_of, local_for, name_of, set_by}
 use Rattle.op_code.specs.Form.{IsDirect, IsNarrow, IsOutputBy}
 use Rattle.op_code.proofs.Access.{direct_points, store_meets, store_runs}
 use Rattle.op_code.proofs.Operands.{run_one}
-use Rattle.op_code.proofs.Sees.{AreWide, Meets, Sees, Setting, found, sees_local}
+use Rattle.op_code.proofs.Sees.{AreWide, Meets, Sees, Setting, sees_local}
+use Rattle.op_code.proofs.Writing.{write_wrote}
 
 -- The statement assigns this word to any variable of so many bytes.
 abbrev pub Makes : Listing → (ℕ → ℕ) → (ℕ → Stmt) → (k n : ℕ) → Local → Type 0
@@ -53,25 +57,43 @@ module _
     (returns : List Stmt → Bool)
     (make : ℕ → Stmt)
   where
-    -- a range that is a variable's
-    local_meets : (z : Varnode) (n : ℕ)
+    -- the variable that is assigned for a range has the range's width
+    target_wide : (t : ℕ) (z : Varnode)
         → IsNarrow z
-        → IsIn z ranges
+        → (ps : List Piece)
+        → IsRow ranges z.space z.offset ps (z.offset + z.size)
+        → AreWide ws t (local_for ps z)
+        → ws (target_by t ps) ≡ z.size
+    target_wide t z narrow [] row wide = wide.0 ∙ nearest_is z.size narrow.0 narrow.1
+    target_wide t z narrow (p ∷ []) row wide =
+        let size : p.range.size ≡ z.size = omega (arith, row.1) in
+        set.widths p.variable p.range row.0.listed (row.0.some, omega (arith, size, narrow.1)) ∙ size
+    target_wide t z narrow (p ∷ q ∷ ps) row wide = wide.0 ∙ nearest_is z.size narrow.0 narrow.1
+
+    -- a range of variables
+    range_meets : (t : ℕ) (z : Varnode) (n : ℕ)
+        → IsNarrow z
+        → HasCover ranges z
         → n < limit z.size
+        → length ranges ≤ t
+        → AreWide ws t (local_for (cover ranges z) z)
         → Makes l ws make z.size n x
         → (let there : State M = record { at = next; local = with_word l z n s.local; world = s.world } in
-        Meets l ranges look next there (run_all l ws returns (make (variable_of ranges z) ∷ []) x))
-    local_meets z n narrow h below makes =
-        let v = variable_of ranges z in
-        let at = found ranges z h in
+        Meets l ranges look next there
+        (run_all l ws returns (make (target ranges t z) ∷ write_range (is_big l z.space) ranges z t) x))
+    range_meets t z n narrow h below behind wide makes =
+        let v = target ranges t z in
+        let parts = write_range (is_big l z.space) ranges z t in
         let there : State M = record { at = next; local = with_word l z n s.local; world = s.world } in
-        let ran = run_one l ws returns (make v) [] x (assigned v n x) go
-        (makes v (λ c. returns []) (set.widths v z at narrow)) in
+        let width = target_wide t z narrow (cover ranges z) h wide in
+        let ran = run_one l ws returns (make v) parts x (assigned v n x) go (makes v (λ c. returns parts) width) in
+        let wrote = write_wrote l ranges set.table ws returns z narrow.0 narrow.1 n below t s.local x h
+        (slice_get_past ranges t behind) width sees.holds go in
         let P : Local → Type 0 = λ y. Meets l ranges look next there y in
         subst P (sym ran) (record {
           sees = record {
-            world = sees.world;
-            holds = holds_written l ranges set.table v z at n below s.local x.env sees.holds;
+            world = sees.world ∙ sym wrote.world;
+            holds = wrote.holds;
             bytes = bytes_written l z n s.local sees.bytes;
             memory = sees.memory;
           };
@@ -119,8 +141,8 @@ module _
     set_meets Constant t z n narrow h below behind wide makes = absurd h
     set_meets Ram t z n narrow h below behind wide makes =
         memory_meets t z n narrow h behind (wide.0 ∙ nearest_is z.size narrow.0 narrow.1) makes
-    set_meets Register t z n narrow h below behind wide makes = local_meets z n narrow h below makes
-    set_meets Unique t z n narrow h below behind wide makes = local_meets z n narrow h below makes
+    set_meets Register t z n narrow h below behind wide makes = range_meets t z n narrow h below behind wide makes
+    set_meets Unique t z n narrow h below behind wide makes = range_meets t z n narrow h below behind wide makes
 
     ended_meets : (e : End) → Meets l ranges look next (in_world (ended e s.world) s) (ends e x)
     ended_meets e = record {
@@ -142,13 +164,20 @@ module _
         let P : Local → Type 0 = λ y. Meets l ranges look next (in_world (ended e s.world) s) y in
         subst P (sym ran) (ended_meets e)
 
+    range_fails : (t : ℕ) (z : Varnode) (e : End)
+        → Fails l ws make e x
+        → Meets l ranges look next (in_world (ended e s.world) s)
+        (run_all l ws returns (make (target ranges t z) ∷ write_range (is_big l z.space) ranges z t) x)
+    range_fails t z e fails =
+        fails_first e (target ranges t z) (write_range (is_big l z.space) ranges z t) fails
+
     -- Both end before an output is written.
     pub fail_meets : (k : SpaceKind) (t : ℕ) (z : Varnode) (e : End)
         → Fails l ws make e x
         → Meets l ranges look next (in_world (ended e s.world) s)
         (run_all l ws returns (set_by k l ranges t z make).statements x)
-    fail_meets Constant t z e fails = fails_first e (variable_of ranges z) [] fails
+    fail_meets Constant t z e fails = range_fails t z e fails
     fail_meets Ram t z e fails =
         fails_first e t (S.Store (name_of l z.space) (address_of l z) (E.Var t) ∷ []) fails
-    fail_meets Register t z e fails = fails_first e (variable_of ranges z) [] fails
-    fail_meets Unique t z e fails = fails_first e (variable_of ranges z) [] fails
+    fail_meets Register t z e fails = range_fails t z e fails
+    fail_meets Unique t z e fails = range_fails t z e fails

@@ -16,7 +16,8 @@ use Rattle.pcode_model.specs.Spaces.{kind_of}
 use Rattle.pcode_model.specs.Step.{varnode_at}
 use Rattle.blockcode.specs.declared.code.Exit.TheVariants as X
 use Rattle.blockcode.specs.declared.code.Variable.{Variable}
-use Rattle.op_code.specs.Made.{ReadOne, locals_by, op_made, read_by, read_one, reads}
+use Rattle.op_code.specs.Cover.{Piece, cover}
+use Rattle.op_code.specs.Made.{ReadOne, local_for, locals_by, op_made, read_by, read_one, reads}
 use Rattle.op_code.specs.Lowered.{block_made, blocks_made, condition_in, directly, made_in, place_made, places_made, tests, way_out}
 
 abbrev pub AreUnstored : List Variable → Type 0
@@ -42,20 +43,25 @@ module _ (l : Listing) (ranges : List Varnode) where
       unstored_append one.locals (reads l ranges free vs).locals (read_unstored (kind_of l v.space) next v)
       (reads_unstored free vs)
 
-  output_unstored : (k : SpaceKind) (z : Varnode) → AreUnstored (locals_by k z)
-  output_unstored Constant z = tt
+  local_unstored : (ps : List Piece) (z : Varnode) → AreUnstored (local_for ps z)
+  local_unstored [] z = (refl, tt)
+  local_unstored (p ∷ []) z = tt
+  local_unstored (p ∷ q ∷ ps) z = (refl, tt)
+
+  output_unstored : (k : SpaceKind) (z : Varnode) → AreUnstored (locals_by k ranges z)
+  output_unstored Constant z = local_unstored (cover ranges z) z
   output_unstored Ram z = (refl, tt)
-  output_unstored Register z = tt
-  output_unstored Unique z = tt
+  output_unstored Register z = local_unstored (cover ranges z) z
+  output_unstored Unique z = local_unstored (cover ranges z) z
 
   -- what is read alone, and with an output
   alone : (next : ℕ) (vs : List Varnode) → AreUnstored ((reads l ranges next vs).locals ++ [])
   alone next vs = unstored_append (reads l ranges next vs).locals [] (reads_unstored next vs) tt
 
   with_output : (next : ℕ) (vs : List Varnode) (z : Varnode)
-      → AreUnstored ((reads l ranges next vs).locals ++ locals_by (kind_of l z.space) z)
+      → AreUnstored ((reads l ranges next vs).locals ++ locals_by (kind_of l z.space) ranges z)
   with_output next vs z =
-      unstored_append (reads l ranges next vs).locals (locals_by (kind_of l z.space) z) (reads_unstored next vs)
+      unstored_append (reads l ranges next vs).locals (locals_by (kind_of l z.space) ranges z) (reads_unstored next vs)
       (output_unstored (kind_of l z.space) z)
 
   op_unstored : (next : ℕ) (code : Opcode) (out : Option Varnode) (vs : List Varnode)

@@ -9,10 +9,10 @@ use Rattle.pcode_model.specs.declared.listing.Varnode.{Varnode}
 use Rattle.pcode_model.specs.declared.listing.Listing.{Listing}
 use Rattle.pcode_model.specs.declared.opcode.Opcode.{Opcode}
 use Rattle.pcode_model.specs.declared.opcode.Opcode.TheVariants as O
-use Rattle.pcode_model.specs.Flow.{IsIn}
 use Rattle.pcode_model.specs.Spaces.{kind_of, size_of, word_size}
 use Rattle.pcode_model.specs.Step.{proto_of}
 use Rattle.cmeaning.specs.Do.{accessed}
+use Rattle.op_code.specs.Cover.{HasCover}
 use Rattle.op_code.specs.Made.{name_of, offset_bytes}
 
 -- A ram space: a statement names it, and its offsets and words are of so many bytes.
@@ -33,20 +33,20 @@ IsDirect l v = IsMemory l v.space × (v.offset < size_of l v.space)
 abbrev pub IsOperandBy : SpaceKind → Listing → List Varnode → Varnode → Type 0
 IsOperandBy Constant l ranges v = v.offset < limit v.size
 IsOperandBy Ram l ranges v = IsDirect l v
-IsOperandBy Register l ranges v = IsIn v ranges
-IsOperandBy Unique l ranges v = IsIn v ranges
+IsOperandBy Register l ranges v = HasCover ranges v
+IsOperandBy Unique l ranges v = HasCover ranges v
 
--- a constant, a direct range of memory, or a range that is a variable's
+-- a constant, a direct range of memory, or a range of variables
 abbrev pub IsOperand : Listing → List Varnode → Varnode → Type 0
 IsOperand l ranges v = IsNarrow v × IsOperandBy (kind_of l v.space) l ranges v
 
 abbrev pub IsOutputBy : SpaceKind → Listing → List Varnode → Varnode → Type 0
 IsOutputBy Constant l ranges v = ⊥
 IsOutputBy Ram l ranges v = IsDirect l v
-IsOutputBy Register l ranges v = IsIn v ranges
-IsOutputBy Unique l ranges v = IsIn v ranges
+IsOutputBy Register l ranges v = HasCover ranges v
+IsOutputBy Unique l ranges v = HasCover ranges v
 
--- a direct range of memory, or a range that is a variable's
+-- a direct range of memory, or a range of variables
 abbrev pub IsOutput : Listing → List Varnode → Varnode → Type 0
 IsOutput l ranges v = IsNarrow v × IsOutputBy (kind_of l v.space) l ranges v
 
@@ -55,12 +55,12 @@ abbrev pub IsSecond : Listing → Binary → Varnode → Type 0
 IsSecond l B.Subpiece v = kind_of l v.space ≡ Constant
 IsSecond l op v = Unit {0}
 
--- the result of a function is a range that is a variable's
+-- the result of a function is a range of variables
 abbrev pub IsLocalBy : SpaceKind → List Varnode → Varnode → Type 0
 IsLocalBy Constant ranges v = ⊥
 IsLocalBy Ram ranges v = ⊥
-IsLocalBy Register ranges v = IsIn v ranges
-IsLocalBy Unique ranges v = IsIn v ranges
+IsLocalBy Register ranges v = HasCover ranges v
+IsLocalBy Unique ranges v = HasCover ranges v
 
 abbrev pub IsResult : Listing → List Varnode → Option Varnode → Type 0
 IsResult l ranges None = Unit {0}

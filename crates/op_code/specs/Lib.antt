@@ -1,4 +1,8 @@
 pub mod Form
+pub mod Cover
+pub mod Words
+pub mod Ranges
+pub mod WorkedCovers
 pub mod Made
 pub mod Sources
 pub mod Numbers
@@ -6,3 +10,4 @@ pub mod Lowered
 pub mod Lowerable
 pub mod Worked
 pub mod WorkedBlocks
+pub mod WorkedSeveral

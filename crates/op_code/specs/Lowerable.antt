@@ -34,8 +34,8 @@ AreNarrow (a ∷ rest) = (IsLocalStorage a.storage × ((0 < a.size) × (a.size �
 abbrev pub IsUnframed : Frame → Type 0
 IsUnframed f = (p : Place) (n : ℕ) → f.own p n ≡ None
 
--- What is asked of a listing with its blocks and its atoms: what stands at each reached place is of the form, and each
--- range that is accessed is an atom, within its space and apart from the others.
+-- What is asked of a listing with its blocks and its atoms: what stands at each reached place is of the form, so that
+-- each range that is accessed is a whole number of atoms, and these lie within their spaces and apart from each other.
 pub record IsLowerable (l : Listing) (t : List TableAt) (blocks : List Block) (atoms : List Atom) : Type 0 where
   pub flow : IsFlow l t blocks
   pub few : length blocks < 2 ^ 32 - 1

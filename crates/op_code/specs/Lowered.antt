@@ -16,7 +16,6 @@ use Rattle.pcode_model.specs.Places.{Standing, Nothing, Passes, Does, standing}
 use Rattle.pcode_model.specs.Step.{first_place, proto_of, varnode_at}
 use Rattle.pcode_model.specs.Flow.{starts_of}
 use Rattle.cmeaning.specs.declared.tree.Expr.{Expr}
-use Rattle.cmeaning.specs.declared.tree.Expr.TheVariants as E
 use Rattle.cmeaning.specs.declared.tree.Stmt.{Stmt}
 use Rattle.blockcode.specs.declared.code.Variable.{Variable}
 use Rattle.blockcode.specs.declared.code.Exit.{Exit}
@@ -24,7 +23,7 @@ use Rattle.blockcode.specs.declared.code.Exit.TheVariants as X
 use Rattle.blockcode.specs.declared.code.Block.{Block}
 use Rattle.blockcode.specs.declared.code.Code.{Code}
 use Rattle.op_values.specs.Nodes.{constant, width_by}
-use Rattle.op_code.specs.Made.{Made, ReadOne, nothing, op_made, read_one, variable_of}
+use Rattle.op_code.specs.Made.{Made, ReadOne, nothing, op_made, range_word, read_one}
 
 -- ---- variables
 
@@ -68,13 +67,13 @@ directly e = record { loads = []; exit = e; locals = [] }
 abbrev pub tests : ReadOne → ℕ → ℕ → WayOut
 tests c taken other = record { loads = c.loads; exit = X.Test c.word taken other; locals = c.locals }
 
-abbrev pub result_in : List Varnode → Option Varnode → Option Expr
-result_in ranges None = None
-result_in ranges (Some v) = Some (E.Var (variable_of ranges v))
+abbrev pub result_in : Listing → List Varnode → Option Varnode → Option Expr
+result_in l ranges None = None
+result_in l ranges (Some v) = Some (range_word l ranges v)
 
 -- the function's result, where its prototype has one
 abbrev pub result : Listing → List Varnode → Option Expr
-result l ranges = result_in ranges (proto_of l None).gives
+result l ranges = result_in l ranges (proto_of l None).gives
 
 abbrev pub condition_in : Listing → List Varnode → ℕ → Standing → ReadOne
 condition_in l ranges next Nothing = record { loads = []; word = constant 1 0; locals = [] }

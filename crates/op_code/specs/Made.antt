@@ -1,6 +1,6 @@
 -- What stands for an op: its statements, and the locals that they need, numbered behind the variables that there are.
 -- Both come by one definition, so that there are as many locals as the statements name. This project's own.
-use Rattle.std.specs.Prelude.{ℕ, suc, ◌+◌, ◌==◌, ◌&&◌, Bool, false, if◌then◌else◌, List, [], ◌∷◌, ◌++◌, length, slice_get, Option, Some, None}
+use Rattle.std.specs.Prelude.{ℕ, suc, ◌+◌, ◌==◌, Bool, false, if◌then◌else◌, List, [], ◌∷◌, ◌++◌, length, slice_get, Option, Some, None}
 use Rattle.std.specs.List.{slice_index_or}
 use Rattle.bits_core.specs.declared.ops.Divide.{Divide}
 use Rattle.pcode_model.specs.declared.listing.Space.{Space}
@@ -10,24 +10,22 @@ use Rattle.pcode_model.specs.declared.listing.Varnode.{Varnode}
 use Rattle.pcode_model.specs.declared.listing.Listing.{Listing}
 use Rattle.pcode_model.specs.declared.opcode.Opcode.{Opcode}
 use Rattle.pcode_model.specs.declared.opcode.Opcode.TheVariants as O
-use Rattle.pcode_model.specs.Spaces.{first_ram, kind_of, offset_bytes_in, word_size}
+use Rattle.pcode_model.specs.Spaces.{first_ram, is_big, kind_of, offset_bytes_in, word_size}
 use Rattle.pcode_model.specs.Step.{size_out, varnode_at}
 use Rattle.cmeaning.specs.declared.tree.Expr.{Expr}
 use Rattle.cmeaning.specs.declared.tree.Expr.TheVariants as E
 use Rattle.cmeaning.specs.declared.tree.Stmt.{Stmt}
 use Rattle.cmeaning.specs.declared.tree.Stmt.TheVariants as S
 use Rattle.blockcode.specs.declared.code.Variable.{Variable}
+use Rattle.op_code.specs.Cover.{Piece, cover}
+use Rattle.op_code.specs.Words.{read_range, target, write_range}
 use Rattle.op_values.specs.Nodes.{address_node, binary_node, constant, divides_by, division_node, nearest, statement_of, unary_node, width_by}
 
 -- ---- ranges and their variables
 
-abbrev pub same_range : Varnode → Varnode → Bool
-same_range v w = v.space == w.space && (v.offset == w.offset && v.size == w.size)
-
--- the number of the variable that stands for a range
-abbrev pub variable_of : List Varnode → Varnode → ℕ
-variable_of [] v = 0
-variable_of (a ∷ rest) v = if same_range a v then 0 else suc (variable_of rest v)
+-- the word of a range of the register space or the unique space
+abbrev pub range_word : Listing → List Varnode → Varnode → Expr
+range_word l ranges v = read_range (is_big l v.space) ranges v
 
 -- a variable of so many bytes that is no parameter
 abbrev pub local_of : ℕ → Variable
@@ -66,7 +64,7 @@ pub record ReadOne : Type 0 where
   pub word : Expr
   pub locals : List Variable
 
--- A constant, the variable of a range, or a local that a direct range of memory is loaded to.
+-- A constant, the word of a range, or a local that a direct range of memory is loaded to.
 abbrev pub read_by : SpaceKind → Listing → List Varnode → ℕ → Varnode → ReadOne
 read_by Constant l ranges next v = record { loads = []; word = constant v.size v.offset; locals = [] }
 read_by Ram l ranges next v = record {
@@ -74,8 +72,8 @@ read_by Ram l ranges next v = record {
   word = E.Var next;
   locals = local_of v.size ∷ [];
 }
-read_by Register l ranges next v = record { loads = []; word = E.Var (variable_of ranges v); locals = [] }
-read_by Unique l ranges next v = record { loads = []; word = E.Var (variable_of ranges v); locals = [] }
+read_by Register l ranges next v = record { loads = []; word = range_word l ranges v; locals = [] }
+read_by Unique l ranges next v = record { loads = []; word = range_word l ranges v; locals = [] }
 
 abbrev pub read_one : Listing → List Varnode → ℕ → Varnode → ReadOne
 read_one l ranges next v = read_by (kind_of l v.space) l ranges next v
@@ -112,22 +110,27 @@ nothing = record { statements = []; locals = [] }
 -- the variable that an output's word is assigned to: the range's own, or the next local
 abbrev pub target_by : SpaceKind → List Varnode → ℕ → Varnode → ℕ
 target_by Ram ranges next z = next
-target_by k ranges next z = variable_of ranges z
+target_by k ranges next z = target ranges next z
 
--- what follows: a local of memory is stored
-abbrev pub settle_by : SpaceKind → Listing → ℕ → Varnode → List Stmt
-settle_by Ram l next z = S.Store (name_of l z.space) (address_of l z) (E.Var next) ∷ []
-settle_by k l next z = []
+-- what follows: a local of memory is stored, and variables are assigned the parts of a local of theirs
+abbrev pub settle_by : SpaceKind → Listing → List Varnode → ℕ → Varnode → List Stmt
+settle_by Ram l ranges next z = S.Store (name_of l z.space) (address_of l z) (E.Var next) ∷ []
+settle_by k l ranges next z = write_range (is_big l z.space) ranges z next
 
-abbrev pub locals_by : SpaceKind → Varnode → List Variable
-locals_by Ram z = local_of z.size ∷ []
-locals_by k z = []
+-- one variable is assigned without a local
+abbrev pub local_for : List Piece → Varnode → List Variable
+local_for (p ∷ []) z = []
+local_for ps z = local_of z.size ∷ []
+
+abbrev pub locals_by : SpaceKind → List Varnode → Varnode → List Variable
+locals_by Ram ranges z = local_of z.size ∷ []
+locals_by k ranges z = local_for (cover ranges z) z
 
 -- an output, by the statement that sets a variable
 abbrev pub set_by : SpaceKind → Listing → List Varnode → ℕ → Varnode → (ℕ → Stmt) → Made
 set_by k l ranges next z make = record {
-  statements = make (target_by k ranges next z) ∷ settle_by k l next z;
-  locals = locals_by k z;
+  statements = make (target_by k ranges next z) ∷ settle_by k l ranges next z;
+  locals = locals_by k ranges z;
 }
 
 abbrev pub sets : Listing → List Varnode → ℕ → Option Varnode → (ℕ → Stmt) → Made

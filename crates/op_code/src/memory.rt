@@ -1,8 +1,8 @@
-//! Where memory is accessed.
+//! What is known of spaces, and where memory is accessed.
 
 ghost use Rattle.std.specs.Prelude.{◌≡◌, IfOk, slice_get};
 ghost use Rattle.std.specs.Option.{option_copied};
-ghost use Rattle.pcode_model.specs.Spaces.{word_size as word_size_of};
+ghost use Rattle.pcode_model.specs.Spaces.{is_big as is_big_in, word_size as word_size_of};
 ghost use Rattle.op_code.specs.Made.{address as address_in, address_of, name_of, offset_bytes as offset_bytes_of};
 
 use bits_core::Memory;
@@ -16,6 +16,16 @@ fn space(listing: &Listing, number: u64) -> Option<&Space>
     ensures { option_copied result ≡ slice_get listing.now.spaces number }
 {
     listing.spaces.get(number as usize)
+}
+
+/// Whether the byte at a word's offset is its most significant one.
+pub(crate) fn is_big(listing: &Listing, number: u64) -> bool
+    ensures { result ≡ is_big_in listing.now number }
+{
+    match space(listing, number) {
+        Some(space) => space.big,
+        None => false,
+    }
 }
 
 /// A ram space by its name, and the first one without.

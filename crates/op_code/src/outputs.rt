@@ -1,13 +1,16 @@
 //! What is assigned to outputs.
 
-ghost use Rattle.std.specs.Prelude.{◌≡◌, ◌≤◌, ◌^◌, ◌++◌, [], length, OnOk};
-ghost use Rattle.pcode_model.specs.declared.listing.SpaceKind.TheVariants.{Ram};
-ghost use Rattle.op_code.specs.Made.{set_by, sets};
+ghost use Rattle.std.specs.Prelude.{◌≡◌, ◌≤◌, ◌^◌, ◌++◌, [], length, IfOk, OnOk};
+ghost use Rattle.pcode_model.specs.declared.listing.SpaceKind.TheVariants.{Ram, Register};
+ghost use Rattle.op_code.specs.Made.{local_for, set_by, sets};
 ghost use Rattle.op_code.specs.Sources.{set_to};
+ghost use Rattle.op_code.specs.Words.{target_by};
 
+use crate::covers::{Piece, cover};
 use crate::locals::new_local;
-use crate::memory::{direct_address, space_name};
+use crate::memory::{direct_address, is_big, space_name};
 use crate::table::Table;
+use crate::words::assign_parts;
 use bits_core::Memory;
 use blockcode::Variables;
 use cmeaning::{Body, Expr, StatementDivision, Stmt};
@@ -72,6 +75,41 @@ fn set_memory(
     Ok(())
 }
 
+/// The variable that a word is assigned to for these variables: the only one, or a local of so many bytes.
+fn target(variables: &mut Variables, pieces: &[Piece], range: Varnode) -> Result<u32, Memory>
+    requires few { length variables.old ≤ 2 ^ 32 }
+    ensures number { IfOk result (λ n. n ≡ target_by (length variables.old) pieces.now) }
+    ensures locals { OnOk result (variables.new ≡ variables.old ++ local_for pieces.now range) }
+    ensures few { OnOk result (length variables.new ≤ 2 ^ 32) }
+{
+    match pieces {
+        [piece] => Ok(piece.variable),
+        _ => new_local(variables, range.size),
+    }
+}
+
+/// Sets a range: its variable, or variables by a local that holds their word.
+fn set_range(
+    alloc: Global,
+    listing: &Listing,
+    table: &Table,
+    variables: &mut Variables,
+    body: &mut Body,
+    out: Varnode,
+    source: Source,
+) -> Result<(), Memory>
+    requires few { length variables.old ≤ 2 ^ 32 }
+    ensures statements { OnOk result (body.new ≡ body.old ++ (set_by Register listing.now table.now (length variables.old) out (set_to source)).statements) }
+    ensures locals { OnOk result (variables.new ≡ variables.old ++ (set_by Register listing.now table.now (length variables.old) out (set_to source)).locals) }
+    ensures few { OnOk result (length variables.new ≤ 2 ^ 32) }
+{
+    let pieces = cover(alloc, table, out)?;
+    let target = target(variables, &pieces, out)?;
+    body.push(statement(source, target))?;
+    let big = is_big(listing, u64::from(out.space));
+    assign_parts(alloc, big, body, out, target, &pieces)
+}
+
 /// Sets an output, where there is one.
 pub(crate) fn set(
     alloc: Global,
@@ -93,8 +131,7 @@ pub(crate) fn set(
     match listing.space_kind(range.space) {
         SpaceKind::Ram => set_memory(alloc, listing, variables, body, range, source),
         SpaceKind::Constant | SpaceKind::Register | SpaceKind::Unique => {
-            body.push(statement(source, table.variable(range)))?;
-            Ok(())
+            set_range(alloc, listing, table, variables, body, range, source)
         }
     }
 }

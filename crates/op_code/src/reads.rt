@@ -7,6 +7,7 @@ ghost use Rattle.op_code.specs.Made.{both_read, one_read, read_by, read_one, wor
 use crate::locals::new_local;
 use crate::memory::{direct_address, space_name};
 use crate::table::Table;
+use crate::words::range_word;
 use bits_core::Memory;
 use blockcode::Variables;
 use cmeaning::{Body, Expr, Stmt};
@@ -55,7 +56,7 @@ pub fn read(
     match listing.space_kind(range.space) {
         SpaceKind::Constant => Ok(constant(range.size, range.offset)),
         SpaceKind::Ram => load(alloc, listing, variables, body, range),
-        SpaceKind::Register | SpaceKind::Unique => Ok(Expr::Var(table.variable(range))),
+        SpaceKind::Register | SpaceKind::Unique => range_word(alloc, listing, table, range),
     }
 }
 

@@ -1,10 +1,11 @@
-//! The variables that stand for ranges, by a table.
+//! The variables that stand for ranges, by a table of where these begin.
 
 ghost use Rattle.std.specs.Prelude.{◌≡◌, ◌<◌, ◌^◌, ◌∷◌, ◌++◌, [], List, length, IfOk, OnOk};
 ghost use Rattle.pcode_model.specs.declared.listing.Varnode.{Varnode as Range};
-ghost use Rattle.op_code.specs.Made.{variable_of};
+ghost use Rattle.op_code.specs.Cover.{pieces_at};
 ghost use Rattle.op_code.specs.Numbers.{key_of, HasNumbers};
 
+use crate::covers::Piece;
 use bits_core::Memory;
 use pcode_model::Varnode;
 use sqlite_items::Items;
@@ -16,32 +17,33 @@ use std::marker::Model;
 #[derive(Drop)]
 pub struct Table {
     ranges: Items<Varnode>,
-    /// Where each range is listed first.
-    numbers: BTreeMap<(u8, (u64, u32)), u32>,
+    /// The first variable whose range begins at an offset of a space. Offsets have 128 bits, so that no walk along a
+    /// range goes past the last one.
+    numbers: BTreeMap<(u8, u128), u32>,
 }
 
 impl Model for Table {
     ghost use Rattle.std.specs.Prelude.{List};
     ghost use Rattle.pcode_model.specs.declared.listing.Varnode.{Varnode as Listed};
-    ghost use Rattle.op_code.specs.Numbers.{IsNumbering};
+    ghost use Rattle.op_code.specs.Numbers.{HasNumbers as HaveNumbers};
 
     ghost Value = { List Listed };
 
     ghost view = { λ t. t.ranges };
 
-    ghost invariant = { λ t. IsNumbering t.ranges t.numbers };
+    ghost invariant = { λ t. HaveNumbers t.ranges t.numbers };
 }
 
-fn key(range: Varnode) -> (u8, (u64, u32))
+fn key(range: Varnode) -> (u8, u128)
     ensures { result ≡ key_of range }
 {
-    (range.space, (range.offset, range.size))
+    (range.space, u128::from(range.offset))
 }
 
 /// Gives a key the number behind those that are listed, unless it has one.
 fn add_number(
-    numbers: &mut BTreeMap<(u8, (u64, u32)), u32>,
-    key: (u8, (u64, u32)),
+    numbers: &mut BTreeMap<(u8, u128), u32>,
+    key: (u8, u128),
     number: u32,
 ) -> Result<(), AllocError>
     ensures { (listed : List Range) (v : Range) → HasNumbers listed numbers.old → key_of v ≡ key → number ≡ length listed → OnOk result (HasNumbers (listed ++ v ∷ []) numbers.new) }
@@ -70,13 +72,25 @@ impl Table {
         })
     }
 
-    /// The number of the variable that stands for a range, or the number of ranges where none does.
-    pub fn variable(&self, range: Varnode) -> u32
-        ensures { result ≡ variable_of self.now range }
+    /// Adds the first variable whose range begins at an offset of a space, where there is one.
+    pub(crate) fn add_piece(
+        &self,
+        space: u8,
+        offset: u128,
+        pieces: &mut Vec<Piece>,
+    ) -> Result<(), Memory>
+        ensures { OnOk result (pieces.new.items ≡ pieces.old.items ++ pieces_at self.now space offset) }
     {
-        match self.numbers.get(&key(range)) {
-            Some(number) => *number,
-            None => self.ranges.len() as u32,
-        }
+        let Some(number) = self.numbers.get(&(space, offset)) else {
+            return Ok(());
+        };
+        let Some(range) = self.ranges.get(*number as usize) else {
+            return Ok(());
+        };
+        pieces.push(Piece {
+            variable: *number,
+            range: *range,
+        })?;
+        Ok(())
     }
 }

@@ -19,3 +19,4 @@ pub use address::address_node;
 pub use division::{divides_by, division_node, statement_of};
 pub use nodes::{constant, width_by};
 pub use operation::{binary_node, unary_node};
+pub use part::part_node;

@@ -34,7 +34,7 @@ fn over(alloc: Global, from: Width, dropped: u8, bytes: u32, e: Expr) -> Result<
 }
 
 /// So many bytes of an expression behind those that are dropped; zeros stand past its top.
-pub(crate) fn part_node(
+pub fn part_node(
     alloc: Global,
     from: Width,
     dropped: u64,

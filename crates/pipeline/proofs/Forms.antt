@@ -1,60 +1,56 @@
 -- What the tests of a listing give the passes.
-use Rattle.std.proofs.Common.{◌≡◌, ◌≤◌, ◌<◌, ◌+◌, ◌^◌, ℕ, List, [], ◌∷◌, Option, None, length, refl, ap, ◌∙◌, inl, inr, subst, sym, arith}
+use Rattle.std.proofs.Common.{◌≡◌, ◌≤◌, ◌<◌, ◌-◌, ◌^◌, ℕ, true, List, [], Option, None, length, refl, ap, ◌∙◌, subst, sym, arith}
 use Rattle.bits_core.specs.declared.word.Width.{Width}
 use Rattle.pcode_model.specs.declared.atoms.Atom.{Atom}
 use Rattle.pcode_model.specs.declared.flow.Block.{Block}
 use Rattle.pcode_model.specs.declared.listing.Listing.{Listing}
-use Rattle.pcode_model.specs.declared.listing.Varnode.{Varnode}
 use Rattle.pcode_model.specs.Atoms.{AreAtoms}
-use Rattle.pcode_model.specs.Flow.{IsFlow, IsIn, NoFault}
-use Rattle.pcode_model.specs.Frame.{IsFrameOf, NoStackPointer, frame_of, no_variables}
-use Rattle.pcode_model.specs.Limits.{max_blocks}
+use Rattle.pcode_model.specs.Flow.{IsFlow, NoFault}
+use Rattle.pcode_model.specs.Frame.{NoStackPointer, no_variables}
+use Rattle.pcode_model.specs.Limits.{max_atoms, max_blocks}
 use Rattle.pcode_model.specs.Rules.{first_bad}
+use Rattle.pcode_model.specs.Spaces.{first_ram}
 use Rattle.pcode_model.specs.WellFormed.{IsWellFormed}
-use Rattle.supported.specs.Ranges.{AllInSpace, named_ranges}
 use Rattle.supported.specs.Supported.{IsSupported}
 use Rattle.flow.specs.Answer.{IsFlowFault}
 use Rattle.flow.specs.declared.answer.FlowFault.{FlowFault}
 use Rattle.flow.specs.declared.answer.FlowFault.TheVariants as F
-use Rattle.stackvars.specs.Accessed as listed
-use Rattle.stackvars.specs.Accessed.{AreAccessed}
-use Rattle.stackvars.specs.declared.accessed.AtomFault.{AtomFault}
-use Rattle.stackvars.specs.declared.accessed.AtomFault.TheVariants as A
-use Rattle.stackvars.proofs.Coarsest.{accessed_are_atoms}
+use Rattle.stackvars.specs.Cuts as cuts
+use Rattle.stackvars.specs.declared.fault.AtomFault.{AtomFault}
+use Rattle.stackvars.specs.declared.fault.AtomFault.TheVariants as A
 use Rattle.refusals.specs.Good.{HasFewBlocks, IsGood}
 use Rattle.refusals.specs.Refused.{of_atoms, of_flow}
 use Rattle.refusals.specs.declared.refusal.Refusal.{Refusal}
 use Rattle.refusals.specs.declared.refusal.Refusal.TheVariants as R
 use Rattle.refusals.proofs.Blocks.{few_starts}
 use Rattle.cmeaning.specs.declared.tree.CFunction.{CFunction}
+use Rattle.cmeaning.specs.Fits.{Fits}
+use Rattle.cmeaning.specs.Valid.{IsValid}
 use Rattle.ctext.specs.Text.{text_of}
 use Rattle.naming.specs.declared.head.Head.{Head}
+use Rattle.naming.specs.Covered.{IsCovered}
 use Rattle.blockcode.specs.declared.code.Code.{Code}
+use Rattle.blockcode.specs.Laid.{laid_body}
 use Rattle.layout.specs.Function.{head_of, laid_out}
-use Rattle.plaincode.specs.Form as code
-use Rattle.plaincode.specs.Lowered.{lowered, result_width}
-use Rattle.plain_valid.specs.Function.{plain_function}
-use Rattle.plain_valid.proofs.Fit.{plain_fits}
+use Rattle.op_code.specs.Lowerable as code
+use Rattle.op_code.specs.Lowered.{lowered, ranges_of, result_width}
+use Rattle.plain_valid.specs.Function.{plain_function, plain_head}
+use Rattle.plain_valid.specs.Long.{AreLong}
+use Rattle.plain_valid.proofs.Fit.{plain_body_fits, plain_params_fit}
+use Rattle.plain_valid.proofs.Laying.{blocks_length, can_lay}
 use Rattle.plain_valid.proofs.Long.{atoms_long}
 use Rattle.plain_valid.proofs.Signature.{plain_inputs}
-use Rattle.plain_valid.proofs.Valid.{plain_valid}
-use Rattle.plain_form.proofs.Accessed.{accessed_inside}
+use Rattle.plain_valid.proofs.Suits.{plain_suits}
+use Rattle.plain_valid.proofs.Valid.{few_declared, params_right}
+use Rattle.layout_laws.proofs.Fits.{laid_fits}
+use Rattle.layout_laws.proofs.Obeys.{laid_valid}
+use Rattle.plain_form.proofs.Accessed.{accessed_low}
 use Rattle.plain_form.proofs.Form.{plain_form}
-use Rattle.plain_form.proofs.Formed.{Inside}
+use Rattle.plain_form.proofs.Spaces.{space_some}
 use Rattle.pipeline.specs.Passed.{Lowers}
-use Rattle.pipeline.specs.PlainForm.{IsPlainForm}
 use Rattle.pipeline.specs.Verdict.{Accepts, IsCause, MayPrint, Stops}
-use Rattle.plain_form.proofs.Read.{formed_is}
-use Rattle.pipeline.proofs.Formed.{gives_is, uncut}
+use Rattle.pipeline.proofs.Formed.{gives_is}
 use Rattle.pipeline.proofs.Keeps as keeps
-
-all_in_space : (l : Listing) (vs : List Varnode) → ((v : Varnode) → IsIn v vs → Inside l v) → AllInSpace vs
-all_in_space l [] h = tt
-all_in_space l (v ∷ vs) h = let i = h v (inl refl) in ((i.some, i.low), all_in_space l vs (λ w is. h w (inr is)))
-
--- Each range that a listing names has a byte, and none past the greatest offset of a space.
-pub named_in_space : (l : Listing) → IsWellFormed l → first_bad l ≡ None → AllInSpace (named_ranges l)
-named_in_space l read good = all_in_space l (named_ranges l) (formed_is l read good).ranges
 
 -- ---- the function
 
@@ -68,35 +64,71 @@ module _
     (fine : NoFault l [])
     (few : length blocks ≤ max_blocks)
     (atoms : List Atom)
-    (are : AreAccessed l atoms)
+    (are : AreAtoms l [] no_variables atoms)
   where
     form : code.IsLowerable l [] blocks atoms
-    form = plain_form l good built (formed_is l read good) blocks flow fine few atoms are
+    form = plain_form l read good built blocks flow fine few atoms are
 
-    are_atoms : AreAtoms l [] no_variables atoms
-    are_atoms = accessed_are_atoms l atoms (uncut l read good built) are.listed
+    abbrev made : Code
+    made = lowered l blocks atoms
 
-    few_variables : length atoms ≤ 2 ^ 32
-    few_variables = omega (arith, are.few)
+    abbrev head : Head
+    head = plain_head l made
 
-    -- All that is said of the function of the plain lowering.
-    pub lowers : Lowers l (plain_function l blocks atoms)
-    lowers = record {
-      valid = plain_valid l [] blocks atoms form are.listed.in_order
-          (atoms_long l [] atoms are_atoms (λ v acc. (accessed_inside l built (formed_is l read good) v acc).low))
-          few_variables read.named.func;
-      fits = plain_fits l [] blocks atoms form few_variables;
-      agrees = keeps.agrees l (frame_of l no_variables) [] blocks atoms form few_variables;
-      form = record {
-        name = refl;
-        gives = gives_is l read good;
-        params = (atoms, (are_atoms, plain_inputs l [] blocks atoms form));
-      };
-    }
+    long : AreLong atoms
+    long = atoms_long l [] atoms are (accessed_low l read good built)
+
+    module _ (small : length made.variables ≤ 2 ^ 32) where
+      covered : IsCovered head (laid_body made)
+      covered = keeps.plain_covered l [] blocks atoms form built.stack (space_some l (first_ram l)) small read.named.spaces
+
+      valid : IsValid (plain_function l blocks atoms)
+      valid = laid_valid head made
+          (can_lay l [] blocks atoms (λ a. true) form small).numbers
+          (plain_suits l [] blocks atoms form small read.named.spaces)
+          (few_declared l blocks atoms small)
+          read.named.func
+          (params_right l blocks atoms long are.in_order)
+          refl
+
+      fits : Fits l (plain_function l blocks atoms)
+      fits = laid_fits l head made covered
+          (plain_params_fit l [] blocks atoms form)
+          (plain_body_fits l [] blocks atoms form small)
+
+      -- All that is said of the function of the plain lowering.
+      pub lowers : Lowers l (plain_function l blocks atoms)
+      lowers = record {
+        valid = valid;
+        fits = fits;
+        agrees = keeps.agrees l [] blocks atoms form built.stack (space_some l (first_ram l)) small read.named.spaces;
+        form = record {
+          name = refl;
+          gives = gives_is l read good;
+          params = (atoms, (are, plain_inputs l [] blocks atoms form));
+        };
+      }
 
 -- The same of a function that is this one.
 pub lowers_to : (l : Listing) (f g : CFunction) → f ≡ g → Lowers l g → Lowers l f
 lowers_to l f g is h = subst (λ (x : CFunction). Lowers l x) (sym is) h
+
+-- as many variables as the code that was made
+pub few_made : (l : Listing) (blocks : List Block) (atoms : List Atom) (k : Code)
+    → k ≡ lowered l blocks atoms
+    → length k.variables ≤ 2 ^ 32
+    → length (lowered l blocks atoms).variables ≤ 2 ^ 32
+few_made l blocks atoms k is few = subst (λ (x : Code). length x.variables ≤ 2 ^ 32) is few
+
+-- as many blocks as the flow has
+pub few_blocks_made : (l : Listing) (blocks : List Block) (atoms : List Atom) (k : Code)
+    → k ≡ lowered l blocks atoms
+    → length blocks ≤ max_blocks
+    → length k.blocks < 2 ^ 32 - 1
+few_blocks_made l blocks atoms k is few =
+    let made : length k.blocks ≡ length (lowered l blocks atoms).blocks = ap (λ (x : Code). length x.blocks) is in
+    let same = blocks_length l (ranges_of l atoms) (length atoms) blocks in
+    omega (arith, few, made, same)
 
 -- the laid out function, by its parts
 pub laid_is : (l : Listing) (blocks : List Block) (atoms : List Atom) (name : List ℕ) (gives : Option Width)
@@ -134,11 +166,6 @@ may_print bytes text l f accepted lowers is = record {
 
 -- ---- the verdict
 
-pub few_atoms : (l : Listing) (atoms : List Atom)
-    → AreAccessed l atoms
-    → (n : ℕ) × (listed.AccessesSoMany l n × (n ≤ 1024))
-few_atoms l atoms are = (length atoms, ((atoms, (are.listed, refl)), are.few))
-
 pub accepts : (bytes : List ℕ) (l : Listing)
     → IsGood bytes l
     → IsSupported l
@@ -147,14 +174,15 @@ pub accepts : (bytes : List ℕ) (l : Listing)
     → NoFault l []
     → length blocks ≤ max_blocks
     → (atoms : List Atom)
-    → AreAccessed l atoms
+    → AreAtoms l [] no_variables atoms
+    → length atoms ≤ max_atoms
     → Accepts bytes l
-accepts bytes l good built blocks flow fine few atoms are = record {
+accepts bytes l good built blocks flow fine few atoms are so_few = record {
   good = good;
   built = built;
   flow = fine;
   blocks = few_starts l blocks flow few;
-  atoms = few_atoms l atoms are;
+  atoms = (length atoms, ((atoms, (are, refl)), so_few));
 }
 
 -- ---- faults
@@ -171,7 +199,7 @@ flow_stops l F.Memory h = tt
 pub atoms_stops : (l : Listing) (fault : AtomFault)
     → NoFault l []
     → HasFewBlocks l
-    → listed.IsCause l fault
+    → cuts.IsCause l fault
     → Stops l (of_atoms fault)
 atoms_stops l (A.TooManyAtoms n) fine few h = (fine, (few, h))
 atoms_stops l A.Memory fine few h = tt

@@ -1,85 +1,90 @@
 -- The C function of the plain lowering agrees with the listing: the links of the chain, one behind another.
-use Rattle.std.proofs.Common.{◌≡◌, ◌≢◌, ◌≤◌, ◌^◌, ℕ, Bool, true, false, List, length, Option, Some, None, refl, sym, ap, ◌∙◌, subst}
+use Rattle.std.proofs.Common.{◌≡◌, ◌≢◌, ◌<◌, ◌≤◌, ◌^◌, ℕ, Bool, true, false, List, length, Option, Some, None, refl, sym, ap, ◌∙◌, subst, arith}
 use Rattle.std.specs.Prelude.{Result, Ok, Err}
+use Rattle.std.specs.List.{AllByRecursion}
 use Rattle.machine.specs.Trace.{End, Returned, ReadOnlyWrite, Outside, BadTarget, Undefined, Trace}
-use Rattle.machine.specs.TwoWay.{TwoWay, NeverEnds, bare, bare_end, seen_as}
-use Rattle.machine.proofs.TwoWay.{two_way_trans, two_way_as, never_ends_along, events_along}
+use Rattle.machine.specs.TwoWay.{NeverEnds, bare, bare_end, seen_as}
+use Rattle.machine.specs.Agree.{Agree}
+use Rattle.machine.proofs.Agree.{agree_along}
+use Rattle.machine.proofs.TwoWay.{two_way_as, never_ends_along}
 use Rattle.pcode_model.specs.declared.atoms.Atom.{Atom}
 use Rattle.pcode_model.specs.declared.flow.Block.{Block}
 use Rattle.pcode_model.specs.declared.listing.Listing.{Listing}
 use Rattle.pcode_model.specs.declared.listing.Varnode.{Varnode}
 use Rattle.pcode_model.specs.declared.tables.TableAt.{TableAt}
-use Rattle.pcode_model.specs.Spaces.{is_fixed, is_some}
+use Rattle.pcode_model.specs.Frame.{frame_of, no_variables}
+use Rattle.pcode_model.specs.Spaces.{first_ram, is_fixed, is_some, size_of}
 use Rattle.pcode_model.specs.Memory.{Bytes, Frame, Layout, any_fixed, any_framed, any_hidden, is_framed, unless, whole}
+use Rattle.pcode_model.specs.WellFormed.{IsNamedSpace}
 use Rattle.pcode_model.specs.World.{Entry, IsEntry}
-use Rattle.pcode_model.specs.Step.{first_whole, layout as layout_of, proto_of, result_of, seen_p, start}
+use Rattle.pcode_model.specs.Step.{first_whole, layout as layout_of, proto_of, result_of, seen_p, stack0, stack_word, start}
 use Rattle.pcode_laws.proofs.Ends.{Allows, ends_within}
 use Rattle.cmeaning.specs.Agree.{AgreesWith}
 use Rattle.cmeaning.specs.Step.{seen_c}
 use Rattle.naming.specs.Run.{returns_of}
-use Rattle.blockcode.specs.Run.{seen_code}
+use Rattle.naming.specs.Covered.{IsCovered}
+use Rattle.blockcode.specs.declared.code.Code.{Code}
 use Rattle.blockcode.specs.CanLay.{has_switch}
+use Rattle.blockcode.specs.Laid.{laid_body}
+use Rattle.blockcode.specs.Run.{seen_code}
+use Rattle.layout_laws.proofs.Covered.{laid_covered}
 use Rattle.layout_laws.proofs.Keeps as layout
-use Rattle.plaincode.specs.Lowered.{lowered, result_width, width_of_result}
+use Rattle.op_code.specs.Lowered.{lowered, result_width, width_of_result}
+use Rattle.op_code.specs.Lowerable.{IsLowerable}
+use Rattle.plain_laws.proofs.Agrees as lowering
 use Rattle.plain_valid.specs.Function.{plain_head, plain_function}
-use Rattle.plaincode.specs.Form.{IsLowerable}
-use Rattle.plaincode.proofs.Laying.{can_lay, no_switch}
-use Rattle.plaincode.proofs.Keeps as lowering
-use Rattle.plain_valid.proofs.Valid.{plain_covered, plain_declares}
+use Rattle.plain_valid.proofs.Laying.{can_lay, no_switch}
+use Rattle.plain_valid.proofs.Suits.{plain_suits}
+use Rattle.plain_valid.proofs.Valid.{few_declared, plain_declares}
 
--- ---- how the run of the listing may end
+-- ---- returns without a word
 
-ends_unless : {A : Type 0} (Q : End → Type 0) (b : Bool) (d : End) (r : Result A End) (e : End)
-    → Q d
-    → ((e : End) → r ≡ Err e → Q e)
+-- not the end of a return with this word
+abbrev IsOther : ℕ → End → Type 0
+IsOther w e = e ≢ Returned (Some w)
+
+ends_unless : {A : Type 0} (w : ℕ) (b : Bool) (d : End) (r : Result A End) (e : End)
+    → IsOther w d
+    → ((e : End) → r ≡ Err e → IsOther w e)
     → unless b d r ≡ Err e
-    → Q e
-ends_unless Q true d r e q h f = let s : d ≡ e = cc in subst Q s q
-ends_unless Q false d r e q h f = h e f
+    → IsOther w e
+ends_unless w true d r e q h f = let s : d ≡ e = cc in subst (IsOther w) s q
+ends_unless w false d r e q h f = h e f
 
-ok_never : {A : Type 0} (Q : End → Type 0) (x : A) (e : End) → Ok x ≡ Err e → Q e
-ok_never Q x e f = absurd (cc)
+ok_never : {A : Type 0} (w : ℕ) (x : A) (e : End) → Ok x ≡ Err e → IsOther w e
+ok_never w x e f = absurd (cc)
 
--- what holds of these ends holds of every end that the p-code run comes to
-allows : (y : Layout) (l : Listing) (Q : End → Type 0) → Q Outside → Q ReadOnlyWrite
-    → ((e : End) → (e ≢ Undefined) → ((w : Option ℕ) → e ≢ Returned w) → Q e)
-    → ((b : Bytes) → Q (Returned (result_of l b (proto_of l None).gives)))
-    → Allows (whole y) l Q
-allows y l Q outside fixed others returned = record {
-  div_zero = others _ (λ e. absurd (cc)) (λ w e. absurd (cc));
-  no_return = others _ (λ e. absurd (cc)) (λ w e. absurd (cc));
-  bad_target = others _ (λ e. absurd (cc)) (λ w e. absurd (cc));
-  no_answer = others _ (λ e. absurd (cc)) (λ w e. absurd (cc));
-  returned = returned;
-  read = λ s a k w e f. ends_unless Q (any_framed y s a k) Outside _ e outside
-      (λ e g. ends_unless Q (any_hidden y.listing w s a k) Outside _ e outside (ok_never Q _) g) f;
-  write = λ s a bs w e f. ends_unless Q (any_framed y s a (length bs)) Outside _ e outside
-      (λ e g. ends_unless Q (any_fixed y.listing s a (length bs)) ReadOnlyWrite _ e fixed (ok_never Q _) g) f;
-  read_own = λ a c k w e f. ends_unless Q _ Outside _ e outside (ok_never Q _) f;
-  answer = λ x w e f. ends_unless Q (is_framed y x.space x.offset) Outside _ e outside
-      (λ e g. ends_unless Q (is_fixed y.listing x.space x.offset) ReadOnlyWrite _ e fixed (ok_never Q _) g) f;
-}
-
--- The p-code run never ends Undefined.
-pub never_undefined : (l : Listing) (f : Frame) (e : Entry) → NeverEnds Undefined (seen_p l f e)
-never_undefined l f e n over =
-    let Q : End → Type 0 = λ d. d ≢ Undefined in
-    let h = allows (layout_of l f e) l Q (λ d. absurd (cc)) (λ d. absurd (cc)) (λ d a b. a) (λ b d. absurd (cc)) in
-    ends_within (whole (layout_of l f e)) l f Q h (start l e (first_whole e)) refl n Undefined over refl
-
--- It returns a word only where the prototype has a result
+-- The p-code run returns a word only where the prototype has a result.
 pub never_word : (l : Listing) (f : Frame) (e : Entry) (w : ℕ)
     → (proto_of l None).gives ≡ None
     → NeverEnds (Returned (Some w)) (seen_p l f e)
 never_word l f e w none n over =
-    let Q : End → Type 0 = λ d. d ≢ Returned (Some w) in
-    let returned : (b : Bytes) → Q (Returned (result_of l b (proto_of l None).gives)) =
-    λ b d. let g : Returned (result_of l b (proto_of l None).gives) ≡ Returned None =
-    ap (λ o. Returned (result_of l b o)) none in absurd (cc) in
-    let h = allows (layout_of l f e) l Q (λ d. absurd (cc)) (λ d. absurd (cc)) (λ d a b. b (Some w)) returned in
-    ends_within (whole (layout_of l f e)) l f Q h (start l e (first_whole e)) refl n (Returned (Some w)) over refl
+    ends_within (whole (layout_of l f e)) l f (IsOther w) allows (start l e (first_whole e)) refl n (Returned (Some w)) over refl
+  where
+    outside : IsOther w Outside
+    outside d = absurd (cc)
 
--- ---- agreement
+    fixed : IsOther w ReadOnlyWrite
+    fixed d = absurd (cc)
+
+    allows : Allows (whole (layout_of l f e)) l (IsOther w)
+    allows = record {
+      div_zero = λ d. absurd (cc);
+      no_return = λ d. absurd (cc);
+      bad_target = λ d. absurd (cc);
+      no_answer = λ d. absurd (cc);
+      returned = λ b d.
+          let g : Returned (result_of l b (proto_of l None).gives) ≡ Returned None =
+          ap (λ o. Returned (result_of l b o)) none in
+          absurd (cc);
+      read = λ s a k v d h. ends_unless w (any_framed (layout_of l f e) s a k) Outside _ d outside
+          (λ d g. ends_unless w (any_hidden l v s a k) Outside _ d outside (ok_never w _) g) h;
+      write = λ s a bs v d h. ends_unless w (any_framed (layout_of l f e) s a (length bs)) Outside _ d outside
+          (λ d g. ends_unless w (any_fixed l s a (length bs)) ReadOnlyWrite _ d fixed (ok_never w _) g) h;
+      read_own = λ a c k v d h. ends_unless w _ Outside _ d outside (ok_never w _) h;
+      answer = λ x v d h. ends_unless w (is_framed (layout_of l f e) x.space x.offset) Outside _ d outside
+          (λ d g. ends_unless w (is_fixed l x.space x.offset) ReadOnlyWrite _ d fixed (ok_never w _) g) h;
+    }
 
 wordless_end : (o : Option End) → ((w : ℕ) → o ≢ Some (Returned (Some w))) → bare_end o ≡ o
 wordless_end None h = refl
@@ -91,50 +96,64 @@ wordless : (r : ℕ → Trace) → ((w : ℕ) → NeverEnds (Returned (Some w)) 
 wordless r h n = ap (λ o. let t : Trace = record { events = (r n).events; over = o } in t)
     (wordless_end (r n).over (λ w e. h w n e))
 
-drops : (gives : Option Varnode) (l : Listing) (s : ℕ → Trace)
-    → ((w : ℕ) → gives ≡ None → NeverEnds (Returned (Some w)) s)
-    → (n : ℕ)
-    → seen_as (is_some (width_of_result gives)) (s n) ≡ s n
-drops None l s h n = wordless s (λ w. h w refl) n
-drops (Some v) l s h n = refl
+-- Agreement with a run that returns no words where the listing's doesn't is agreement where words are dropped.
+without_words : (gives : Option Varnode) (source target : ℕ → Trace)
+    → ((w : ℕ) → gives ≡ None → NeverEnds (Returned (Some w)) source)
+    → Agree true source target
+    → Agree (is_some (width_of_result gives)) source target
+without_words (Some v) source target h agree = agree
+without_words None source target h agree = record {
+  same = λ never.
+      let both = agree.same never in
+      two_way_as false source target both
+      (wordless target (λ w. never_ends_along (Returned (Some w)) source target both (h w refl)));
+  until = agree.until;
+  defined = agree.defined;
+}
 
 -- ---- the chain
 
+-- a listing without a `stack` line has a stack pointer of 0
+low_stack : (l : Listing) (e : Entry)
+    → l.stack ≡ None
+    → 0 < size_of l (first_ram l)
+    → stack0 l e < size_of l (first_ram l)
+low_stack l e none some =
+    let is : stack0 l e ≡ 0 = ap (λ o. stack_word l o e.bytes) none in
+    omega (arith, is, some)
+
 module _
     (l : Listing)
-    (f : Frame)
     (t : List TableAt)
     (blocks : List Block)
     (atoms : List Atom)
     (form : IsLowerable l t blocks atoms)
-    (few : length atoms ≤ 2 ^ 32)
+    (none : l.stack ≡ None)
+    (some : 0 < size_of l (first_ram l))
+    (few : length (lowered l blocks atoms).variables ≤ 2 ^ 32)
+    (named : AllByRecursion IsNamedSpace l.spaces)
   where
+    abbrev code : Code
+    code = lowered l blocks atoms
+
+    -- The head of the plain lowering covers its body.
+    pub plain_covered : IsCovered (plain_head l code) (laid_body code)
+    plain_covered = laid_covered (plain_head l code) code (few_declared l blocks atoms few)
+        (can_lay l t blocks atoms (λ a. true) form few).numbers.few (plain_suits l t blocks atoms form few named)
+
     -- no run of this code meets a switch
-    never_switches : (e : Entry)
-        → has_switch (lowered l blocks atoms) ≡ true
-        → NeverEnds BadTarget (seen_code l (lowered l blocks atoms) e)
+    never_switches : (e : Entry) → has_switch code ≡ true → NeverEnds BadTarget (seen_code l code e)
     never_switches e has = let no : true ≡ false = sym has ∙ no_switch l blocks atoms in absurd (cc)
 
-    -- the listing, the code of the plain lowering, its C function
-    chain : (e : Entry) → IsEntry l e → TwoWay (seen_p l f e) (seen_c l (plain_function l blocks atoms) e)
-    chain e entry =
-        let k = lowered l blocks atoms in
-        let h = plain_head l k in
-        two_way_trans (seen_p l f e) (seen_code l k e) (seen_c l (plain_function l blocks atoms) e)
-        (lowering.keeps (whole (layout_of l f e)) (λ w. w.bytes) l f t blocks atoms e (first_whole e) form entry refl)
-        (layout.function_keeps l h k e (can_lay (returns_of h) l t blocks atoms form) (plain_declares l blocks atoms)
-        (plain_covered l t blocks atoms form few) (never_switches e))
-
-    -- For every entry the listing's run, with any frame, agrees with the run of the C function.
-    pub agrees : AgreesWith l f (plain_function l blocks atoms)
+    -- For every entry the run of a listing without a `stack` line agrees with the run of the C function: the listing and
+    -- the code of its plain lowering, that code and the body that it is laid out as, that body and the named function.
+    pub agrees : AgreesWith l (frame_of l no_variables) (plain_function l blocks atoms)
     agrees e entry =
-        let p = seen_p l f e in
+        let p = seen_p l (frame_of l no_variables) e in
         let c = seen_c l (plain_function l blocks atoms) e in
-        let both = chain e entry in
-        let word : (w : ℕ) → (proto_of l None).gives ≡ None → NeverEnds (Returned (Some w)) c =
-        λ w none. never_ends_along (Returned (Some w)) p c both (never_word l f e w none) in
-        record {
-          same = λ never. two_way_as (is_some (result_width l)) p c both (drops (proto_of l None).gives l c word);
-          until = λ n over. events_along p c both n;
-          defined = never_ends_along Undefined p c both (never_undefined l f e);
-        }
+        let h = plain_head l code in
+        let laid = layout.function_keeps l h code e (can_lay l t blocks atoms (returns_of h) form few)
+        (plain_declares l blocks atoms) plain_covered (never_switches e) in
+        let lowers = lowering.code_agrees l t blocks atoms form e entry (low_stack l e none some) in
+        without_words (proto_of l None).gives p c (λ w none. never_word l (frame_of l no_variables) e w none)
+        (agree_along true p (seen_code l code e) c lowers laid)

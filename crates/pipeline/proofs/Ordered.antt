@@ -7,7 +7,7 @@ use Rattle.pcode_model.specs.declared.storage.ParamStorage.TheVariants as P
 use Rattle.pcode_model.specs.Atoms.{InOrder, StandsBefore}
 use Rattle.pcode_model.specs.Flow.{IsBefore, IsIn, Rising}
 use Rattle.std.proofs.lemmas.Int.{ints}
-use Rattle.plain_form.proofs.Form.{before_trans}
+use Rattle.plain_form.proofs.Table.{before_trans}
 use Rattle.flow.proofs.Order.{before_trans as before_place, not_before}
 
 -- each member stands before the next one

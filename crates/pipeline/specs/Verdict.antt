@@ -11,8 +11,9 @@ use Rattle.pcodetext.specs.Meaning.{Good, Bad, reading}
 use Rattle.supported.specs.Supported.{IsSupported}
 use Rattle.flow.specs.Answer.{IsFlowFault}
 use Rattle.flow.specs.declared.answer.FlowFault.TheVariants as flow
-use Rattle.stackvars.specs.Accessed as accessed
-use Rattle.stackvars.specs.declared.accessed.AtomFault.TheVariants as atoms
+use Rattle.stackvars.specs.Cuts as cuts
+use Rattle.stackvars.specs.Cuts.{HasSoMany}
+use Rattle.stackvars.specs.declared.fault.AtomFault.TheVariants as atoms
 use Rattle.refusals.specs.Good.{Bytes, HasFewBlocks, IsGood, RefusedBy}
 use Rattle.refusals.specs.declared.refusal.Refusal.{Refusal}
 use Rattle.refusals.specs.declared.refusal.Refusal.TheVariants as refusal
@@ -29,7 +30,7 @@ pub record Accepts (bytes : Bytes) (l : Listing) : Type 0 where
   pub built : IsSupported l
   pub flow : NoFault l []
   pub blocks : HasFewBlocks l
-  pub atoms : (n : ℕ) × (accessed.AccessesSoMany l n × (n ≤ max_atoms))
+  pub atoms : (n : ℕ) × (HasSoMany l n × (n ≤ max_atoms))
 
 abbrev pub IsAccepted : Bytes → Type 0
 IsAccepted bytes = (l : Listing) × Accepts bytes l
@@ -43,7 +44,7 @@ IsRefused bytes (refusal.Flow flow.Memory) = ⊥
 IsRefused bytes (refusal.Flow fault) = RefusedBy bytes (λ l. IsSupported l × IsFlowFault l [] fault)
 IsRefused bytes (refusal.Atoms atoms.Memory) = ⊥
 IsRefused bytes (refusal.Atoms fault) =
-    RefusedBy bytes (λ l. IsSupported l × (NoFault l [] × (HasFewBlocks l × accessed.IsCause l fault)))
+    RefusedBy bytes (λ l. IsSupported l × (NoFault l [] × (HasFewBlocks l × cuts.IsCause l fault)))
 IsRefused bytes refusal.Memory = ⊥
 
 -- a refusal of the input, unless memory ran out
@@ -56,7 +57,7 @@ abbrev pub Stops : Listing → Refusal → Type 0
 Stops l (refusal.Flow flow.Memory) = ⊥
 Stops l (refusal.Flow fault) = IsFlowFault l [] fault
 Stops l (refusal.Atoms atoms.Memory) = ⊥
-Stops l (refusal.Atoms fault) = NoFault l [] × (HasFewBlocks l × accessed.IsCause l fault)
+Stops l (refusal.Atoms fault) = NoFault l [] × (HasFewBlocks l × cuts.IsCause l fault)
 Stops l refusal.Memory = ⊤
 Stops l _ = ⊥
 

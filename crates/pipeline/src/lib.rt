@@ -1,7 +1,7 @@
 //! The product from bytes to text: the passes in their order, the verdict, and the top call.
 //!
 //! `decompile_words` reads the words and the input, comes to one outcome and delivers it. `decompile` is the product itself:
-//! `accept` finds the first fault of an input or its listing with blocks and ranges, `lower` makes the C function of a
+//! `accept` finds the first fault of an input or its listing with blocks and atoms, `lower` makes the C function of a
 //! listing that is accepted, `print_c` its text.
 //!
 //! That the text means what the listing means is proved of definitions and not of loops: each pass makes what its function

@@ -1,13 +1,13 @@
 // Which inputs are accepted, and why the others are refused.
 ghost use Rattle.std.specs.Prelude.{◌≡◌, ◌-◌, ◌^◌, ◌≤◌, length, IfErr, IfOk, [], None, OnOk};
+ghost use Rattle.pcode_model.specs.Atoms.{AreAtoms};
 ghost use Rattle.pcode_model.specs.Flow.{IsFlow, NoFault};
-ghost use Rattle.pcode_model.specs.Limits.{max_blocks};
+ghost use Rattle.pcode_model.specs.Frame.{no_variables};
+ghost use Rattle.pcode_model.specs.Limits.{max_atoms, max_blocks};
 ghost use Rattle.pcode_model.specs.Rules.{first_bad};
 ghost use Rattle.pcode_model.specs.WellFormed.{IsWellFormed};
 ghost use Rattle.pipeline.specs.Verdict.{Accepts, IsCause, Stops};
 ghost use Rattle.pipeline.specs.Passed.{HasPassed};
-ghost use Rattle.stackvars.specs.Accessed.{AreAccessed};
-ghost use Rattle.supported.specs.Supported.{IsSupported};
 
 use flow::follow;
 use pcode_model::{Atoms, Flow, Listing, Tables, check_ops};
@@ -17,7 +17,7 @@ use stackvars::atoms;
 use std::alloc::Global;
 use supported::is_supported;
 
-/// A listing that is accepted, its blocks, and the ranges that its ops access.
+/// A listing that is accepted, its blocks, and its atoms.
 #[derive(Drop)]
 pub struct Accepted {
     pub listing: Listing,
@@ -25,8 +25,8 @@ pub struct Accepted {
     pub atoms: Atoms,
 }
 
-/// The listing of an input with its blocks and ranges, or the first fault of the input: a fault of the text, an op that
-/// breaks a rule, a listing that isn't built, a fault of the flow, too many blocks, or too many ranges.
+/// The listing of an input with its blocks and atoms, or the first fault of the input: a fault of the text, an op that
+/// breaks a rule, a listing that isn't built, a fault of the flow, too many blocks, or too many atoms.
 pub fn accept(alloc: Global, bytes: &[u8]) -> Result<Accepted, Refusal>
     requires { length bytes.now ≤ 2 ^ 32 - 2 }
     ensures accepted { IfOk result (λ accepted. Accepts bytes.now accepted.listing) }
@@ -35,12 +35,11 @@ pub fn accept(alloc: Global, bytes: &[u8]) -> Result<Accepted, Refusal>
 {
     let listing = read_listing(alloc, bytes)?;
     check_ops(&listing)?;
-    let built = is_supported(alloc, &listing)?;
-    if !built {
+    if !is_supported(&listing) {
         return Err(Refusal::NotBuilt);
     }
     let flow = blocks(alloc, &listing)?;
-    let atoms = ranges(alloc, &listing, &flow)?;
+    let atoms = variables(alloc, &listing, &flow)?;
     Ok(Accepted {
         listing,
         flow,
@@ -62,14 +61,15 @@ fn blocks(alloc: Global, listing: &Listing) -> Result<Flow, Refusal>
     }
 }
 
-fn ranges(alloc: Global, listing: &Listing, flow: &Flow) -> Result<Atoms, Refusal>
+// The atoms: each is a variable.
+fn variables(alloc: Global, listing: &Listing, flow: &Flow) -> Result<Atoms, Refusal>
     requires formed { IsWellFormed listing.now }
     requires ops { first_bad listing.now ≡ None }
-    requires supported { IsSupported listing.now }
     requires flow { IsFlow listing.now [] flow.now }
     requires no_fault { NoFault listing.now [] }
     requires few { length flow.now ≤ max_blocks }
-    ensures ok { IfOk result (λ atoms. AreAccessed listing.now atoms) }
+    ensures atoms { IfOk result (λ atoms. AreAtoms listing.now [] no_variables atoms) }
+    ensures few { IfOk result (λ atoms. length atoms ≤ max_atoms) }
     ensures stops { IfErr result (λ fault. Stops listing.now fault) }
 {
     match atoms(alloc, listing, flow) {

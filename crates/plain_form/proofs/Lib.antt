@@ -6,4 +6,5 @@ pub mod Formed
 pub mod Read
 pub mod Accessed
 pub mod Plain
+pub mod Table
 pub mod Form

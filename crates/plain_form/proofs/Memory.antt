@@ -13,6 +13,7 @@ use Rattle.pcode_model.proofs.Members.{member_at, of_member}
 use Rattle.cmeaning.specs.Do.{accessed, same_name, space_named}
 use Rattle.op_code.specs.Form.{IsMemory}
 use Rattle.op_code.specs.Made.{name_in, name_of}
+use Rattle.plain_form.proofs.Spaces.{differ}
 
 -- ---- names
 
@@ -67,9 +68,6 @@ declared_in (s ∷ rest) h zero e = record { space = s; here = refl; declared = 
 declared_in (s ∷ rest) h (suc n) e =
     let d = declared_in rest h.1 n e in record { space = d.space; here = d.here; declared = d.declared }
 
-constant_ram : Constant ≡ Ram → ⊥
-constant_ram h = cc
-
 -- a ram space is a declared one
 declared_at : (spaces : List Space)
     → AreSpaces spaces
@@ -77,7 +75,7 @@ declared_at : (spaces : List Space)
     → kind_in (slice_get spaces n) ≡ Ram
     → Declared spaces n
 declared_at [] h n e = absurd h
-declared_at (s ∷ rest) h zero e = absurd (constant_ram (sym (ap (λ (x : Space). x.kind) h.0) ∙ e))
+declared_at (s ∷ rest) h zero e = absurd (differ Ram Constant refl (sym (ap (λ (x : Space). x.kind) h.0) ∙ e))
 declared_at (s ∷ rest) h (suc n) e =
     let d = declared_in rest h.1 n e in record { space = d.space; here = d.here; declared = d.declared }
 

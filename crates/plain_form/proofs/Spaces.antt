@@ -1,12 +1,13 @@
 -- The spaces of a listing that was read, by their kinds.
-use Rattle.std.proofs.Common.{◌≡◌, ◌≤◌, ◌<◌, ◌^◌, ℕ, zero, suc, Bool, true, false, List, [], ◌∷◌, length, refl, sym, subst, ap, ◌∙◌, arith, lit<}
+use Rattle.std.proofs.Common.{◌≡◌, ◌≤◌, ◌<◌, ◌^◌, ℕ, zero, suc, Bool, true, false, List, [], ◌∷◌, length, Option, Some, None, refl, sym, subst, ap, ◌∙◌, arith, lit<}
 use Rattle.std.proofs.Math.Nat.{pow-le-pow_right}
 use Rattle.std.specs.Prelude.{if◌then◌else◌, slice_get}
 use Rattle.std.specs.List.{AllByRecursion}
 use Rattle.pcode_model.specs.declared.listing.Space.{Space}
 use Rattle.pcode_model.specs.declared.listing.SpaceKind.{SpaceKind}
 use Rattle.pcode_model.specs.declared.listing.SpaceKind.TheVariants.{Constant, Ram, Register, Unique}
-use Rattle.pcode_model.specs.Spaces.{kind_in, number_of, same_kind, size_in}
+use Rattle.pcode_model.specs.declared.listing.Listing.{Listing}
+use Rattle.pcode_model.specs.Spaces.{kind_in, number_of, same_kind, size_in, size_of}
 use Rattle.pcode_model.specs.WellFormed.{AreSpaces, IsDeclared, how_many}
 
 -- the kind of the space with a number
@@ -22,7 +23,8 @@ same_self Ram = refl
 same_self Register = refl
 same_self Unique = refl
 
-same_is : (j k : SpaceKind) → same_kind j k ≡ true → j ≡ k
+-- What the test takes for one kind is one.
+pub same_is : (j k : SpaceKind) → same_kind j k ≡ true → j ≡ k
 same_is Constant Constant h = refl
 same_is Constant Ram h = absurd (clash (sym h))
 same_is Constant Register h = absurd (clash (sym h))
@@ -40,8 +42,8 @@ same_is Unique Ram h = absurd (clash (sym h))
 same_is Unique Register h = absurd (clash (sym h))
 same_is Unique Unique h = refl
 
--- two that differ by the test aren't one
-differ : (j k : SpaceKind) → same_kind j k ≡ false → k ≡ j → ⊥
+-- Two that differ by the test aren't one.
+pub differ : (j k : SpaceKind) → same_kind j k ≡ false → k ≡ j → ⊥
 differ j k h e = let P : SpaceKind → Type 0 = λ x. same_kind j x ≡ false in clash (sym (same_self j) ∙ subst P e h)
 
 -- ---- constants
@@ -92,6 +94,18 @@ pub low : (spaces : List Space)
 low [] h n not = absurd h
 low (s ∷ declared) h zero not = absurd (not (ap (λ x. x.kind) h.0))
 low (s ∷ declared) h (suc n) not = declared_low declared h.1 n
+
+-- a space has a byte
+pub space_some : (l : Listing) (n : ℕ) → 0 < size_of l n
+space_some l n = by (slice_get l.spaces n)
+  where
+    some : (k : ℕ) → 0 < 256 ^ k
+    some zero = omega arith
+    some (suc k) = let less : 0 < 256 ^ k = some k in grind (arith, less)
+
+    by : (o : Option Space) → 0 < size_in o
+    by None = omega arith
+    by (Some s) = some s.size
 
 -- ---- the first space of a kind
 

@@ -1,10 +1,12 @@
 //! A supported listing whose ops obey their rules has the form that the plain lowering asks for: lemmas.
 //!
-//! What the reader and the rules of operations promise is collected first (`proofs/Read.antt`): each input and output has
-//! its sizes, each range that the listing names lies inside its space, and each ram space is one that a statement can
-//! name (`proofs/Memory.antt`). What is supported is said of the op's code and of all ranges that the listing names; what
-//! the lowering asks for is said of what stands at reached places and of the ranges that are accessed. Each register or
-//! unique range that a reached op accesses is one of those that are named (`proofs/Accessed.antt`), so it is an atom's; a
-//! range of memory begins within its space by the rules; with the sizes this is the form of the op (`proofs/Plain.antt`).
-//! Atoms in their order are different ranges (`proofs/Form.antt`).
+//! What the reader and the rules of operations promise is collected first (`proofs/Read.antt`): each input that isn't
+//! an address and each output has its size and ends within its space, the function's result is a range of registers,
+//! and each ram space is one that a statement can name (`proofs/Memory.antt`). A supported op accesses no more than
+//! these, so each range that is accessed has at most 16 bytes and lies inside its space (`proofs/Accessed.antt`).
+//!
+//! The lowering's variables are the atoms. An atom lies in a range that is accessed, so it is as narrow and lies inside
+//! too; and of two atoms in their order the second begins where the first one ends or later, since it begins at a cut
+//! (`proofs/Table.antt`). From cut to cut the atoms fill each range that is accessed, so it has a cover, which is all
+//! that the form of an op asks of a register or unique range (`proofs/Plain.antt`).
 #![tactic(auto)]

@@ -20,7 +20,7 @@ use Rattle.pcode_model.specs.Places.{Standing, Nothing, Passes, Does, next_place
 use Rattle.pcode_model.specs.Memory.{Acts, Frame, Bytes}
 use Rattle.pcode_model.specs.World.{ended}
 use Rattle.pcode_model.specs.Step.{State, moved, in_world, local_word, with_first, effect_at, apply, gone, read_varnode, step_at, proto_of, result_of, word_in_bytes}
-use Rattle.pcode_model.specs.Flow.{turn_of, turn_in, next_in, IsIn, IsStart, JumpsTo, TestsTo, LeavesBy}
+use Rattle.pcode_model.specs.Flow.{turn_of, turn_in, next_in, IsStart, JumpsTo, TestsTo, LeavesBy}
 use Rattle.pcode_laws.specs.AsBytes.{AsBytes}
 use Rattle.cmeaning.specs.declared.tree.Expr.{Expr}
 use Rattle.cmeaning.specs.declared.tree.Stmt.{Stmt}
@@ -31,10 +31,11 @@ use Rattle.blockcode.specs.declared.code.Exit.{Exit}
 use Rattle.blockcode.specs.declared.code.Exit.TheVariants as X
 use Rattle.blockcode.specs.Run.{CodeState, at, enters, enters_by, returns_with, leave}
 use Rattle.blockcode.proofs.Straight.{run_all}
+use Rattle.op_code.specs.Cover.{HasCover}
 use Rattle.op_code.specs.Made.{read_one}
 use Rattle.op_code.specs.Form.{IsLocalBy, IsOperand, IsPlainOp, IsResult}
 use Rattle.op_code.proofs.Access.{read_is}
-use Rattle.op_code.proofs.Operands.{reads_by, variable_has}
+use Rattle.op_code.proofs.Operands.{range_has, reads_by}
 use Rattle.op_code.proofs.Ops.{op_meets}
 use Rattle.op_code.proofs.Sees.{AreWide, Meets, Sees, Setting}
 use Rattle.op_code.proofs.Steps.{op_of}
@@ -291,11 +292,11 @@ module _
 
     -- ---- returns
 
-    is_local : (k : SpaceKind) (v : Varnode) → IsLocalBy k ranges v → IsIn v ranges
-    is_local Constant v h = absurd h
-    is_local Ram v h = absurd h
-    is_local Register v h = h
-    is_local Unique v h = h
+    has_cover : (k : SpaceKind) (v : Varnode) → IsLocalBy k ranges v → HasCover ranges v
+    has_cover Constant v h = absurd h
+    has_cover Ram v h = absurd h
+    has_cover Register v h = h
+    has_cover Unique v h = h
 
     sees_end : (e : End) (s : State M) (u v : CodeState)
         → v ≡ at u.block u.position (ends e u.local)
@@ -318,11 +319,11 @@ module _
         → s.world.over ≡ None
         → Sees l ranges look s u.local
         → Left l ranges look starts (in_world (ended (Returned (result_of l s.local gives)) s.world) s)
-        (leave ws (X.Return (result_in ranges gives)) u)
+        (leave ws (X.Return (result_in l ranges gives)) u)
     returns_by None s u h go sees = sees_end (Returned None) s u _ refl sees
     returns_by (Some v) s u h go sees =
-        let means = variable_has m l f look ranges ws is set s go v u.local.env h.0
-        (is_local (kind_of l v.space) v h.1) sees.holds in
+        let means = range_has m l f look ranges ws is set s go v u.local.env h.0
+        (has_cover (kind_of l v.space) v h.1) sees.holds in
         sees_end (Returned (Some (local_word l v s.local))) s u _ (ap (λ o. returns_with o u) means.value) sees
 
     return_step : (i : Instruction) (to : Varnode) (s : State M) (a : ℕ)

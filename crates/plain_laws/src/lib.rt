@@ -2,7 +2,7 @@
 //!
 //! Each atom is a variable, each block of the flow is a block of code, each op is the statements that do what it does
 //! (`op_code`), and the way on from a block's last op is the block's exit. The locals that ops need stand behind the
-//! atoms, numbered place by place (`specs/Blocks.antt`).
+//! atoms, numbered place by place.
 //!
 //! It is right by a simulation with a ranked wait (`proofs/Follows.antt`). The run of the listing stands at a place,
 //! the run of the code in the block of that place, in front of the place's statements; the worlds are equal as far as

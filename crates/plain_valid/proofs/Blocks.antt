@@ -1,5 +1,5 @@
 -- What holds of each kind of statement and of exit holds of all blocks of the plain lowering.
-use Rattle.std.proofs.Common.{◌≡◌, ℕ, ◌+◌, ◌<◌, ◌≤◌, ◌^◌, Bool, true, false, List, [], ◌∷◌, length, Option, Some, None, refl, sym, ◌∙◌, subst, arith, inl, inr}
+use Rattle.std.proofs.Common.{◌≡◌, ℕ, ◌+◌, ◌<◌, ◌≤◌, ◌^◌, Bool, true, false, List, [], ◌∷◌, length, map, Option, Some, None, refl, sym, ◌∙◌, subst, arith, inl, inr}
 use Rattle.std.specs.Prelude.{cond, ◌==◌}
 use Rattle.std.proofs.lemmas.Option.{slice_get_within}
 use Rattle.bits_core.specs.declared.ops.Divide.{Divide}
@@ -15,7 +15,7 @@ use Rattle.pcode_model.specs.declared.tables.TableAt.{TableAt}
 use Rattle.pcode_model.specs.declared.flow.Exit as flow_exit
 use Rattle.pcode_model.specs.declared.flow.Exit.TheVariants as F
 use Rattle.pcode_model.specs.declared.flow.Block as flow_block
-use Rattle.pcode_model.specs.Spaces.{kind_of, word_size}
+use Rattle.pcode_model.specs.Spaces.{is_big, kind_of, word_size}
 use Rattle.pcode_model.specs.Places.{Standing, Nothing, Passes, Does, standing}
 use Rattle.pcode_model.specs.Step.{proto_of, varnode_at}
 use Rattle.pcode_model.specs.Flow.{AllRun, IsIn, IsStart, JumpsTo, LeavesBy, RunsBlock, TestsTo, next_in, places_of, turn_in, turn_of}
@@ -28,13 +28,17 @@ use Rattle.blockcode.specs.declared.code.Exit.{Exit}
 use Rattle.blockcode.specs.declared.code.Exit.TheVariants as X
 use Rattle.op_values.specs.Nodes.{binary_node, constant, divides_by, division_node, nearest, statement_of, unary_node}
 use Rattle.op_values.proofs.Means.{nearest_is}
-use Rattle.op_code.specs.Made.{Read, ReadOne, address, address_of, computes, divides, divides_at, local_of, name_of, offset_bytes, op_made, read_by, read_one, reads, set_by, sets, variable_of}
+use Rattle.op_code.specs.declared.covers.Piece.{Piece}
+use Rattle.op_code.specs.Cover.{HasCover, IsRow, cover}
+use Rattle.op_code.specs.Words.{assigns_part, parts_by, target_by}
+use Rattle.op_code.specs.Made.{Read, ReadOne, address, address_of, computes, divides, divides_at, local_for, local_of, name_of, offset_bytes, op_made, range_word, read_by, read_one, reads, set_by, sets}
 use Rattle.op_code.specs.Form.{IsDirect, IsLocalBy, IsMemory, IsNarrow, IsOperand, IsOperandBy, IsOutput, IsOutputBy, IsPlainOp, IsResult}
 use Rattle.op_code.specs.Lowered.{WayOut, block_made, blocks_made, condition_in, directly, made_in, place_made, places_made, tests, way_out}
 use Rattle.op_code.specs.Lowerable.{IsPlain}
-use Rattle.op_code.proofs.Sees.{Setting, found}
-use Rattle.plain_valid.proofs.Shapes.{Fits, as_wide, constant_fits, variable_fits}
+use Rattle.op_code.proofs.Sees.{Setting}
+use Rattle.plain_valid.proofs.Shapes.{Fits, as_wide, constant_fits, deeper, variable_fits}
 use Rattle.plain_valid.proofs.Expressions.{IsAddress, address_fits, binary_fits, division_node_fits, unary_fits}
+use Rattle.plain_valid.proofs.Covers.{parts_right, piece_variable, row_fills, word_fits}
 use Rattle.plain_valid.proofs.EachKind.{AllHold, AreLocals, Gives, IsVariable, Kinds, locals_back, locals_front}
 
 module _
@@ -52,15 +56,6 @@ module _
   where
     -- ---- variables
 
-    range_variable : (v : Varnode) → IsNarrow v → IsIn v ranges → IsVariable ws n (variable_of ranges v) v.size
-    range_variable v narrow h =
-        let at = found ranges v h in
-        record {
-          within = omega (arith, slice_get_within ranges (variable_of ranges v) v at, known);
-          width = set.widths (variable_of ranges v) v at narrow;
-          some = narrow.0;
-        }
-
     local_variable : (next : ℕ) (v : Varnode)
         → IsNarrow v
         → AreLocals ws n next (local_of v.size ∷ [])
@@ -71,8 +66,12 @@ module _
       some = narrow.0;
     }
 
-    of_variable : (v w : ℕ) → IsVariable ws n v w → Fits ws n (E.Var v) w 1
-    of_variable v w is = variable_fits ws n v w is.within few is.width is.some
+    of_variable : (v w : ℕ) → IsVariable ws n v w → Fits ws n (E.Var v) w 16
+    of_variable v w is =
+        deeper ws n (E.Var v) w 1 16 (omega arith) (variable_fits ws n v w is.within few is.width is.some)
+
+    of_range : (v : Varnode) → IsNarrow v → HasCover ranges v → Fits ws n (range_word l ranges v) v.size 16
+    of_range = word_fits l ranges ws n set few known
 
     -- ---- memory
 
@@ -86,7 +85,7 @@ module _
         → IsMemory l s
         → 0 < w
         → w ≤ 16
-        → Fits ws n e w 1
+        → Fits ws n e w 16
         → IsAddress ws n (address l s w e)
     address_right s w e is some small f =
         address_fits ws n (offset_bytes l s) (word_size l s) w e is.some (omega (arith, is.few)) some small f
@@ -96,7 +95,7 @@ module _
     -- what an operand is read by
     record Reads (r : ReadOne) (w : ℕ) : Type 0 where
       loads : P r.loads
-      word : Fits ws n r.word w 1
+      word : Fits ws n r.word w 16
 
     reads_by : (k : SpaceKind) (next : ℕ) (v : Varnode)
         → IsNarrow v
@@ -104,17 +103,19 @@ module _
         → AreLocals ws n next (read_by k l ranges next v).locals
         → Reads (read_by k l ranges next v) v.size
     reads_by Constant next v narrow h are =
-        record { loads = kinds.none; word = constant_fits ws n v.size v.offset narrow.0 narrow.1 }
+        let e = constant v.size v.offset in
+        record {
+          loads = kinds.none;
+          word = deeper ws n e v.size 1 16 (omega arith) (constant_fits ws n v.size v.offset narrow.0 narrow.1);
+        }
     reads_by Ram next v narrow h are =
         let is = local_variable next v narrow are in
         record {
           loads = kinds.load next v.size v.space (offset_bytes l v.space) 1 (address_of l v) is h.0 (direct_fits v h);
           word = of_variable next v.size is;
         }
-    reads_by Register next v narrow h are =
-        record { loads = kinds.none; word = of_variable _ v.size (range_variable v narrow h) }
-    reads_by Unique next v narrow h are =
-        record { loads = kinds.none; word = of_variable _ v.size (range_variable v narrow h) }
+    reads_by Register next v narrow h are = record { loads = kinds.none; word = of_range v narrow h }
+    reads_by Unique next v narrow h are = record { loads = kinds.none; word = of_range v narrow h }
 
     operand_right : (next : ℕ) (v : Varnode)
         → IsOperand l ranges v
@@ -125,7 +126,7 @@ module _
     -- one operand, and two
     record One (next : ℕ) (x : Varnode) : Type 0 where
       loads : P (reads l ranges next (x ∷ [])).loads
-      word : Fits ws n (read_one l ranges next x).word x.size 1
+      word : Fits ws n (read_one l ranges next x).word x.size 16
 
     one_right : (next : ℕ) (x : Varnode)
         → IsOperand l ranges x
@@ -142,8 +143,8 @@ module _
 
     record Two (next : ℕ) (x y : Varnode) : Type 0 where
       loads : P (reads l ranges next (x ∷ y ∷ [])).loads
-      word : Fits ws n (read_one l ranges next x).word x.size 1
-      other : Fits ws n (read_one l ranges (behind_one next x) y).word y.size 1
+      word : Fits ws n (read_one l ranges next x).word x.size 16
+      other : Fits ws n (read_one l ranges (behind_one next x) y).word y.size 16
 
     two_right : (next : ℕ) (x y : Varnode)
         → IsOperand l ranges x
@@ -161,6 +162,27 @@ module _
 
     module _ (next : ℕ) (z : Varnode) (make : ℕ → Stmt)
         (makes : (v : ℕ) → IsVariable ws n v z.size → P (make v ∷ [])) where
+      -- one variable is set, or several are assigned the parts of a local
+      range_right : (big : Bool) (ps : List Piece)
+          → IsNarrow z
+          → IsRow ranges z.space z.offset ps (z.offset + z.size)
+          → AreLocals ws n next (local_for ps z)
+          → P (make (target_by next ps) ∷ parts_by big z next ps)
+      range_right big [] narrow row are = absurd (omega (arith, narrow.0, row))
+      range_right big (p ∷ []) narrow row are =
+          let size : p.range.size ≡ z.size = omega (arith, row.1) in
+          let R : ℕ → Type 0 = λ w. IsVariable ws n p.variable w in
+          makes p.variable
+          (subst R size
+          (piece_variable l ranges ws n set few known p (record { listed = row.0.listed; some = row.0.some })
+          (omega (arith, size, narrow.1))))
+      range_right big (p ∷ q ∷ ps) narrow row are =
+          let is = local_variable next z narrow are in
+          let all = p ∷ q ∷ ps in
+          kinds.append (make next ∷ []) (map (assigns_part big z next) all) (makes next is)
+          (parts_right l ranges ws n set few known (length starts) P Q kinds big z narrow next (of_variable next z.size is) all
+          z.size (row_fills ranges z.space z.offset z.size all row) narrow.1)
+
       set_right : (k : SpaceKind)
           → IsNarrow z
           → IsOutputBy k l ranges z
@@ -170,10 +192,10 @@ module _
       set_right Ram narrow h are =
           let is = local_variable next z narrow are in
           kinds.append (make next ∷ []) (S.Store (name_of l z.space) (address_of l z) (E.Var next) ∷ []) (makes next is)
-          (kinds.store z.space (offset_bytes l z.space) 1 z.size 1 (address_of l z) (E.Var next) h.0 (direct_fits z h)
+          (kinds.store z.space (offset_bytes l z.space) 1 z.size 16 (address_of l z) (E.Var next) h.0 (direct_fits z h)
           (of_variable next z.size is))
-      set_right Register narrow h are = makes (variable_of ranges z) (range_variable z narrow h)
-      set_right Unique narrow h are = makes (variable_of ranges z) (range_variable z narrow h)
+      set_right Register narrow h are = range_right (is_big l z.space) (cover ranges z) narrow h are
+      set_right Unique narrow h are = range_right (is_big l z.space) (cover ranges z) narrow h are
 
     -- an output that is set by what is read
     computes_right : (next : ℕ) (z : Varnode) (r : Read) (make : ℕ → Stmt)
@@ -190,10 +212,10 @@ module _
 
     -- ---- divisions
 
-    module _ (op : Divide) (w : ℕ) (d : Expr) (some : 0 < w) (small : w ≤ 16) (f : Fits ws n d w 1) (v : ℕ)
+    module _ (op : Divide) (w : ℕ) (d : Expr) (some : 0 < w) (small : w ≤ 16) (f : Fits ws n d w 16) (v : ℕ)
         (is : IsVariable ws n v w) where
       -- by any divisor
-      divide_right : (e : Expr) → Fits ws n e w 1 → P (S.Divide v (statement_of op) d e ∷ [])
+      divide_right : (e : Expr) → Fits ws n e w 16 → P (S.Divide v (statement_of op) d e ∷ [])
       divide_right e g = kinds.divide (statement_of op) v w d e is f g
 
       abbrev divided : Bool → Expr → Stmt
@@ -202,7 +224,7 @@ module _
       divided_right : (k : SpaceKind) (next : ℕ) (y : Varnode)
           → y.size ≡ w
           → IsOperandBy k l ranges y
-          → Fits ws n (read_by k l ranges next y).word w 1
+          → Fits ws n (read_by k l ranges next y).word w 16
           → P (divided (divides_at k op y) (read_by k l ranges next y).word ∷ [])
       divided_right Constant next y same h g = by (divides_by op (nearest y.size) y.offset) refl
         where
@@ -210,10 +232,10 @@ module _
               → divides_by op (nearest y.size) y.offset ≡ t
               → P (divided t (constant y.size y.offset) ∷ [])
           by true e =
-              let R : ℕ → Type 0 = λ u. Fits ws n (division_node op d (constant u y.offset)) w 3 in
+              let R : ℕ → Type 0 = λ u. Fits ws n (division_node op d (constant u y.offset)) w 17 in
               let L : ℕ → Type 0 = λ u. y.offset < limit u in
               let D : ℕ → Type 0 = λ u. divides_by op (nearest u) y.offset ≡ true in
-              kinds.assign v w 3 (division_node op d (constant y.size y.offset)) is
+              kinds.assign v w 17 (division_node op d (constant y.size y.offset)) is
               (subst R (sym same)
               (division_node_fits ws n w y.offset d some small (subst L same h) f op (subst D same e)))
           by false e = divide_right (constant y.size y.offset) g
@@ -234,7 +256,7 @@ module _
         let one = one_right next x h.1.0
         (locals_front ws n next r.locals (sets l ranges (next + length r.locals) (Some z) make).locals are) in
         computes_right next z r make one.loads h.1.1 are
-        (λ v is. kinds.assign v z.size 3 (unary_node op z.size e) is
+        (λ v is. kinds.assign v z.size 18 (unary_node op z.size e) is
         (unary_fits ws n op x.size z.size e h.0 ((h.1.1).0).0 ((h.1.1).0).1 one.word))
     op_right next (O.Binary op) (Some z) (x ∷ y ∷ []) h are =
         let r = reads l ranges next (x ∷ y ∷ []) in
@@ -245,7 +267,7 @@ module _
         (locals_front ws n next r.locals (sets l ranges (next + length r.locals) (Some z) make).locals are) in
         let narrow : IsNarrow x = ((h.1.0).0).0 in
         computes_right next z r make two.loads h.1.1 are
-        (λ v is. kinds.assign v z.size 3 (binary_node op x.size y.offset z.size d e) is
+        (λ v is. kinds.assign v z.size 18 (binary_node op x.size y.offset z.size d e) is
         (binary_fits ws n x.size y.offset y.size z.size d e ((h.1.1).0).0 ((h.1.1).0).1 two.word two.other op narrow.0
         narrow.1 h.0.1))
     op_right next (O.Divide op) (Some z) (x ∷ y ∷ []) h are =
@@ -255,8 +277,8 @@ module _
         let make : ℕ → Stmt = divides l op y d e in
         let two = two_right next x y (h.1.0).0 (h.1.0).1
         (locals_front ws n next r.locals (sets l ranges (next + length r.locals) (Some z) make).locals are) in
-        let of_x : Fits ws n d z.size 1 = as_wide ws n d x.size z.size 1 h.0.0 two.word in
-        let of_y : Fits ws n e z.size 1 = as_wide ws n e y.size z.size 1 h.0.1 two.other in
+        let of_x : Fits ws n d z.size 16 = as_wide ws n d x.size z.size 16 h.0.0 two.word in
+        let of_y : Fits ws n e z.size 16 = as_wide ws n e y.size z.size 16 h.0.1 two.other in
         computes_right next z r make two.loads h.1.1 are
         (λ v is. divided_right op z.size d ((h.1.1).0).0 ((h.1.1).0).1 of_x v is (kind_of l y.space)
         (behind_one next x) y h.0.1 ((h.1.0).1).1 of_y)
@@ -268,7 +290,7 @@ module _
         (locals_front ws n next r.locals (sets l ranges (next + length r.locals) (Some z) make).locals are) in
         let at = address_right s.offset x.size e h.0 ((h.1.0).0).0 ((h.1.0).0).1 one.word in
         computes_right next z r make one.loads h.1.1 are
-        (λ v is. kinds.load v z.size s.offset at.width 3 (address l s.offset x.size e) is h.0 at.fits)
+        (λ v is. kinds.load v z.size s.offset at.width 18 (address l s.offset x.size e) is h.0 at.fits)
     op_right next O.Store None (s ∷ x ∷ y ∷ []) h are =
         let r = reads l ranges next (x ∷ y ∷ []) in
         let d = (read_one l ranges next x).word in
@@ -276,7 +298,7 @@ module _
         let two = two_right next x y h.1.0 h.1.1 (locals_front ws n next r.locals [] are) in
         let at = address_right s.offset x.size d h.0 ((h.1.0).0).0 ((h.1.0).0).1 two.word in
         kinds.append r.loads (S.Store (name_of l s.offset) (address l s.offset x.size d) e ∷ []) two.loads
-        (kinds.store s.offset at.width 3 y.size 1 (address l s.offset x.size d) e h.0 at.fits two.other)
+        (kinds.store s.offset at.width 18 y.size 16 (address l s.offset x.size d) e h.0 at.fits two.other)
     op_right next O.Branch None (to ∷ []) h are = kinds.none
     op_right next O.CBranch None (to ∷ x ∷ []) h are = kinds.none
     op_right next O.Return None (to ∷ []) h are = kinds.none
@@ -319,7 +341,7 @@ module _
     test_if next c a b false byte h la lb are =
         let r = operand_right next c h are in
         let e = (read_one l ranges next c).word in
-        (r.loads, kinds.test e a b (as_wide ws n e c.size 1 1 byte r.word) la lb)
+        (r.loads, kinds.test e a b (as_wide ws n e c.size 1 16 byte r.word) la lb)
 
     test_right : (next : ℕ) (c : Varnode) (here : Standing) (to behind : Option Place) (e : flow_exit.Exit)
         → condition_in l ranges next here ≡ read_one l ranges next c
@@ -339,16 +361,15 @@ module _
     test_right next c here to behind (F.Switch t ns) is byte h by are = absurd by
     test_right next c here to behind F.Stop is byte h by are = absurd by
 
-    is_local : (k : SpaceKind) (v : Varnode) → IsLocalBy k ranges v → IsIn v ranges
+    is_local : (k : SpaceKind) (v : Varnode) → IsLocalBy k ranges v → HasCover ranges v
     is_local Constant v h = absurd h
     is_local Ram v h = absurd h
     is_local Register v h = h
     is_local Unique v h = h
 
-    gives_right : (o : Option Varnode) → IsResult l ranges o → Gives ranges ws n o
+    gives_right : (o : Option Varnode) → IsResult l ranges o → Gives l ranges ws n o
     gives_right None h = tt
-    gives_right (Some v) h =
-        (h.0, of_variable _ v.size (range_variable v h.0 (is_local (kind_of l v.space) v h.1)))
+    gives_right (Some v) h = (h.0, of_range v h.0 (is_local (kind_of l v.space) v h.1))
 
     return_right : (next : ℕ) (here : Standing) (e : flow_exit.Exit)
         → IsResult l ranges (proto_of l None).gives

@@ -4,7 +4,6 @@ use Rattle.pcode_model.specs.declared.listing.Varnode.{Varnode}
 use Rattle.pcode_model.specs.declared.listing.Listing.{Listing}
 use Rattle.pcode_model.specs.Step.{proto_of}
 use Rattle.cmeaning.specs.declared.tree.Expr.{Expr}
-use Rattle.cmeaning.specs.declared.tree.Expr.TheVariants as E
 use Rattle.cmeaning.specs.declared.tree.Stmt.{Stmt}
 use Rattle.cmeaning.specs.declared.tree.Stmt.TheVariants as S
 use Rattle.cmeaning.specs.declared.tree.StatementDivision.{StatementDivision}
@@ -12,7 +11,7 @@ use Rattle.blockcode.specs.declared.code.Block.{Block}
 use Rattle.blockcode.specs.declared.code.Exit.{Exit}
 use Rattle.blockcode.specs.declared.code.Exit.TheVariants as X
 use Rattle.blockcode.specs.declared.code.Variable.{Variable}
-use Rattle.op_code.specs.Made.{name_of, variable_of}
+use Rattle.op_code.specs.Made.{name_of, range_word}
 use Rattle.op_code.specs.Form.{IsMemory, IsNarrow}
 use Rattle.op_code.specs.Lowered.{result}
 use Rattle.op_code.proofs.Sees.{AreWide, wide_back, wide_front}
@@ -30,9 +29,9 @@ pub record AreLocals (ws : ℕ → ℕ) (n next : ℕ) (vs : List Variable) : Ty
   pub within : next + length vs ≤ n
 
 -- what a function of these ranges gives, if it gives a result
-abbrev pub Gives : List Varnode → (ℕ → ℕ) → ℕ → Option Varnode → Type 0
-Gives ranges ws n None = Unit {0}
-Gives ranges ws n (Some v) = IsNarrow v × Fits ws n (E.Var (variable_of ranges v)) v.size 1
+abbrev pub Gives : Listing → List Varnode → (ℕ → ℕ) → ℕ → Option Varnode → Type 0
+Gives l ranges ws n None = Unit {0}
+Gives l ranges ws n (Some v) = IsNarrow v × Fits ws n (range_word l ranges v) v.size 16
 
 -- Of statements and exits that name n variables with these widths, and blocks below a number: what holds of each kind.
 pub record Kinds (l : Listing) (ranges : List Varnode) (ws : ℕ → ℕ) (n blocks : ℕ) (P : List Stmt → Type 0)
@@ -52,16 +51,16 @@ pub record Kinds (l : Listing) (ranges : List Varnode) (ws : ℕ → ℕ) (n blo
       → P (S.Store (name_of l s) a e ∷ [])
   pub divide : (op : StatementDivision) (v w : ℕ) (a b : Expr)
       → IsVariable ws n v w
-      → Fits ws n a w 1
-      → Fits ws n b w 1
+      → Fits ws n a w 16
+      → Fits ws n b w 16
       → P (S.Divide v op a b ∷ [])
   pub jump : (to : ℕ) → to < blocks → Q (X.Jump to)
   pub test : (c : Expr) (taken other : ℕ)
-      → Fits ws n c 1 1
+      → Fits ws n c 1 16
       → taken < blocks
       → other < blocks
       → Q (X.Test c taken other)
-  pub returns : Gives ranges ws n (proto_of l None).gives → Q (X.Return (result l ranges))
+  pub returns : Gives l ranges ws n (proto_of l None).gives → Q (X.Return (result l ranges))
 
 -- each block's statements and its exit
 abbrev pub AllHold : (List Stmt → Type 0) → (Exit → Type 0) → List Block → Type 0

@@ -1,6 +1,7 @@
 pub mod Shapes
 pub mod Expressions
 pub mod EachKind
+pub mod Covers
 pub mod Blocks
 pub mod Whole
 pub mod Laying

@@ -1,4 +1,5 @@
--- What obeys the rules of expressions, and mentions variables alone: leaves, and each kind of node over leaves.
+-- What obeys the rules of expressions, and mentions variables alone: leaves, and each kind of node over operands.
+-- A range is the concatenation of at most 16 variables, so an operand is at most so deep.
 use Rattle.std.proofs.Common.{◌≡◌, ℕ, suc, ◌+◌, ◌<◌, ◌≤◌, ◌^◌, Bool, true, false, List, [], ◌∷◌, ◌++◌, Option, Some, None, refl, sym, ap, ◌∙◌, subst, arith}
 use Rattle.std.specs.Prelude.{◌&&◌, max, nat_lt, cond}
 use Rattle.std.proofs.lemmas.Bool.Decides.{nat_tests}
@@ -118,19 +119,20 @@ module _ (ws : ℕ → ℕ) (n : ℕ) where
       }
 
   -- over two, by their shapes
-  two_of : (c a b : Expr) (right : Shape → Shape → Bool) (w : ℕ → ℕ → ℕ) (comparison : Bool) (x y : Shape)
+  two_of : (c a b : Expr) (right : Shape → Shape → Bool) (w : ℕ → ℕ → ℕ) (comparison : Bool) (x y : Shape) (d : ℕ)
+      → d < 64
       → shape_of ws c ≡ two_shape right w comparison (shape_of ws a) (shape_of ws b)
       → in_expr c ≡ in_expr a ++ in_expr b
       → shape_of ws a ≡ Some x
       → shape_of ws b ≡ Some y
-      → x.depth ≤ 2
-      → y.depth ≤ 2
+      → x.depth ≤ d
+      → y.depth ≤ d
       → AllBelow n (in_expr a)
       → AllBelow n (in_expr b)
       → right x y ≡ true
-      → Fits ws n c (w x.width y.width) 3
-  two_of c a b right w comparison x y is same f g deep_f deep_g in_a in_b r =
-      let deep : max x.depth y.depth < 64 = omega (arith, deep_f, deep_g) in
+      → Fits ws n c (w x.width y.width) (suc d)
+  two_of c a b right w comparison x y d small is same f g deep_f deep_g in_a in_b r =
+      let deep : max x.depth y.depth < 64 = omega (arith, deep_f, deep_g, small) in
       record {
         shape = node (w x.width y.width) (max x.depth y.depth) comparison;
         is = is ∙ ap (λ s. two_shape right w comparison s (shape_of ws b)) f
@@ -141,18 +143,19 @@ module _ (ws : ℕ → ℕ) (n : ℕ) where
         mentions = subst (AllBelow n) (sym same) (below_append n (in_expr a) (in_expr b) in_a in_b);
       }
 
-  two : (c a b : Expr) (right : Shape → Shape → Bool) (w : ℕ → ℕ → ℕ) (comparison : Bool) (u v : ℕ)
+  two : (c a b : Expr) (right : Shape → Shape → Bool) (w : ℕ → ℕ → ℕ) (comparison : Bool) (u v d : ℕ)
+      → d < 64
       → shape_of ws c ≡ two_shape right w comparison (shape_of ws a) (shape_of ws b)
       → in_expr c ≡ in_expr a ++ in_expr b
-      → Fits ws n a u 2
-      → Fits ws n b v 2
+      → Fits ws n a u d
+      → Fits ws n b v d
       → ((x y : Shape) → x.width ≡ u → y.width ≡ v → right x y ≡ true)
-      → Fits ws n c (w u v) 3
-  two c a b right w comparison u v is same f g r =
+      → Fits ws n c (w u v) (suc d)
+  two c a b right w comparison u v d small is same f g r =
       let x = f.shape in
       let y = g.shape in
-      as_wide c (w x.width y.width) (w u v) 3 (ap (λ k. w k y.width) f.width ∙ ap (w u) g.width)
-      (two_of c a b right w comparison x y is same f.is g.is f.depth g.depth f.mentions g.mentions
+      as_wide c (w x.width y.width) (w u v) (suc d) (ap (λ k. w k y.width) f.width ∙ ap (w u) g.width)
+      (two_of c a b right w comparison x y d small is same f.is g.is f.depth g.depth f.mentions g.mentions
       (r x y f.width g.width))
 
   -- ---- leaves
@@ -211,109 +214,115 @@ module _ (ws : ℕ → ℕ) (n : ℕ) where
       → w < v
       → 0 < w
       → w ≤ 16
-      → Fits ws n e v 1
-      → Fits ws n (E.Part k (width_by w) e) w 2
+      → Fits ws n e v 16
+      → Fits ws n (E.Part k (width_by w) e) w 17
   part_fits k v w e inside less some small f =
       let i : nearest w ≡ w = nearest_is w some small in
       let c = E.Part k (width_by w) e in
       let l : k + nearest w ≤ v = omega (arith, i, inside) in
       let m : nearest w < v = omega (arith, i, less) in
       let r : is_part k (nearest w) v ≡ true = grind (arith, nat_tests) in
-      as_wide c (nearest w) w 2 i (one c e (is_part k (nearest w)) (λ k. nearest w) v 1
+      as_wide c (nearest w) w 17 i (one c e (is_part k (nearest w)) (λ k. nearest w) v 16
       (shape_layer c (Expr-F.Part k (width_by w) e) (E.rolls-Part k (width_by w) e))
       (in_layer c (Expr-F.Part k (width_by w) e) (E.rolls-Part k (width_by w) e)) f r (omega arith))
 
   pub unary_fits_by : (op : UnaryOp) (v w : ℕ) (e : Expr)
       → v ≡ w
-      → Fits ws n e v 1
-      → Fits ws n (E.Unary op e) w 2
+      → Fits ws n e v 16
+      → Fits ws n (E.Unary op e) w 17
   unary_fits_by op v w e same f =
       let c = E.Unary op e in
-      as_wide c v w 2 same (one c e (λ k. true) (λ k. k) v 1
+      as_wide c v w 17 same (one c e (λ k. true) (λ k. k) v 16
       (shape_layer c (Expr-F.Unary op e) (E.rolls-Unary op e))
       (in_layer c (Expr-F.Unary op e) (E.rolls-Unary op e)) f refl (omega arith))
 
-  pub count_fits : (op : CountOp) (v : ℕ) (e : Expr) → Fits ws n e v 1 → Fits ws n (E.Count op e) 1 2
+  pub count_fits : (op : CountOp) (v : ℕ) (e : Expr) → Fits ws n e v 16 → Fits ws n (E.Count op e) 1 17
   count_fits op v e f =
       let c = E.Count op e in
-      one c e (λ k. true) (λ k. 1) v 1 (shape_layer c (Expr-F.Count op e) (E.rolls-Count op e))
+      one c e (λ k. true) (λ k. 1) v 16 (shape_layer c (Expr-F.Count op e) (E.rolls-Count op e))
       (in_layer c (Expr-F.Count op e) (E.rolls-Count op e)) f refl (omega arith)
 
   -- ---- nodes over two operands
 
-  module _ (u v w : ℕ) (d e : Expr) (f : Fits ws n d u 2) (g : Fits ws n e v 2) where
-    pub arithmetic_fits : (op : ArithmeticOp) → u ≡ w → v ≡ w → Fits ws n (E.Arithmetic op d e) w 3
+  pub concat_fits : (u v w k : ℕ) (d e : Expr)
+      → w ≡ u + v
+      → w ≤ 16
+      → k < 64
+      → Fits ws n d u k
+      → Fits ws n e v k
+      → Fits ws n (E.Concat d e) w (suc k)
+  concat_fits u v w k d e p small deep f g =
+      let c = E.Concat d e in
+      as_wide c (u + v) w (suc k) (sym p) (two c d e may_join (λ x y. x + y) false u v k deep
+      (shape_layer c (Expr-F.Concat d e) (E.rolls-Concat d e))
+      (in_layer c (Expr-F.Concat d e) (E.rolls-Concat d e)) f g (λ x y i j. join_widths x y u v w p small i j))
+
+  module _ (u v w : ℕ) (d e : Expr) (f : Fits ws n d u 17) (g : Fits ws n e v 17) where
+    pub arithmetic_fits : (op : ArithmeticOp) → u ≡ w → v ≡ w → Fits ws n (E.Arithmetic op d e) w 18
     arithmetic_fits op p q =
         let c = E.Arithmetic op d e in
-        as_wide c u w 3 p (two c d e same_width left_width false u v
+        as_wide c u w 18 p (two c d e same_width left_width false u v 17 (omega arith)
         (shape_layer c (Expr-F.Arithmetic op d e) (E.rolls-Arithmetic op d e))
         (in_layer c (Expr-F.Arithmetic op d e) (E.rolls-Arithmetic op d e)) f g
         (λ x y i j. equal_widths x y u v (p ∙ sym q) i j))
 
-    pub shift_fits : (op : ShiftOp) → u ≡ w → Fits ws n (E.Shift op d e) w 3
+    pub shift_fits : (op : ShiftOp) → u ≡ w → Fits ws n (E.Shift op d e) w 18
     shift_fits op p =
         let c = E.Shift op d e in
-        as_wide c u w 3 p (two c d e (λ x y. true) left_width false u v
+        as_wide c u w 18 p (two c d e (λ x y. true) left_width false u v 17 (omega arith)
         (shape_layer c (Expr-F.Shift op d e) (E.rolls-Shift op d e))
         (in_layer c (Expr-F.Shift op d e) (E.rolls-Shift op d e)) f g (λ x y i j. refl))
 
-    pub compare_fits : (op : CompareOp) → u ≡ v → w ≡ 1 → Fits ws n (E.Compare op d e) w 3
+    pub compare_fits : (op : CompareOp) → u ≡ v → w ≡ 1 → Fits ws n (E.Compare op d e) w 18
     compare_fits op p q =
         let c = E.Compare op d e in
-        as_wide c 1 w 3 (sym q) (two c d e same_width (λ x y. 1) true u v
+        as_wide c 1 w 18 (sym q) (two c d e same_width (λ x y. 1) true u v 17 (omega arith)
         (shape_layer c (Expr-F.Compare op d e) (E.rolls-Compare op d e))
         (in_layer c (Expr-F.Compare op d e) (E.rolls-Compare op d e)) f g (λ x y i j. equal_widths x y u v p i j))
 
-    pub signed_compare_fits : (op : SignedCompareOp) → u ≡ v → w ≡ 1 → Fits ws n (E.SignedCompare op d e) w 3
+    pub signed_compare_fits : (op : SignedCompareOp) → u ≡ v → w ≡ 1 → Fits ws n (E.SignedCompare op d e) w 18
     signed_compare_fits op p q =
         let c = E.SignedCompare op d e in
-        as_wide c 1 w 3 (sym q) (two c d e same_width (λ x y. 1) true u v
+        as_wide c 1 w 18 (sym q) (two c d e same_width (λ x y. 1) true u v 17 (omega arith)
         (shape_layer c (Expr-F.SignedCompare op d e) (E.rolls-SignedCompare op d e))
         (in_layer c (Expr-F.SignedCompare op d e) (E.rolls-SignedCompare op d e)) f g
         (λ x y i j. equal_widths x y u v p i j))
 
-    pub overflow_fits : (op : OverflowOp) → u ≡ v → w ≡ 1 → Fits ws n (E.Overflow op d e) w 3
+    pub overflow_fits : (op : OverflowOp) → u ≡ v → w ≡ 1 → Fits ws n (E.Overflow op d e) w 18
     overflow_fits op p q =
         let c = E.Overflow op d e in
-        as_wide c 1 w 3 (sym q) (two c d e same_width (λ x y. 1) false u v
+        as_wide c 1 w 18 (sym q) (two c d e same_width (λ x y. 1) false u v 17 (omega arith)
         (shape_layer c (Expr-F.Overflow op d e) (E.rolls-Overflow op d e))
         (in_layer c (Expr-F.Overflow op d e) (E.rolls-Overflow op d e)) f g (λ x y i j. equal_widths x y u v p i j))
 
-    pub concat_fits : w ≡ u + v → w ≤ 16 → Fits ws n (E.Concat d e) w 3
-    concat_fits p small =
-        let c = E.Concat d e in
-        as_wide c (u + v) w 3 (sym p) (two c d e may_join (λ x y. x + y) false u v
-        (shape_layer c (Expr-F.Concat d e) (E.rolls-Concat d e))
-        (in_layer c (Expr-F.Concat d e) (E.rolls-Concat d e)) f g (λ x y i j. join_widths x y u v w p small i j))
-
   -- ---- divisions by a constant
 
-  module _ (w value : ℕ) (d : Expr) (some : 0 < w) (small : w ≤ 16) (f : Fits ws n d w 1) where
+  module _ (w value : ℕ) (d : Expr) (some : 0 < w) (small : w ≤ 16) (f : Fits ws n d w 16) where
     by_its_width : same_width f.shape (constant_shape w value) ≡ true
     by_its_width = equal_widths f.shape (constant_shape w value) w w refl f.width (nearest_is w some small)
 
     pub division_fits : (op : DivisionOp)
         → by_constant (Some (word_by w value)) ≡ true
-        → Fits ws n (E.Division op d (constant w value)) w 3
+        → Fits ws n (E.Division op d (constant w value)) w 17
     division_fits op r =
         let e = constant w value in
         let c = E.Division op d e in
-        as_wide c (f.shape).width w 3 f.width
-        (two_of c d e may_divide left_width false f.shape (constant_shape w value)
+        as_wide c (f.shape).width w 17 f.width
+        (two_of c d e may_divide left_width false f.shape (constant_shape w value) 16 (omega arith)
         (shape_layer c (Expr-F.Division op d e) (E.rolls-Division op d e))
         (in_layer c (Expr-F.Division op d e) (E.rolls-Division op d e)) f.is (constant_is w value)
-        (omega (arith, f.depth)) (omega arith) f.mentions (constant_below w value)
+        f.depth (omega arith) f.mentions (constant_below w value)
         (ap (λ b. b && by_constant (Some (word_by w value))) by_its_width ∙ r))
 
     pub signed_division_fits : (op : SignedDivisionOp)
         → by_signed (Some (word_by w value)) ≡ true
-        → Fits ws n (E.SignedDivision op d (constant w value)) w 3
+        → Fits ws n (E.SignedDivision op d (constant w value)) w 17
     signed_division_fits op r =
         let e = constant w value in
         let c = E.SignedDivision op d e in
-        as_wide c (f.shape).width w 3 f.width
-        (two_of c d e may_divide_signed left_width false f.shape (constant_shape w value)
+        as_wide c (f.shape).width w 17 f.width
+        (two_of c d e may_divide_signed left_width false f.shape (constant_shape w value) 16 (omega arith)
         (shape_layer c (Expr-F.SignedDivision op d e) (E.rolls-SignedDivision op d e))
         (in_layer c (Expr-F.SignedDivision op d e) (E.rolls-SignedDivision op d e)) f.is (constant_is w value)
-        (omega (arith, f.depth)) (omega arith) f.mentions (constant_below w value)
+        f.depth (omega arith) f.mentions (constant_below w value)
         (ap (λ b. b && by_signed (Some (word_by w value))) by_its_width ∙ r))

@@ -13,7 +13,6 @@ use Rattle.pcode_model.specs.WellFormed.{IsNamedSpace}
 use Rattle.pcode_model.proofs.Members.{member_at, of_member}
 use Rattle.cmeaning.specs.declared.tree.Arm.{Arm}
 use Rattle.cmeaning.specs.declared.tree.Expr.{Expr}
-use Rattle.cmeaning.specs.declared.tree.Expr.TheVariants as E
 use Rattle.cmeaning.specs.declared.tree.StatementDivision.{StatementDivision}
 use Rattle.cmeaning.specs.declared.tree.Stmt.{Stmt, map-Stmt, roll-Stmt}
 use Rattle.cmeaning.specs.declared.tree.Stmt.TheOpen.{Stmt-F}
@@ -30,7 +29,7 @@ use Rattle.blockcode.specs.declared.code.Exit.TheVariants as X
 use Rattle.layout.specs.Suits.{BodySuits, ExitSuits, Knows}
 use Rattle.layout.proofs.Suiting.{knows_one, obey_one, suits_append, suits_none}
 use Rattle.op_values.proofs.Means.{nearest_is}
-use Rattle.op_code.specs.Made.{name_in, name_of, variable_of}
+use Rattle.op_code.specs.Made.{name_in, name_of, range_word}
 use Rattle.op_code.specs.Form.{IsMemory}
 use Rattle.op_code.specs.Lowered.{result, result_in, result_width, width_of_result}
 use Rattle.plain_valid.proofs.Shapes.{AllBelow, Fits, below_append}
@@ -89,8 +88,8 @@ module _ (ws : ℕ → ℕ) (n : ℕ) where
   assigned_is v w d e few is f =
       ap (λ b. b && has_width (ws v) (shape_of ws e)) (variable_is v w few is) ∙ has_its_width v w d e is f
 
-  -- a leaf as a condition
-  condition_is : (c : Expr) (w : ℕ) → Fits ws n c w 1 → is_condition (shape_of ws c) ≡ true
+  -- an operand as a condition
+  condition_is : (c : Expr) (w : ℕ) → Fits ws n c w 16 → is_condition (shape_of ws c) ≡ true
   condition_is c w f = ap is_condition f.is ∙ by (f.shape).comparison
     where
       by : (b : Bool) → cond b true (nat_lt (f.shape).depth 64) ≡ true
@@ -177,8 +176,8 @@ module _ (l : Listing) (ranges : List Varnode) (h : Head) (few : length h.params
 
   divide_suits : (op : StatementDivision) (v w : ℕ) (a b : Expr)
       → IsOwn v w
-      → Shaped a w 1
-      → Shaped b w 1
+      → Shaped a w 16
+      → Shaped b w 16
       → BodySuits h (S.Divide v op a b ∷ [])
   divide_suits op v w a b is f g =
       let ws = widths_of h in
@@ -189,25 +188,25 @@ module _ (l : Listing) (ranges : List Varnode) (h : Head) (few : length h.params
       one_suits h s y (Variable v ∷ (in_expr a ++ in_expr b)) (is_assigned ws v (shape_of ws a) && wide)
       (S.rolls-Divide v op a b) (in_statement s y (S.rolls-Divide v op a b))
       (is.within, below_append n (in_expr a) (in_expr b) f.mentions g.mentions) (λ leads. refl)
-      (ap (λ t. t && wide) (assigned_is ws n v w 1 a few is f) ∙ has_its_width ws n v w 1 b is g)
+      (ap (λ t. t && wide) (assigned_is ws n v w 16 a few is f) ∙ has_its_width ws n v w 16 b is g)
 
   -- ---- the result
 
   result_suits : (o : Option Varnode)
-      → Gives ranges (widths_of h) (variables h) o
-      → (is_returned (widths_of h) (width_of_result o) (result_in ranges o) ≡ true)
-      × Knows h (in_option (result_in ranges o))
+      → Gives l ranges (widths_of h) (variables h) o
+      → (is_returned (widths_of h) (width_of_result o) (result_in l ranges o) ≡ true)
+      × Knows h (in_option (result_in l ranges o))
   result_suits None given = (refl, tt)
   result_suits (Some v) given =
       let ws = widths_of h in
-      let e = E.Var (variable_of ranges v) in (
+      let e = range_word l ranges v in (
         ap (λ k. has_width k (shape_of ws e)) (nearest_is v.size (given.0).0 (given.0).1)
-            ∙ width_is ws (variables h) e v.size 1 given.1,
+            ∙ width_is ws (variables h) e v.size 16 given.1,
         knows_below h (in_expr e) (given.1).mentions,
       )
 
   return_suits : h.gives ≡ result_width l
-      → Gives ranges (widths_of h) (variables h) (proto_of l None).gives
+      → Gives l ranges (widths_of h) (variables h) (proto_of l None).gives
       → ExitSuits h (X.Return (result l ranges))
   return_suits gives given =
       let r = result_suits (proto_of l None).gives given in

@@ -9,18 +9,18 @@ use bits_core::Memory;
 use blockcode::{Exit, Variables};
 use cmeaning::{Body, Expr};
 use instructions::{op_at, result_range};
-use op_code::{Table, read};
+use op_code::{Table, range_word, read};
 use op_values::constant;
 use pcode_model::{Exit as FlowExit, Listing, Place};
 use std::alloc::Global;
 
 /// The function's result, where its prototype has one.
-fn result(listing: &Listing, table: &Table) -> Option<Expr>
-    ensures { result ≡ result_for listing.now table.now }
+fn result(alloc: Global, listing: &Listing, table: &Table) -> Result<Option<Expr>, Memory>
+    ensures { IfOk result (λ word. word ≡ result_for listing.now table.now) }
 {
     match result_range(listing) {
-        Some(range) => Some(Expr::Var(table.variable(range))),
-        None => None,
+        Some(range) => Ok(Some(range_word(alloc, listing, table, range)?)),
+        None => Ok(None),
     }
 }
 
@@ -64,7 +64,7 @@ pub(crate) fn way_out(
     ensures few { OnOk result (length variables.new ≤ 2 ^ 32) }
 {
     match exit {
-        FlowExit::Return => Ok(Exit::Return(result(listing, table))),
+        FlowExit::Return => Ok(Exit::Return(result(alloc, listing, table)?)),
         FlowExit::Jump(to) => Ok(Exit::Jump(*to)),
         FlowExit::Test { taken, other } => {
             if *taken == *other {

@@ -9,8 +9,8 @@ use Rattle.pcodetext.specs.declared.fault.TextFault.{TextFault}
 use Rattle.pcodetext.specs.declared.fault.TextFault.TheVariants as text
 use Rattle.flow.specs.declared.answer.FlowFault.{FlowFault}
 use Rattle.flow.specs.declared.answer.FlowFault.TheVariants as flow
-use Rattle.stackvars.specs.declared.accessed.AtomFault.{AtomFault}
-use Rattle.stackvars.specs.declared.accessed.AtomFault.TheVariants as atoms
+use Rattle.stackvars.specs.declared.fault.AtomFault.{AtomFault}
+use Rattle.stackvars.specs.declared.fault.AtomFault.TheVariants as atoms
 use Rattle.refusals.specs.declared.refusal.Refusal.{Refusal}
 use Rattle.refusals.specs.declared.refusal.Refusal.TheVariants as refusal
 

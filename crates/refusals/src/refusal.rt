@@ -25,8 +25,8 @@ pub enum Refusal {
     /// The first fault of the flow, or too many blocks.
     #[error("the flow has a fault, or too many blocks")]
     Flow(FlowFault),
-    /// Too many ranges are accessed.
-    #[error("too many ranges are accessed")]
+    /// There are too many atoms.
+    #[error("there are too many atoms")]
     Atoms(AtomFault),
     /// Memory ran out.
     #[error("memory ran out")]

@@ -10,13 +10,12 @@ use Rattle.pcode_model.specs.Atoms.{AreAtoms}
 use Rattle.pcode_model.specs.Limits.{max_atoms}
 use Rattle.pcode_model.specs.Rules.{first_bad}
 use Rattle.pcode_model.specs.WellFormed.{IsWellFormed}
-use Rattle.stackvars.specs.declared.accessed.AtomFault.{AtomFault}
-use Rattle.stackvars.specs.declared.accessed.AtomFault.TheVariants.{TooManyAtoms, Memory}
+use Rattle.stackvars.specs.declared.fault.AtomFault.{AtomFault}
+use Rattle.stackvars.specs.declared.fault.AtomFault.TheVariants.{TooManyAtoms, Memory}
 use Rattle.stackvars.specs.declared.sweep.Mark.{Mark}
 use Rattle.stackvars.specs.declared.sweep.Piece.{Piece}
-use Rattle.stackvars.specs.Accessed.{Counts}
 use Rattle.stackvars.specs.Collected.{atoms_in}
-use Rattle.stackvars.specs.Cuts.{Fits, IsCause, atoms_of, marks}
+use Rattle.stackvars.specs.Cuts.{Counts, Fits, IsCause, atoms_of, marks}
 use Rattle.stackvars.specs.Sweep.{ArePieces}
 use Rattle.stackvars.proofs.Placed.{all_fit, are_atoms}
 use Rattle.stackvars.proofs.Reach.{in_reach, spaces_differ}

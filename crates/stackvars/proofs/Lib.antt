@@ -1,12 +1,9 @@
 pub mod Ops
 pub mod Members
-pub mod Order
-pub mod Listed
 pub mod Swept
 pub mod Passed
 pub mod Marked
 pub mod Placed
-pub mod Coarsest
 pub mod Reach
 pub mod Found
 pub mod Worked

@@ -19,9 +19,8 @@ use Rattle.pcode_model.specs.Atoms.{Accesses, Cuts, IsAccessed, Range, argument_
 use Rattle.pcode_model.specs.Atoms as model
 use Rattle.pcode_model.proofs.Members.{behind, in_either, in_front}
 use Rattle.stackvars.specs.declared.sweep.Mark.{Mark}
-use Rattle.stackvars.specs.Accessed.{range, range_at}
 use Rattle.stackvars.specs.Accesses.{passed}
-use Rattle.stackvars.specs.Collected.{atoms_in}
+use Rattle.stackvars.specs.Collected.{atoms_in, range, range_at}
 use Rattle.stackvars.specs.Cuts.{begin, kept_marks, mark, marks, more_cuts, opens}
 use Rattle.stackvars.specs.Sweep.{IsMarked, IsUnder}
 use Rattle.stackvars.proofs.Members.{collected_accessed, collected_all}

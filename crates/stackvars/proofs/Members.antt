@@ -17,8 +17,7 @@ use Rattle.pcode_model.specs.Spaces.{register_space, unique_space}
 use Rattle.pcode_model.specs.Flow.{IsFlow, IsIn, places_of}
 use Rattle.pcode_model.specs.Atoms.{Accesses, IsLocal, ranges_at}
 use Rattle.pcode_model.proofs.Members.{behind, in_either, in_front, of_member}
-use Rattle.stackvars.specs.Accessed.{range, range_at, range_of}
-use Rattle.stackvars.specs.Collected.{atom_at, atom_of, atoms_at, atoms_in, atoms_of, storage_of}
+use Rattle.stackvars.specs.Collected.{atom_at, atom_of, atoms_at, atoms_in, atoms_of, range, range_at, range_of, storage_of}
 
 -- ---- members of lists
 
@@ -64,11 +63,10 @@ is_stored l v =
     (cases_eq v.space (unique_space l)))
     (cases_eq v.space (register_space l))
 
--- the atom has this range, which is local, and is the range's one atom
+-- the atom has this range, which is local
 pub record Stands (l : Listing) (v : Varnode) (a : Atom) : Type 0 where
   pub is_local : IsLocal l v.space
   pub range : range_of l a ≡ Some v
-  pub alone : atom_of l v ≡ a ∷ []
 
 register_range : (l : Listing) (v : Varnode)
     → v.space ≡ register_space l
@@ -91,7 +89,6 @@ only l v a s e h is r =
     (λ same. record {
       is_local = is;
       range = ap (λ (b : Atom). range_of l b) same ∙ r;
-      alone = ap (λ (o : Option ParamStorage). atom_at o v.size) e ∙ ap (λ (b : Atom). b ∷ []) (sym same);
     })
     (λ bad. absurd bad)
     k
@@ -233,27 +230,3 @@ pub collected_all : (l : Listing) (bs : List Block) → IsFlow l [] bs → HasAc
 collected_all l bs flow v h =
     let r = listed_at l (places_of bs) h.at v ((flow.each h.at).1 h.reached) h.range h.is_local in
     (r.atom, (subst (λ (xs : List Atom). IsIn r.atom xs) (sym (blocks_places l bs)) r.member, r.range))
-
--- no two atoms of the list have one range
-abbrev pub AreOnce : Listing → List Atom → Type 0
-AreOnce l xs = (a b : Atom) → IsIn a xs → IsIn b xs → range_of l a ≡ range_of l b → a ≡ b
-
-one_of_range : (l : Listing) (a b : Atom) (v w : Varnode)
-    → Stands l v a
-    → Stands l w b
-    → range_of l a ≡ range_of l b
-    → a ≡ b
-one_of_range l a b v w p q e =
-    heads (sym p.alone ∙ (ap (λ (x : Varnode). atom_of l x) (some_is (sym p.range ∙ (e ∙ q.range))) ∙ q.alone)) where
-      some_is : Some v ≡ Some w → v ≡ w
-      some_is h = cc
-
-      heads : a ∷ [] ≡ b ∷ [] → a ≡ b
-      heads h = cc
-
-pub collected_once : (l : Listing) (bs : List Block) → AreOnce l (atoms_in l bs)
-collected_once l bs a b h k e =
-    let Q : Atom → List Atom → Type 0 = λ x xs. IsIn x xs in
-    let r = one_at l (places_of bs) a (subst (Q a) (blocks_places l bs) h) in
-    let q = one_at l (places_of bs) b (subst (Q b) (blocks_places l bs) k) in
-    one_of_range l a b r.range.of q.range.of r.range.stands q.range.stands e

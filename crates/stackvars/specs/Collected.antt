@@ -1,8 +1,6 @@
--- The atoms of the ranges that ops access, op by op, and a list of atoms without its repeats.
-use Rattle.std.specs.Prelude.{ℕ, ◌+◌, ◌^◌, ◌==◌, Bool, false, if◌then◌else◌, List, [], ◌∷◌, ◌++◌, Option, Some, None}
+-- The atoms of the ranges that ops access, op by op, and the range of an atom. This project's own.
+use Rattle.std.specs.Prelude.{ℕ, ◌==◌, if◌then◌else◌, List, [], ◌∷◌, ◌++◌, Option, Some, None}
 use Rattle.pcode_model.specs.declared.listing.Place.{Place}
-use Rattle.pcode_model.specs.declared.opcode.Opcode.{Opcode}
-use Rattle.pcode_model.specs.declared.opcode.Opcode.TheVariants as O
 use Rattle.pcode_model.specs.declared.listing.Varnode.{Varnode}
 use Rattle.pcode_model.specs.declared.listing.Listing.{Listing}
 use Rattle.pcode_model.specs.declared.storage.ParamStorage.{ParamStorage}
@@ -10,7 +8,6 @@ use Rattle.pcode_model.specs.declared.storage.ParamStorage.TheVariants as P
 use Rattle.pcode_model.specs.declared.atoms.Atom.{Atom}
 use Rattle.pcode_model.specs.declared.flow.Block.{Block}
 use Rattle.pcode_model.specs.Spaces.{register_space, unique_space}
-use Rattle.pcode_model.specs.Rules.{past_first}
 use Rattle.pcode_model.specs.Atoms.{ranges_at}
 
 -- where a register or unique range stands
@@ -39,29 +36,16 @@ abbrev pub atoms_in : Listing → List Block → List Atom
 atoms_in l [] = []
 atoms_in l (b ∷ bs) = atoms_at l b.places ++ atoms_in l bs
 
--- the inputs that an op of the built kinds reads: not a branch's destination, and not the constant that names a space
-abbrev pub read_inputs : Opcode → List Varnode → List Varnode
-read_inputs O.Branch vs = []
-read_inputs O.CBranch vs = past_first vs
-read_inputs O.Load vs = past_first vs
-read_inputs O.Store vs = past_first vs
-read_inputs code vs = vs
+-- ---- back to ranges
 
--- where a storage begins on a line that has the register space, then the unique space, then the frame
-abbrev pub rank_of : ParamStorage → ℕ
-rank_of (P.Register o) = o
-rank_of (P.Unique o) = 2 ^ 64 + o
-rank_of (P.Stack o) = 2 ^ 65
+abbrev pub range : ℕ → ℕ → ℕ → Varnode
+range s o k = record { space = s; offset = o; size = k }
 
-abbrev pub rank : Atom → ℕ
-rank a = rank_of a.storage
+-- the range of so many bytes at a storage; the frame is no space of the listing
+abbrev pub range_at : Listing → ParamStorage → ℕ → Option Varnode
+range_at l (P.Register o) k = Some (range (register_space l) o k)
+range_at l (P.Unique o) k = Some (range (unique_space l) o k)
+range_at l (P.Stack o) k = None
 
-abbrev pub is_last : Option ℕ → ℕ → Bool
-is_last None n = false
-is_last (Some m) n = m == n
-
--- the atoms whose rank isn't that of the one before
-abbrev pub without_repeats : Option ℕ → List Atom → List Atom
-without_repeats last [] = []
-without_repeats last (a ∷ rest) =
-    if is_last last (rank a) then without_repeats (Some (rank a)) rest else a ∷ without_repeats (Some (rank a)) rest
+abbrev pub range_of : Listing → Atom → Option Varnode
+range_of l a = range_at l a.storage a.size

@@ -11,8 +11,8 @@ use Rattle.pcode_model.specs.Step.{proto_of}
 use Rattle.pcode_model.specs.Frame.{no_variables}
 use Rattle.pcode_model.specs.Atoms.{AreAtoms, Cuts, Range}
 use Rattle.pcode_model.specs.Limits.{max_atoms}
-use Rattle.stackvars.specs.declared.accessed.AtomFault.{AtomFault}
-use Rattle.stackvars.specs.declared.accessed.AtomFault.TheVariants.{TooManyAtoms, Memory}
+use Rattle.stackvars.specs.declared.fault.AtomFault.{AtomFault}
+use Rattle.stackvars.specs.declared.fault.AtomFault.TheVariants.{TooManyAtoms, Memory}
 use Rattle.stackvars.specs.declared.sweep.Mark.{Mark}
 use Rattle.stackvars.specs.declared.sweep.Piece.{Piece}
 use Rattle.stackvars.specs.Accesses.{passed, passed_in}
@@ -90,6 +90,11 @@ abbrev pub AreInReach : Listing → Type 0
 AreInReach l = (r : Range) → Cuts l [] no_variables r → IsInReach r.storage r.size
 
 -- ---- why there are none
+
+-- the count, or want of memory
+abbrev pub Counts : ℕ → AtomFault → Type 0
+Counts count (TooManyAtoms n) = n ≡ count
+Counts count Memory = ⊤
 
 -- there are so many atoms
 abbrev pub HasSoMany : Listing → ℕ → Type 0

@@ -1,4 +1,4 @@
-//! The atoms of any listing without frame variables.
+// The atoms of a listing without frame variables.
 ghost use Rattle.std.specs.Prelude.{◌≡◌, ◌+◌, ◌++◌, ◌<◌, ◌≤◌, ◌^◌, [], length, None, IfErr, IfOk, OnOk};
 ghost use Rattle.std.specs.List.{AllByRecursion};
 ghost use Rattle.pcode_model.specs.Rules.{first_bad};
@@ -8,12 +8,11 @@ ghost use Rattle.pcode_model.specs.Frame.{no_variables};
 ghost use Rattle.pcode_model.specs.Atoms.{AreAtoms};
 ghost use Rattle.pcode_model.specs.Limits.{max_atoms};
 ghost use Rattle.pcode_model.specs.Step.{proto_of};
-ghost use Rattle.stackvars.specs.Accessed.{Counts};
 ghost use Rattle.stackvars.specs.Accesses.{passed};
 ghost use Rattle.stackvars.specs.Cuts.{Fits, IsCause, argument_marks, atom, atoms_of, begin, cut_marks, kept_marks, marks, more_cuts, open_marks, opens};
 
-use crate::accessed::{AtomFault, too_many};
 use crate::accesses::accesses;
+use crate::fault::{AtomFault, too_many};
 use crate::sweep::{Mark, Piece, pieces};
 use bits_core::Memory;
 use pcode_model::{Atom, Atoms, Flow, Listing, MAX_ATOMS, ParamStorage, Proto, Storage, Varnode};

@@ -2,12 +2,9 @@
 use Rattle.std.specs.Prelude.{◌≡◌, Bool, true, false, ◌&&◌, List, [], ◌∷◌, None}
 use Rattle.pcode_model.specs.declared.opcode.Opcode.{Opcode}
 use Rattle.pcode_model.specs.declared.opcode.Opcode.TheVariants as O
-use Rattle.pcode_model.specs.declared.listing.Varnode.{Varnode}
 use Rattle.pcode_model.specs.declared.listing.Op.{Op}
 use Rattle.pcode_model.specs.declared.listing.Instruction.{Instruction}
-use Rattle.pcode_model.specs.declared.listing.Proto.{Proto}
 use Rattle.pcode_model.specs.declared.listing.Listing.{Listing}
-use Rattle.supported.specs.Ranges.{named_ranges, EqualOrApart}
 
 -- the operations of one input and of two inputs, divisions too, LOAD, STORE, BRANCH, CBRANCH and RETURN
 abbrev pub is_supported_code : Opcode → Bool
@@ -29,20 +26,8 @@ abbrev pub is_supported_code_of : List Instruction → Bool
 is_supported_code_of [] = true
 is_supported_code_of (i ∷ rest) = are_supported_ops i.ops && is_supported_code_of rest
 
-abbrev pub is_empty : List Varnode → Bool
-is_empty [] = true
-is_empty (v ∷ vs) = false
-
--- no prototype has a kept range
-abbrev pub keeps_nothing : List Proto → Bool
-keeps_nothing [] = true
-keeps_nothing (p ∷ rest) = is_empty p.keep && keeps_nothing rest
-
--- A listing without `stack` and `callee` lines and without kept ranges, whose ops are all built, and of whose register
--- and unique ranges any two are equal or apart.
+-- A listing without `stack` and `callee` lines, whose ops are all built.
 pub record IsSupported (l : Listing) : Type 0 where
   pub stack : l.stack ≡ None
   pub callees : l.callees ≡ []
-  pub keeps : keeps_nothing l.protos ≡ true
   pub ops : is_supported_code_of l.code ≡ true
-  pub ranges : EqualOrApart (named_ranges l)

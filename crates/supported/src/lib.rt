@@ -2,6 +2,5 @@
 #![tactic(auto)]
 
 mod listing;
-mod ranges;
 
 pub use listing::is_supported;

@@ -1,6 +1,6 @@
 use Rattle.std.proofs.Common.{ap, ◌∙◌, arith}
 use Rattle.layout.specs.Function.{head_of}
-use Rattle.pipeline.proofs.Forms.{laid_is, lowers, lowers_to}
+use Rattle.pipeline.proofs.Forms.{few_blocks_made, few_made, laid_is, lowers, lowers_to}
 use Rattle.pipeline.proofs.passes.lower.Goals as goal
 
 pub plain-requires-clause-code : goal.plain-requires-clause-code
@@ -8,6 +8,11 @@ plain-requires-clause-code c = c.requires.read.apart
 
 pub plain-requires-clause-spaces : goal.plain-requires-clause-spaces
 plain-requires-clause-spaces c = let few = c.requires.read.limited.spaces in omega (arith, few)
+
+pub laid_out-requires : goal.laid_out-requires
+laid_out-requires c =
+    few_blocks_made c.args.accepted.now.listing c.args.accepted.now.flow c.args.accepted.now.atoms c.in_ok-code.code
+    c.in_ok-code.ensures.code c.requires.few_blocks
 
 pub returns : goal.returns
 returns c =
@@ -18,7 +23,7 @@ returns c =
     let is = laid_is l blocks atoms c.in_ok-name.name c.result_width.result c.in_ok-head.head c.in_ok-code.code
     c.in_ok-function.function c.in_ok-function.ensures
     (c.in_ok-head.ensures ∙ ap (head_of c.in_ok-name.name c.result_width.result) c.as_slice-2.ensures)
-    (c.in_ok-name.ensures ∙ c.as_slice.ensures) c.result_width.ensures c.in_ok-code.ensures in
+    (c.in_ok-name.ensures ∙ c.as_slice.ensures) c.result_width.ensures c.in_ok-code.ensures.code in
     lowers_to l c.in_ok-function.function _ is
-    (lowers l passed.read passed.ops passed.built blocks passed.blocks passed.no_fault passed.few atoms
-    passed.atoms)
+    (lowers l passed.read passed.ops passed.built blocks passed.blocks passed.no_fault passed.few_blocks atoms
+    passed.atoms (few_made l blocks atoms c.in_ok-code.code c.in_ok-code.ensures.code c.in_ok-code.ensures.few))

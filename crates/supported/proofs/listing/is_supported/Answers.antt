@@ -6,9 +6,7 @@ returns c = (
   λ t. record {
     stack = search rules;
     callees = search rules;
-    keeps = search rules;
     ops = search rules;
-    ranges = c.in_ok-apart.ensures.0 t;
   },
-  λ s. c.in_ok-apart.ensures.1 s.ranges,
+  λ s. search rules,
 )

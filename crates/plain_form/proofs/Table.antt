@@ -1,0 +1,226 @@
+-- The ranges of a listing's atoms are a table: each lies inside its space, and no two share a byte, since an atom that
+-- began inside another one would cut it. Each has 1 to 16 bytes.
+use Rattle.std.proofs.Common.{◌≡◌, ◌≤◌, ◌<◌, ◌+◌, ◌-◌, ℕ, zero, suc, List, [], ◌∷◌, Some, refl, inl, inr, sym, subst, ap, arith, ⊎_elim}
+use Rattle.std.specs.Prelude.{slice_get, pos}
+use Rattle.std.proofs.lemmas.Bool.{cases_lt}
+use Rattle.std.proofs.lemmas.Int.{ints}
+use Rattle.pcode_model.specs.declared.storage.ParamStorage.{ParamStorage}
+use Rattle.pcode_model.specs.declared.storage.ParamStorage.TheVariants as P
+use Rattle.pcode_model.specs.declared.atoms.Atom.{Atom}
+use Rattle.pcode_model.specs.declared.listing.Varnode.{Varnode}
+use Rattle.pcode_model.specs.declared.listing.Listing.{Listing}
+use Rattle.pcode_model.specs.Flow.{IsIn}
+use Rattle.pcode_model.specs.Frame.{no_variables}
+use Rattle.pcode_model.specs.Spaces.{register_space, unique_space}
+use Rattle.pcode_model.specs.Atoms.{Accesses, AreAtoms, Area, InOrder, IsAccessed, IsAtom, IsCut, LiesIn, Registers, Stacked, StandsBefore, Uniques, range, varnode}
+use Rattle.pcode_model.proofs.Members.{member_at}
+use Rattle.range_words.specs.Ranges.{AreApart, IsInside, IsTable}
+use Rattle.op_code.specs.Lowerable.{AreNarrow, IsLocalStorage}
+use Rattle.op_code.specs.Lowered.{range_at, range_of, ranges_of}
+use Rattle.op_code.proofs.Rows.{AreSome}
+use Rattle.op_code.proofs.Variables.{IsAtomAt, atom_at}
+use Rattle.plain_form.proofs.Formed.{Inside}
+
+-- ---- the order of atoms
+
+-- The order of storages is transitive.
+pub before_trans : (r s t : ParamStorage) → StandsBefore r s → StandsBefore s t → StandsBefore r t
+before_trans (P.Register a) (P.Register b) (P.Register c) p q = omega (arith, p, q)
+before_trans (P.Register a) (P.Register b) (P.Unique c) p q = tt
+before_trans (P.Register a) (P.Register b) (P.Stack c) p q = tt
+before_trans (P.Register a) (P.Unique b) (P.Register c) p q = absurd q
+before_trans (P.Register a) (P.Unique b) (P.Unique c) p q = tt
+before_trans (P.Register a) (P.Unique b) (P.Stack c) p q = tt
+before_trans (P.Register a) (P.Stack b) (P.Register c) p q = absurd q
+before_trans (P.Register a) (P.Stack b) (P.Unique c) p q = absurd q
+before_trans (P.Register a) (P.Stack b) (P.Stack c) p q = tt
+before_trans (P.Unique a) (P.Register b) t p q = absurd p
+before_trans (P.Unique a) (P.Unique b) (P.Register c) p q = absurd q
+before_trans (P.Unique a) (P.Unique b) (P.Unique c) p q = omega (arith, p, q)
+before_trans (P.Unique a) (P.Unique b) (P.Stack c) p q = tt
+before_trans (P.Unique a) (P.Stack b) (P.Register c) p q = absurd q
+before_trans (P.Unique a) (P.Stack b) (P.Unique c) p q = absurd q
+before_trans (P.Unique a) (P.Stack b) (P.Stack c) p q = tt
+before_trans (P.Stack a) (P.Register b) t p q = absurd p
+before_trans (P.Stack a) (P.Unique b) t p q = absurd p
+before_trans (P.Stack a) (P.Stack b) (P.Register c) p q = absurd q
+before_trans (P.Stack a) (P.Stack b) (P.Unique c) p q = absurd q
+before_trans (P.Stack a) (P.Stack b) (P.Stack c) p q = omega (arith, ints, p, q)
+
+first_before : (a : Atom) (rest : List Atom)
+    → InOrder (a ∷ rest)
+    → (b : Atom)
+    → IsIn b rest
+    → StandsBefore a.storage b.storage
+first_before a [] h b is = absurd is
+first_before a (x ∷ rest) h b (inl e) = let Q : Atom → Type 0 = λ y. StandsBefore a.storage y.storage in
+    subst Q (sym e) h.0
+first_before a (x ∷ rest) h b (inr is) = before_trans a.storage x.storage b.storage h.0 (first_before x rest h.1 b is)
+
+order_tail : (a : Atom) (rest : List Atom) → InOrder (a ∷ rest) → InOrder rest
+order_tail a [] h = tt
+order_tail a (x ∷ rest) h = h.1
+
+-- of two atoms the one with the lesser number stands before
+one_before : (atoms : List Atom)
+    → InOrder atoms
+    → (m n : ℕ) (a b : Atom)
+    → slice_get atoms m ≡ Some a
+    → slice_get atoms n ≡ Some b
+    → m < n
+    → StandsBefore a.storage b.storage
+one_before [] order m n a b p q less = absurd (cc)
+one_before (x ∷ xs) order m zero a b p q less = absurd (omega (arith, less))
+one_before (x ∷ xs) order zero (suc n) a b p q less =
+    let is : x ≡ a = cc in
+    let Q : Atom → Type 0 = λ y. StandsBefore y.storage b.storage in
+    subst Q is (first_before x xs order b (member_at xs n b q))
+one_before (x ∷ xs) order (suc m) (suc n) a b p q less =
+    one_before xs (order_tail x xs order) m n a b p q (omega (arith, less))
+
+-- ---- numbers and ranges
+
+same_number : (m n : ℕ) → pos m ≡ pos n → m ≡ n
+same_number m n e = cc
+
+apart_turned : (v w : Varnode) → AreApart v w → AreApart w v
+apart_turned v w (inl ne) = inl (λ e. ne (sym e))
+apart_turned v w (inr (inl before)) = inr (inr before)
+apart_turned v w (inr (inr behind)) = inr (inl behind)
+
+-- The range of an atom is a variable's.
+pub in_ranges : (l : Listing) (atoms : List Atom) (a : Atom) → IsIn a atoms → IsIn (range_of l a) (ranges_of l atoms)
+in_ranges l [] a is = absurd is
+in_ranges l (x ∷ xs) a (inl e) = inl (ap (range_of l) e)
+in_ranges l (x ∷ xs) a (inr is) = inr (in_ranges l xs a is)
+
+-- ---- atoms
+
+-- what is known of an atom's range
+record Placed (l : Listing) (s : ParamStorage) (k : ℕ) : Type 0 where
+  local : IsLocalStorage s
+  some : 0 < (range_at l s k).size
+  narrow : k ≤ 16
+  inside : IsInside l (range_at l s k)
+
+module _
+    (l : Listing)
+    (differ : register_space l ≡ unique_space l → ⊥)
+    (inner : (v : Varnode) → Accesses l [] v → Inside l v)
+  where
+    -- a part of a range that lies inside its space
+    part : (s m k o d j : ℕ)
+        → Inside l (varnode s o j)
+        → pos m ≡ pos (o + d)
+        → d + k ≤ j
+        → (k ≤ 16) × IsInside l (varnode s m k)
+    part s m k o d j whole at fits =
+        let same : m ≡ o + d = same_number m (o + d) at in
+        (omega (arith, whole.narrow, fits), omega (arith, whole.inside, same, fits))
+
+    -- an atom lies in a range that is accessed
+    lies : (s : ParamStorage) (k : ℕ) (t : ParamStorage) (j : ℕ)
+        → 0 < k
+        → IsAccessed l [] no_variables (range t j)
+        → LiesIn (range s k) (range t j)
+        → Placed l s k
+    lies (P.Register m) k (P.Register o) j some acc within =
+        let r = register_space l in
+        let p = part r m k o within.1.0 j (inner (varnode r o j) acc) within.1.1.0 within.1.1.1 in
+        record { local = tt; some = some; narrow = p.0; inside = p.1 }
+    lies (P.Unique m) k (P.Unique o) j some acc within =
+        let u = unique_space l in
+        let p = part u m k o within.1.0 j (inner (varnode u o j) acc) within.1.1.0 within.1.1.1 in
+        record { local = tt; some = some; narrow = p.0; inside = p.1 }
+    lies (P.Register m) k (P.Unique o) j some acc within = let e : Registers ≡ Uniques = within.0 in absurd (cc)
+    lies (P.Unique m) k (P.Register o) j some acc within = let e : Uniques ≡ Registers = within.0 in absurd (cc)
+    lies (P.Stack z) k (P.Register o) j some acc within = let e : Stacked ≡ Registers = within.0 in absurd (cc)
+    lies (P.Stack z) k (P.Unique o) j some acc within = let e : Stacked ≡ Uniques = within.0 in absurd (cc)
+    lies s k (P.Stack z) j some acc within = absurd acc.1.0
+
+    placed : (a : Atom) → IsAtom l [] no_variables a → Placed l a.storage a.size
+    placed a is = lies a.storage a.size is.access.storage is.access.size is.some is.accessed is.inside
+
+    -- of two atoms of one area the second begins where the first one ends, or later
+    ends_before : (area : Area) (m j n : ℕ)
+        → ((d : ℕ) → 0 < d → d < j → IsCut l [] no_variables area (pos (m + d)) → ⊥)
+        → IsCut l [] no_variables area (pos n)
+        → m < n
+        → m + j ≤ n
+    ends_before area m j n whole cut less = ⊎_elim
+        (λ (within : n < m + j).
+        let at : n ≡ m + (n - m) = omega (arith, less) in
+        let C : ℕ → Type 0 = λ o. IsCut l [] no_variables area (pos o) in
+        absurd (whole (n - m) (omega (arith, less)) (omega (arith, less, within)) (subst C at cut)))
+        (λ (past : m + j ≤ n). past)
+        (cases_lt n (m + j))
+
+    before_apart : (s : ParamStorage) (j : ℕ) (t : ParamStorage) (k : ℕ)
+        → IsAtom l [] no_variables (range s j)
+        → IsAtom l [] no_variables (range t k)
+        → IsLocalStorage s
+        → IsLocalStorage t
+        → StandsBefore s t
+        → AreApart (range_at l s j) (range_at l t k)
+    before_apart (P.Register m) j (P.Register n) k a b x y first =
+        inr (inl (ends_before Registers m j n a.whole b.begins first))
+    before_apart (P.Register m) j (P.Unique n) k a b x y first = inl differ
+    before_apart (P.Unique m) j (P.Register n) k a b x y first = absurd first
+    before_apart (P.Unique m) j (P.Unique n) k a b x y first =
+        inr (inl (ends_before Uniques m j n a.whole b.begins first))
+    before_apart (P.Stack m) j t k a b x y first = absurd x
+    before_apart (P.Register m) j (P.Stack n) k a b x y first = absurd y
+    before_apart (P.Unique m) j (P.Stack n) k a b x y first = absurd y
+
+    narrow_all : (atoms : List Atom) → ((a : Atom) → IsIn a atoms → IsAtom l [] no_variables a) → AreNarrow atoms
+    narrow_all [] each = tt
+    narrow_all (a ∷ rest) each =
+        let is = each a (inl refl) in
+        let p = placed a is in
+        ((p.local, (is.some, p.narrow)), narrow_all rest (λ b h. each b (inr h)))
+
+    module _ (atoms : List Atom) (are : AreAtoms l [] no_variables atoms) where
+      -- Atoms are of the register space or the unique space, and have 1 to 16 bytes.
+      pub atoms_narrow : AreNarrow atoms
+      atoms_narrow = narrow_all atoms (λ a. (are.each a).0)
+
+      of_range : (n : ℕ) (v : Varnode) → slice_get (ranges_of l atoms) n ≡ Some v → IsAtomAt l atoms n v
+      of_range n v h = atom_at l atoms n v atoms_narrow h
+
+      at : (n : ℕ) (a : Atom) → slice_get atoms n ≡ Some a → IsAtom l [] no_variables a
+      at n a h = (are.each a).0 (member_at atoms n a h)
+
+      rising : (m n : ℕ) (v w : Varnode)
+          → slice_get (ranges_of l atoms) m ≡ Some v
+          → slice_get (ranges_of l atoms) n ≡ Some w
+          → m < n
+          → AreApart v w
+      rising m n v w p q less =
+          let a = of_range m v p in
+          let b = of_range n w q in
+          let V : Varnode → Type 0 = λ x. AreApart x w in
+          let W : Varnode → Type 0 = λ x. AreApart (range_of l a.atom) x in
+          let first = one_before atoms are.in_order m n a.atom b.atom a.get b.get less in
+          subst V a.range (subst W b.range
+          (before_apart (a.atom).storage (a.atom).size (b.atom).storage (b.atom).size (at m a.atom a.get)
+          (at n b.atom b.get) a.storage b.storage first))
+
+      -- The atoms' ranges lie inside their spaces, and no two share a byte.
+      pub atoms_table : IsTable l (ranges_of l atoms)
+      atoms_table = record {
+        inside = λ n v h.
+            let a = of_range n v h in
+            let V : Varnode → Type 0 = λ x. IsInside l x in
+            subst V a.range (placed a.atom (at n a.atom a.get)).inside;
+        apart = λ m n v w p q ne. ⊎_elim
+            (λ (less : m < n). rising m n v w p q less)
+            (λ (more : n ≤ m). apart_turned w v (rising n m w v q p (omega (arith, more, ne))))
+            (cases_lt m n);
+      }
+
+      -- Each has a byte.
+      pub atoms_some : AreSome (ranges_of l atoms)
+      atoms_some n v h =
+          let a = of_range n v h in
+          let V : Varnode → Type 0 = λ x. 0 < x.size in
+          subst V a.range (placed a.atom (at n a.atom a.get)).some
