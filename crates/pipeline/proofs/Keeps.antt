@@ -2,8 +2,8 @@
 use Rattle.std.proofs.Common.{◌≡◌, ◌≢◌, ◌<◌, ◌≤◌, ◌^◌, ℕ, Bool, true, false, List, length, Option, Some, None, refl, sym, ap, ◌∙◌, subst, arith}
 use Rattle.std.specs.Prelude.{Result, Ok, Err}
 use Rattle.std.specs.List.{AllByRecursion}
-use Rattle.machine.specs.Trace.{End, Returned, ReadOnlyWrite, Outside, BadTarget, Undefined, Trace}
-use Rattle.machine.specs.TwoWay.{NeverEnds, bare, bare_end, seen_as}
+use Rattle.machine.specs.Trace.{End, Returned, ReadOnlyWrite, Outside, BadTarget, Trace}
+use Rattle.machine.specs.TwoWay.{NeverEnds, bare, bare_end}
 use Rattle.machine.specs.Agree.{Agree}
 use Rattle.machine.proofs.Agree.{agree_along}
 use Rattle.machine.proofs.TwoWay.{two_way_as, never_ends_along}
@@ -14,9 +14,9 @@ use Rattle.pcode_model.specs.declared.listing.Varnode.{Varnode}
 use Rattle.pcode_model.specs.declared.tables.TableAt.{TableAt}
 use Rattle.pcode_model.specs.Frame.{frame_of, no_variables}
 use Rattle.pcode_model.specs.Spaces.{first_ram, is_fixed, is_some, size_of}
-use Rattle.pcode_model.specs.Memory.{Bytes, Frame, Layout, any_fixed, any_framed, any_hidden, is_framed, unless, whole}
+use Rattle.pcode_model.specs.Memory.{Frame, any_fixed, any_framed, any_hidden, is_framed, unless, whole}
 use Rattle.pcode_model.specs.WellFormed.{IsNamedSpace}
-use Rattle.pcode_model.specs.World.{Entry, IsEntry}
+use Rattle.pcode_model.specs.World.{Entry}
 use Rattle.pcode_model.specs.Step.{first_whole, layout as layout_of, proto_of, result_of, seen_p, stack0, stack_word, start}
 use Rattle.pcode_laws.proofs.Ends.{Allows, ends_within}
 use Rattle.cmeaning.specs.Agree.{AgreesWith}
@@ -29,7 +29,7 @@ use Rattle.blockcode.specs.Laid.{laid_body}
 use Rattle.blockcode.specs.Run.{seen_code}
 use Rattle.layout_laws.proofs.Covered.{laid_covered}
 use Rattle.layout_laws.proofs.Keeps as layout
-use Rattle.op_code.specs.Lowered.{lowered, result_width, width_of_result}
+use Rattle.op_code.specs.Lowered.{lowered, width_of_result}
 use Rattle.op_code.specs.Lowerable.{IsLowerable}
 use Rattle.plain_laws.proofs.Agrees as lowering
 use Rattle.plain_valid.specs.Function.{plain_head, plain_function}

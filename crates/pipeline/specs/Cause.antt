@@ -1,5 +1,5 @@
 -- What an input shows, and why it is refused. This project's own.
-use Rattle.std.specs.Prelude.{◌≡◌, ℕ, List, Option, Result, ⊤}
+use Rattle.std.specs.Prelude.{◌≡◌, Option, Result, ⊤}
 use Rattle.outside.specs.declared.reading.ReadEnd.{ReadEnd}
 use Rattle.statuses.specs.Answer as answer
 use Rattle.statuses.specs.Answer.{Answer}

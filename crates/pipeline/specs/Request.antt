@@ -1,5 +1,5 @@
 -- What the words of the command line ask for, as far as it is built. This project's own.
-use Rattle.std.specs.Prelude.{ℕ, Bool, true, false, not, List, Option, Some, None, is_some}
+use Rattle.std.specs.Prelude.{ℕ, Bool, false, not, List, Option, Some, None, is_some}
 use Rattle.std.specs.Option.{option_map}
 use Rattle.words.specs.Request as words
 use Rattle.words.specs.Request.{text_in}

@@ -1,6 +1,5 @@
 use Rattle.std.proofs.Common.{map, string_bytes}
 use Rattle.pipeline.specs.Request.{asked_by}
-use Rattle.pipeline.specs.Table.{told}
 use Rattle.statuses.specs.Answer.{answer_of}
 use Rattle.pipeline.proofs.Outcomes.{table}
 use Rattle.pipeline.proofs.top.decompile_words.Goals as goal
