@@ -27,7 +27,8 @@ use Rattle.rules.proofs.Total.{everywhere, everywhere_reads, zeros, zero_words, 
 use Rattle.rules.proofs.Has as H
 use Rattle.rules.proofs.Has.{Under, Has}
 use Rattle.rules.proofs.Booleans.{negated_test, test_most, negated_has, negated_depth}
-use Rattle.rules.proofs.Shapes.{shape_roll, level, some_shape, shape_size}
+use Rattle.cmeaning.proofs.Layers.{shape_roll}
+use Rattle.rules.proofs.Shapes.{level, some_shape, shape_size}
 use Rattle.rules.proofs.Sound.{value_in_c}
 use Rattle.negation.specs.Negation.{IsNegation, OfComparison, OfOther, Opposed, Negates}
 
