@@ -1,10 +1,11 @@
--- The C function of a code below a head, and the head of a function that calls nothing. This project's own.
+-- The C function of a code below a head, and the head. This project's own.
 use Rattle.std.specs.Prelude.{ℕ, false, List, [], ◌∷◌, ◌++◌, Option, Some, None}
 use Rattle.bits_core.specs.declared.word.Width.{Width}
 use Rattle.pcode_model.specs.declared.storage.ParamStorage.{ParamStorage}
 use Rattle.cmeaning.specs.declared.tree.Param.{Param}
 use Rattle.cmeaning.specs.declared.tree.Local.{Local}
 use Rattle.cmeaning.specs.declared.tree.CFunction.{CFunction}
+use Rattle.cmeaning.specs.declared.tree.CalleeDecl.{CalleeDecl}
 use Rattle.naming.specs.declared.head.Head.{Head}
 use Rattle.naming.specs.Named.{named_function}
 use Rattle.blockcode.specs.declared.code.Variable.{Variable}
@@ -33,12 +34,12 @@ abbrev pub locals_of : List Variable → List Local
 locals_of [] = []
 locals_of (v ∷ vs) = local_of v.width v.storage ++ locals_of vs
 
--- of a function of this name, with a result of this width or none
-abbrev pub head_of : List ℕ → Option Width → List Variable → Head
-head_of name gives vs = record {
+-- of a function of this name, with a result of this width or none, that may call these
+abbrev pub head_of : List ℕ → Option Width → List CalleeDecl → List Variable → Head
+head_of name gives callees vs = record {
   name = name;
   gives = gives;
   params = params_of vs;
   locals = locals_of vs;
-  callees = [];
+  callees = callees;
 }

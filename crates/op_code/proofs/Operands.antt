@@ -23,7 +23,7 @@ use Rattle.blockcode.proofs.Straight.{run_all}
 use Rattle.op_values.proofs.Means.{Means, constant_means, nearest_is}
 use Rattle.op_code.specs.Cover.{HasCover}
 use Rattle.op_code.specs.Made.{address_of, name_of, range_word, read_by, read_one, reads}
-use Rattle.op_code.specs.Form.{IsDirect, IsNarrow, IsOperand, IsOperandBy}
+use Rattle.op_code.specs.Form.{AllOperands, IsDirect, IsNarrow, IsOperand, IsOperandBy}
 use Rattle.op_code.proofs.Access.{direct_points, load_runs, read_is}
 use Rattle.op_code.proofs.Reading.{read_means}
 use Rattle.op_code.proofs.Sees.{AreWide, Sees, Setting, sees_local, wide_back, wide_front}
@@ -69,10 +69,6 @@ AllHave m l ws s env (v ∷ vs) [] rest = ⊥
 AllHave m l ws s env (v ∷ vs) (e ∷ es) [] = ⊥
 AllHave m l ws s env (v ∷ vs) (e ∷ es) (a ∷ rest) =
     Has m l ws s env (kind_of l v.space) v e a × AllHave m l ws s env vs es rest
-
-abbrev pub AllOperands : Listing → List Varnode → List Varnode → Type 0
-AllOperands l ranges [] = Unit {0}
-AllOperands l ranges (v ∷ vs) = IsOperand l ranges v × AllOperands l ranges vs
 
 -- After its loads, from x to y, an operand has a word. It keeps it while the variables below the next free one stay.
 pub record ReadsBy {M : Type 0} (m : Acts M) (l : Listing) (look : M → Bytes) (ranges : List Varnode) (ws : ℕ → ℕ)

@@ -40,9 +40,9 @@ use Rattle.op_values.proofs.Means.{Means, nearest_is}
 use Rattle.op_values.proofs.Operations.{IsDropped, binary_means, unary_means}
 use Rattle.op_values.proofs.Divisions.{division_means, divides_some, statement_is}
 use Rattle.op_code.specs.Made.{address, computes, divides, divides_at, name_of, op_made, reads, sets, stores, word_at}
-use Rattle.op_code.specs.Form.{IsMemory, IsOutput, IsPlainOp, IsSecond}
+use Rattle.op_code.specs.Form.{AllOperands, IsMemory, IsOutput, IsPlainOp, IsSecond}
 use Rattle.op_code.proofs.Access.{address_points, load_runs, store_meets, store_runs}
-use Rattle.op_code.proofs.Operands.{AllHave, AllOperands, Has, ReadsAll, goes, reads_all, run_append, run_one}
+use Rattle.op_code.proofs.Operands.{AllHave, Has, ReadsAll, goes, reads_all, run_append, run_one}
 use Rattle.op_code.proofs.Sees.{AreWide, Meets, Sees, Setting, wide_back, wide_front}
 use Rattle.op_code.proofs.Sets.{Fails, Makes, fail_meets, set_meets}
 use Rattle.op_code.proofs.Steps.{op_of, binary_step, divide_ends, divide_step, load_step, store_step, unary_step}

@@ -1,5 +1,6 @@
 -- The form of the ops that have statements so far. This project's own.
-use Rattle.std.specs.Prelude.{◌≡◌, ℕ, ◌<◌, ◌≤◌, List, [], ◌∷◌, Option, Some, None}
+use Rattle.std.specs.Prelude.{◌≡◌, ℕ, ◌+◌, ◌<◌, ◌≤◌, List, [], ◌∷◌, Option, Some, None, IfSome, ◌⊎◌}
+use Rattle.std.specs.List.{AllByRecursion}
 use Rattle.bits_core.specs.Value.{limit, IsUnarySized, IsBinarySized}
 use Rattle.bits_core.specs.declared.ops.Binary.{Binary}
 use Rattle.bits_core.specs.declared.ops.Binary.TheVariants as B
@@ -7,10 +8,15 @@ use Rattle.pcode_model.specs.declared.listing.SpaceKind.{SpaceKind}
 use Rattle.pcode_model.specs.declared.listing.SpaceKind.TheVariants.{Constant, Ram, Register, Unique}
 use Rattle.pcode_model.specs.declared.listing.Varnode.{Varnode}
 use Rattle.pcode_model.specs.declared.listing.Listing.{Listing}
+use Rattle.pcode_model.specs.declared.listing.Proto.{Proto}
+use Rattle.pcode_model.specs.declared.listing.Storage.{Storage}
+use Rattle.pcode_model.specs.declared.listing.Storage.TheVariants.{At, Stack}
 use Rattle.pcode_model.specs.declared.opcode.Opcode.{Opcode}
 use Rattle.pcode_model.specs.declared.opcode.Opcode.TheVariants as O
-use Rattle.pcode_model.specs.Spaces.{kind_of, size_of, word_size}
-use Rattle.pcode_model.specs.Step.{proto_of}
+use Rattle.pcode_model.specs.Flow.{IsIn}
+use Rattle.pcode_model.specs.Spaces.{kind_of, register_space, size_of, word_size}
+use Rattle.pcode_model.specs.Step.{callee_at, proto_of}
+use Rattle.pcode_model.specs.WellFormed.{ShareNothing}
 use Rattle.cmeaning.specs.Do.{accessed}
 use Rattle.op_code.specs.Cover.{HasCover}
 use Rattle.op_code.specs.Made.{name_of, offset_bytes}
@@ -66,6 +72,38 @@ abbrev pub IsResult : Listing → List Varnode → Option Varnode → Type 0
 IsResult l ranges None = Unit {0}
 IsResult l ranges (Some v) = IsNarrow v × IsLocalBy (kind_of l v.space) ranges v
 
+-- ---- calls
+
+-- an argument is a range of variables
+abbrev pub IsPassed : Listing → List Varnode → Storage → Type 0
+IsPassed l ranges (At v) = IsOperand l ranges v
+IsPassed l ranges (Stack offset size) = ⊥
+
+-- each of these lies in a range of registers, or shares no byte with it
+abbrev pub IsSplitBy : Listing → List Varnode → Varnode → Type 0
+IsSplitBy l ranges kept = (v : Varnode) → IsIn v ranges → v.space ≡ register_space l
+    → ((kept.offset ≤ v.offset) × (v.offset + v.size ≤ kept.offset + kept.size)) ⊎ ShareNothing v kept
+
+abbrev pub IsGiven : Listing → List Varnode → Varnode → Type 0
+IsGiven l ranges v = (v.space ≡ register_space l) × (IsNarrow v × HasCover ranges v)
+
+-- What is asked of the prototype of a call that is reached.
+-- stack: so far without a stack pointer.
+-- kept: each variable of a register lies in a kept range or apart from it.
+-- apart: no kept range shares a byte with the result.
+pub record IsCallable (l : Listing) (ranges : List Varnode) (p : Proto) : Type 0 where
+  pub stack : l.stack ≡ None
+  pub args : AllByRecursion (IsPassed l ranges) p.args
+  pub gives : IfSome p.gives (IsGiven l ranges)
+  pub kept : AllByRecursion (IsSplitBy l ranges) p.keep
+  pub apart : AllByRecursion (λ kept. IfSome p.gives (ShareNothing kept)) p.keep
+
+abbrev pub AllOperands : Listing → List Varnode → List Varnode → Type 0
+AllOperands l ranges [] = Unit {0}
+AllOperands l ranges (v ∷ vs) = IsOperand l ranges v × AllOperands l ranges vs
+
+-- ---- ops
+
 abbrev pub IsPlainOp : Listing → List Varnode → Opcode → Option Varnode → List Varnode → Type 0
 IsPlainOp l ranges (O.Unary op) (Some z) (x ∷ []) =
     IsUnarySized op x.size z.size × (IsOperand l ranges x × IsOutput l ranges z)
@@ -81,4 +119,7 @@ IsPlainOp l ranges O.Store None (s ∷ x ∷ y ∷ []) =
 IsPlainOp l ranges O.Branch None (to ∷ []) = Unit {0}
 IsPlainOp l ranges O.CBranch None (to ∷ x ∷ []) = (x.size ≡ 1) × IsOperand l ranges x
 IsPlainOp l ranges O.Return None (to ∷ []) = IsOperand l ranges to × IsResult l ranges (proto_of l None).gives
+IsPlainOp l ranges O.Call None (to ∷ []) = IsCallable l ranges (proto_of l (callee_at l to.offset))
+IsPlainOp l ranges O.CallInd None (to ∷ []) = IsOperand l ranges to × IsCallable l ranges (proto_of l None)
+IsPlainOp l ranges O.CallOther out (index ∷ vs) = AllOperands l ranges vs × IfSome out (IsOutput l ranges)
 IsPlainOp l ranges code out vs = ⊥

@@ -3,6 +3,7 @@ pub mod Cover
 pub mod Words
 pub mod Ranges
 pub mod WorkedCovers
+pub mod Left
 pub mod Made
 pub mod Sources
 pub mod Numbers

@@ -22,7 +22,7 @@ use Rattle.blockcode.specs.declared.code.Exit.{Exit}
 use Rattle.blockcode.specs.declared.code.Exit.TheVariants as X
 use Rattle.blockcode.specs.declared.code.Block.{Block}
 use Rattle.blockcode.specs.declared.code.Code.{Code}
-use Rattle.op_values.specs.Nodes.{constant, width_by}
+use Rattle.op_values.specs.Nodes.{constant, width_by, width_of_range}
 use Rattle.op_code.specs.Made.{Made, ReadOne, nothing, op_made, range_word, read_one}
 
 -- ---- variables
@@ -150,10 +150,6 @@ lowered l blocks atoms = record {
 
 -- ---- the result
 
-abbrev pub width_of_result : Option Varnode → Option Width
-width_of_result None = None
-width_of_result (Some v) = Some (width_by v.size)
-
 -- the function's result has the width that its prototype says
 abbrev pub result_width : Listing → Option Width
-result_width l = width_of_result (proto_of l None).gives
+result_width l = width_of_range (proto_of l None).gives

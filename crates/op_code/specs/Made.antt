@@ -1,6 +1,6 @@
 -- What stands for an op: its statements, and the locals that they need, numbered behind the variables that there are.
 -- Both come by one definition, so that there are as many locals as the statements name. This project's own.
-use Rattle.std.specs.Prelude.{ℕ, suc, ◌+◌, ◌==◌, Bool, false, if◌then◌else◌, List, [], ◌∷◌, ◌++◌, length, slice_get, Option, Some, None}
+use Rattle.std.specs.Prelude.{ℕ, suc, ◌+◌, ◌==◌, Bool, true, false, if◌then◌else◌, List, [], ◌∷◌, ◌++◌, drop, length, slice_get, Option, Some, None}
 use Rattle.std.specs.List.{slice_index_or}
 use Rattle.bits_core.specs.declared.ops.Divide.{Divide}
 use Rattle.pcode_model.specs.declared.listing.Space.{Space}
@@ -8,16 +8,19 @@ use Rattle.pcode_model.specs.declared.listing.SpaceKind.{SpaceKind}
 use Rattle.pcode_model.specs.declared.listing.SpaceKind.TheVariants.{Constant, Ram, Register, Unique}
 use Rattle.pcode_model.specs.declared.listing.Varnode.{Varnode}
 use Rattle.pcode_model.specs.declared.listing.Listing.{Listing}
+use Rattle.pcode_model.specs.declared.listing.Proto.{Proto}
 use Rattle.pcode_model.specs.declared.opcode.Opcode.{Opcode}
 use Rattle.pcode_model.specs.declared.opcode.Opcode.TheVariants as O
 use Rattle.pcode_model.specs.Spaces.{first_ram, is_big, kind_of, offset_bytes_in, word_size}
-use Rattle.pcode_model.specs.Step.{size_out, varnode_at}
+use Rattle.pcode_model.specs.Rules.{past_first}
+use Rattle.pcode_model.specs.Step.{callee_at, proto_of, returns, size_out, varnode_at}
 use Rattle.cmeaning.specs.declared.tree.Expr.{Expr}
 use Rattle.cmeaning.specs.declared.tree.Expr.TheVariants as E
 use Rattle.cmeaning.specs.declared.tree.Stmt.{Stmt}
 use Rattle.cmeaning.specs.declared.tree.Stmt.TheVariants as S
 use Rattle.blockcode.specs.declared.code.Variable.{Variable}
 use Rattle.op_code.specs.Cover.{Piece, cover}
+use Rattle.op_code.specs.Left.{argument_ranges, extras}
 use Rattle.op_code.specs.Words.{read_range, target, write_range}
 use Rattle.op_values.specs.Nodes.{address_node, binary_node, constant, divides_by, division_node, nearest, statement_of, unary_node, width_by}
 
@@ -170,6 +173,50 @@ one_read l ranges next vs n = reads l ranges next (varnode_at vs n ∷ [])
 abbrev pub both_read : Listing → List Varnode → ℕ → List Varnode → ℕ → Read
 both_read l ranges next vs n = reads l ranges next (varnode_at vs n ∷ varnode_at vs (suc n) ∷ [])
 
+-- ---- calls
+
+-- a statement that takes an answer, and may have a target
+abbrev pub Asking : Type 0
+Asking = Option ℕ → Stmt
+
+-- What follows a call whose prototype gives this result: what it left in registers is taken, and then the result's
+-- variables are assigned their parts.
+abbrev pub answered : Listing → List Varnode → ℕ → Proto → Option Varnode → Asking → Made
+answered l ranges next p None make = record { statements = make None ∷ extras l p ranges; locals = [] }
+answered l ranges next p (Some z) make = record {
+  statements = make (Some (target ranges next z))
+      ∷ (extras l p ranges ++ write_range (is_big l z.space) ranges z next);
+  locals = local_for (cover ranges z) z;
+}
+
+-- a call of this prototype that returns, by what is read before
+abbrev pub calls : Listing → List Varnode → ℕ → Proto → Read → Asking → Made
+calls l ranges next p r make = behind r (answered l ranges (next + length r.locals) p p.gives make)
+
+-- the arguments of a call of this prototype
+abbrev pub passed : Listing → List Varnode → ℕ → Proto → Read
+passed l ranges next p = reads l ranges next (argument_ranges p.args)
+
+-- a call of the function at an address, which returns or doesn't; one that doesn't has no target
+abbrev pub call_made : Bool → Listing → List Varnode → ℕ → (address : ℕ) → Proto → Made
+call_made true l ranges next address p =
+    calls l ranges next p (passed l ranges next p) (λ v. S.Call v address (passed l ranges next p).words)
+call_made false l ranges next address p =
+    behind (passed l ranges next p)
+    (record { statements = S.Call None address (passed l ranges next p).words ∷ []; locals = [] })
+
+-- the address that is called, and the arguments
+abbrev pub indirect_read : Listing → List Varnode → ℕ → Varnode → Proto → Read
+indirect_read l ranges next to p = reads l ranges next (to ∷ argument_ranges p.args)
+
+-- an answer that is no callee's: nothing of it is left in registers
+abbrev pub asks : Listing → List Varnode → ℕ → Option Varnode → Read → Asking → Made
+asks l ranges next None r make = behind r (record { statements = make None ∷ []; locals = [] })
+asks l ranges next (Some z) r make =
+    behind r (set_by (kind_of l z.space) l ranges (next + length r.locals) z (λ v. make (Some v)))
+
+-- ---- all ops
+
 -- An op that leads on. What an op reads that leaves a block is its exit's.
 abbrev pub op_made : Listing → List Varnode → ℕ → Opcode → Option Varnode → List Varnode → Made
 op_made l ranges next (O.Unary op) out vs =
@@ -189,4 +236,14 @@ op_made l ranges next O.Load out vs =
     (address l (varnode_at vs 0).offset (varnode_at vs 1).size (word_at (one_read l ranges next vs 1) 0)))
 op_made l ranges next O.Store out vs =
     stores l (varnode_at vs 0).offset (varnode_at vs 1).size (both_read l ranges next vs 1)
+op_made l ranges next O.Call out vs =
+    call_made (returns (callee_at l (varnode_at vs 0).offset)) l ranges next (varnode_at vs 0).offset
+    (proto_of l (callee_at l (varnode_at vs 0).offset))
+op_made l ranges next O.CallInd out vs =
+    calls l ranges next (proto_of l None) (indirect_read l ranges next (varnode_at vs 0) (proto_of l None))
+    (λ v. S.CallInd v (word_at (indirect_read l ranges next (varnode_at vs 0) (proto_of l None)) 0)
+    (drop 1 (indirect_read l ranges next (varnode_at vs 0) (proto_of l None)).words))
+op_made l ranges next O.CallOther out vs =
+    asks l ranges next out (reads l ranges next (past_first vs))
+    (λ v. S.Other v (varnode_at vs 0).offset (reads l ranges next (past_first vs)).words)
 op_made l ranges next code out vs = nothing

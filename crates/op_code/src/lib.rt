@@ -31,6 +31,7 @@
 #![tactic(auto)]
 
 mod covers;
+mod left;
 mod locals;
 mod memory;
 mod outputs;
@@ -40,6 +41,7 @@ mod table;
 mod words;
 
 pub use covers::Piece;
+pub use left::Leftover;
 pub use reads::read;
 pub use statements::add_op;
 pub use table::Table;

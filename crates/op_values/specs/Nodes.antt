@@ -1,5 +1,5 @@
 -- The expressions that stand for operations, parts of words, divisions and addresses. This project's own.
-use Rattle.std.specs.Prelude.{ℕ, ◌-◌, ◌%◌, ◌<◌, ◌≤◌, ◌==◌, ◌&&◌, nat_le, nat_lt, not, Bool, min, max, if◌then◌else◌}
+use Rattle.std.specs.Prelude.{ℕ, ◌-◌, ◌%◌, ◌<◌, ◌≤◌, ◌==◌, ◌&&◌, nat_le, nat_lt, not, Bool, min, max, if◌then◌else◌, Option, Some, None}
 use Rattle.std.proofs.Common.{arith}
 use Rattle.std.proofs.Math.Nat.{mod-lt}
 use Rattle.bits_core.proofs.Limits.{limit_pos}
@@ -12,6 +12,7 @@ use Rattle.bits_core.specs.declared.ops.Binary.{Binary}
 use Rattle.bits_core.specs.declared.ops.Binary.TheVariants as B
 use Rattle.bits_core.specs.declared.ops.Divide.{Divide}
 use Rattle.bits_core.specs.declared.ops.Divide.TheVariants as D
+use Rattle.pcode_model.specs.declared.listing.Varnode.{Varnode}
 use Rattle.cmeaning.specs.declared.tree.UnaryOp.TheVariants.{Neg, Not}
 use Rattle.cmeaning.specs.declared.tree.ArithmeticOp.TheVariants.{Add, Sub, Mul, And, Or, Xor}
 use Rattle.cmeaning.specs.declared.tree.DivisionOp.TheVariants.{Div, Rem}
@@ -40,6 +41,11 @@ nearest_to w = omega arith
 -- the width of so many bytes, or the nearest one
 abbrev pub width_by : ℕ → Width
 width_by w = record { bytes = nearest w; from = nearest_from w; to = nearest_to w }
+
+-- the width of a range, where there is one
+abbrev pub width_of_range : Option Varnode → Option Width
+width_of_range None = None
+width_of_range (Some v) = Some (width_by v.size)
 
 -- a number as a word of so many bytes, reduced to them
 abbrev pub word_by : ℕ → ℕ → Word

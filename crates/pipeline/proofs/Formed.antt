@@ -8,8 +8,8 @@ use Rattle.pcode_model.specs.declared.listing.Varnode.{Varnode}
 use Rattle.pcode_model.specs.Rules.{first_bad}
 use Rattle.pcode_model.specs.Step.{proto_of}
 use Rattle.pcode_model.specs.WellFormed.{IsStorage, IsWellFormed}
-use Rattle.op_code.specs.Lowered.{result_width, width_of_result}
-use Rattle.op_values.specs.Nodes.{width_by}
+use Rattle.op_code.specs.Lowered.{result_width}
+use Rattle.op_values.specs.Nodes.{width_by, width_of_range}
 use Rattle.op_values.proofs.Means.{nearest_is}
 use Rattle.plain_form.proofs.Read.{proto_is}
 
@@ -24,7 +24,7 @@ module _ (l : Listing) (read : IsWellFormed l) (good : first_bad l ≡ None) whe
     where
       by : (gives : Option Varnode)
           → IfSome gives (IsStorage l.spaces)
-          → option_map (λ (width : Width). width.bytes) (width_of_result gives)
+          → option_map (λ (width : Width). width.bytes) (width_of_range gives)
           ≡ option_map (λ (range : Varnode). range.size) gives
       by None h = refl
       by (Some v) h = ap Some (width_is v h)

@@ -29,7 +29,8 @@ use Rattle.blockcode.specs.Laid.{laid_body}
 use Rattle.blockcode.specs.Run.{seen_code}
 use Rattle.layout_laws.proofs.Covered.{laid_covered}
 use Rattle.layout_laws.proofs.Keeps as layout
-use Rattle.op_code.specs.Lowered.{lowered, width_of_result}
+use Rattle.op_values.specs.Nodes.{width_of_range}
+use Rattle.op_code.specs.Lowered.{lowered}
 use Rattle.op_code.specs.Lowerable.{IsLowerable}
 use Rattle.plain_laws.proofs.Agrees as lowering
 use Rattle.plain_valid.specs.Function.{plain_head, plain_function}
@@ -100,7 +101,7 @@ wordless r h n = ap (λ o. let t : Trace = record { events = (r n).events; over 
 without_words : (gives : Option Varnode) (source target : ℕ → Trace)
     → ((w : ℕ) → gives ≡ None → NeverEnds (Returned (Some w)) source)
     → Agree true source target
-    → Agree (is_some (width_of_result gives)) source target
+    → Agree (is_some (width_of_range gives)) source target
 without_words (Some v) source target h agree = agree
 without_words None source target h agree = record {
   same = λ never.

@@ -28,10 +28,11 @@ use Rattle.naming.proofs.Rules.{rule_is}
 use Rattle.blockcode.specs.declared.code.Exit.TheVariants as X
 use Rattle.layout.specs.Suits.{BodySuits, ExitSuits, Knows}
 use Rattle.layout.proofs.Suiting.{knows_one, obey_one, suits_append, suits_none}
+use Rattle.op_values.specs.Nodes.{width_of_range}
 use Rattle.op_values.proofs.Means.{nearest_is}
 use Rattle.op_code.specs.Made.{name_in, name_of, range_word}
 use Rattle.op_code.specs.Form.{IsMemory}
-use Rattle.op_code.specs.Lowered.{result, result_in, result_width, width_of_result}
+use Rattle.op_code.specs.Lowered.{result, result_in, result_width}
 use Rattle.plain_valid.proofs.Shapes.{AllBelow, Fits, below_append}
 use Rattle.plain_valid.proofs.EachKind.{Gives, IsVariable, Kinds}
 
@@ -194,7 +195,7 @@ module _ (l : Listing) (ranges : List Varnode) (h : Head) (few : length h.params
 
   result_suits : (o : Option Varnode)
       → Gives l ranges (widths_of h) (variables h) o
-      → (is_returned (widths_of h) (width_of_result o) (result_in l ranges o) ≡ true)
+      → (is_returned (widths_of h) (width_of_range o) (result_in l ranges o) ≡ true)
       × Knows h (in_option (result_in l ranges o))
   result_suits None given = (refl, tt)
   result_suits (Some v) given =
