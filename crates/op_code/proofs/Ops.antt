@@ -2,7 +2,7 @@
 use Rattle.std.proofs.Common.{◌≡◌, ◌≢◌, ℕ, ◌+◌, ◌<◌, ◌≤◌, Bool, true, false, List, [], ◌∷◌, ◌++◌, length, Option, Some, None, refl, sym, ap, ◌∙◌, subst, arith, ◌⊎◌, inl, inr, ⊎_elim}
 use Rattle.std.specs.Prelude.{cond, Ok}
 use Rattle.std.proofs.lemmas.Bool.{cases_eq}
-use Rattle.machine.specs.Trace.{DivZero}
+use Rattle.machine.specs.Trace.{End, DivZero}
 use Rattle.bits_core.specs.declared.ops.Unary.{Unary}
 use Rattle.bits_core.specs.declared.ops.Binary.{Binary}
 use Rattle.bits_core.specs.declared.ops.Binary.TheVariants as B
@@ -44,7 +44,7 @@ use Rattle.op_code.specs.Form.{AllOperands, IsMemory, IsOutput, IsPlainOp, IsSec
 use Rattle.op_code.proofs.Access.{address_points, load_runs, store_meets, store_runs}
 use Rattle.op_code.proofs.Operands.{AllHave, Has, ReadsAll, goes, reads_all, run_append, run_one}
 use Rattle.op_code.proofs.Sees.{AreWide, Meets, Sees, Setting, wide_back, wide_front}
-use Rattle.op_code.proofs.Sets.{Fails, Makes, fail_meets, set_meets}
+use Rattle.op_code.proofs.Sets.{Fails, Makes, ended_meets, fail_runs, set_meets}
 use Rattle.op_code.proofs.Steps.{op_of, binary_step, divide_ends, divide_step, load_step, store_step, unary_step}
 
 -- ---- the words of one operand and of two
@@ -91,7 +91,7 @@ module _ {M : Type 0} (m : Acts M) (l : Listing) (ws : ℕ → ℕ) (s : State M
 -- ---- statements that assign a word
 
 module _ (l : Listing) (ws : ℕ → ℕ) (x : Local) where
-  assign_makes : (e : Expr) (k n : ℕ) → Means ws x.env e k n → Makes l ws (λ v. S.Assign v e) k n x
+  assign_makes : (e : Expr) (k n : ℕ) → Means ws x.env e k n → Makes l ws (λ v. S.Assign v e) k n x x
   assign_makes e k n means v returns wide =
       do_assign l ws returns v e x ∙ ap (λ o. code.with_word o x (λ n. assigned v n x)) means.value
 
@@ -149,38 +149,65 @@ module _
     (free : length ranges ≤ n)
   where
     -- The step to t writes a word to the output, and the statement assigns it.
-    record Computed (z : Varnode) (make : ℕ → Stmt) (y : Local) (t : State M) : Type 0 where
-      word : ℕ
-      below : word < limit z.size
-      makes : Makes l ws make z.size word y
-      step : t ≡ write_varnode m l (kind_of l z.space) z word (moved next s)
+    pub record Computed (z : Varnode) (make : ℕ → Stmt) (y : Local) (t : State M) : Type 0 where
+      pub word : ℕ
+      pub below : word < limit z.size
+      pub base : State M
+      pub to : Local
+      pub on : to.world.over ≡ None
+      pub sees : Sees l ranges look base to
+      pub makes : Makes l ws make z.size word y to
+      pub step : t ≡ write_varnode m l (kind_of l z.space) z word (moved next base)
 
     -- Both end.
-    record Failed (make : ℕ → Stmt) (y : Local) (t : State M) : Type 0 where
-      fails : Fails l ws make DivZero y
-      step : t ≡ in_world (ended DivZero s.world) s
+    pub record Failed (make : ℕ → Stmt) (y : Local) (t : State M) : Type 0 where
+      pub to : Local
+      pub end : End
+      pub over : to.world.over ≡ Some end
+      pub fails : Fails l ws make y to
+      pub meets : Meets l ranges look next t to
 
     sets_meet : (z : Varnode) (returns : List Stmt → Bool) (make : ℕ → Stmt) (k : ℕ) (y : Local) (t : State M)
         → IsOutput l ranges z
         → n ≤ k
         → AreWide ws k (sets l ranges k (Some z) make).locals
-        → Sees l ranges look s y
+        → y.world.over ≡ None
         → Computed z make y t ⊎ Failed make y t
         → Meets l ranges look next t (run_all l ws returns (sets l ranges k (Some z) make).statements y)
-    sets_meet z returns make k y t out later wide sees made =
-        let on = goes m l f look ranges ws is set s go y sees in
+    sets_meet z returns make k y t out later wide on made =
+        let kind = kind_of l z.space in
+        ⊎_elim
+        (λ (c : Computed z make y t).
         let P : State M → Type 0 = λ u. Meets l ranges look next u
         (run_all l ws returns (sets l ranges k (Some z) make).statements y) in
-        ⊎_elim
-        (λ (c : Computed z make y t). subst P (sym c.step)
-        (set_meets m l look ranges ws is set next s y on sees returns make (kind_of l z.space) k z c.word out.0 out.1
+        subst P (sym c.step)
+        (set_meets m l look ranges ws is set next c.base y c.to on c.on c.sees returns make kind k z c.word out.0 out.1
         c.below (omega (arith, free, later)) wide c.makes))
-        (λ (c : Failed make y t). subst P (sym c.step)
-        (fail_meets m l look ranges ws is set next s y on sees returns make (kind_of l z.space) k z DivZero c.fails))
+        (λ (c : Failed make y t).
+        let P : Local → Type 0 = λ u. Meets l ranges look next t u in
+        subst P (sym (fail_runs l ranges ws returns make y c.to c.end kind k z on c.over c.fails)) c.meets)
         made
 
+    -- what is computed changes nothing else
+    computed : (z : Varnode) (make : ℕ → Stmt) (y : Local) (t : State M) (word : ℕ)
+        → Sees l ranges look s y
+        → word < limit z.size
+        → Makes l ws make z.size word y y
+        → t ≡ write_varnode m l (kind_of l z.space) z word (moved next s)
+        → Computed z make y t
+    computed z make y t word sees below makes step = record {
+      word = word;
+      below = below;
+      base = s;
+      to = y;
+      on = goes m l f look ranges ws is set s go y sees;
+      sees = sees;
+      makes = makes;
+      step = step;
+    }
+
     -- The operands are read, and an output is set to what is made of them.
-    computes_meets : (vs : List Varnode) (z : Varnode) (returns : List Stmt → Bool) (make : ℕ → Stmt) (x : Local)
+    pub computes_meets : (vs : List Varnode) (z : Varnode) (returns : List Stmt → Bool) (make : ℕ → Stmt) (x : Local)
         (t : State M)
         → IsOutput l ranges z
         → AllOperands l ranges vs
@@ -199,8 +226,8 @@ module _
         (wide_front ws n reading.locals setting.locals wide) sees in
         let P : Local → Type 0 = λ u. Meets l ranges look next t u in
         subst P (sym (run_append l ws returns reading.loads setting.statements x))
-        (sets_meet z returns make k y t out (omega arith) (wide_back ws n reading.locals setting.locals wide) r.sees
-        (made y r))
+        (sets_meet z returns make k y t out (omega arith) (wide_back ws n reading.locals setting.locals wide)
+        (goes m l f look ranges ws is set s go y r.sees) (made y r))
 
     -- Two operands are read, the address in a space and what is stored there.
     stores_meet : (at : ℕ) (v w : Varnode) (returns : List Stmt → Bool) (x : Local) (t : State M)
@@ -265,7 +292,7 @@ module _
         → nearest w.size ≡ k
         → b ≢ 0
         → Makes l ws (λ v. cond t (S.Assign v (division_node op d e)) (S.Divide v (statement_of op) d e)) k
-        (quotient_or_rest op k a b) y
+        (quotient_or_rest op k a b) y y
     divides_some_by true is fixed wide some =
         assign_makes l ws y (division_node op d e) k (quotient_or_rest op k a b)
         (division_means ws y.env k a b d e means also op (known is fixed wide))
@@ -279,7 +306,7 @@ module _
         → nearest w.size ≡ k
         → divide_value op k a b ≡ None
         → b ≡ 0
-        → Fails l ws (λ v. cond t (S.Assign v (division_node op d e)) (S.Divide v (statement_of op) d e)) DivZero y
+        → Fails l ws (λ v. cond t (S.Assign v (division_node op d e)) (S.Divide v (statement_of op) d e)) y (ends DivZero y)
     divides_none_by true is fixed wide none zero = absurd (divides_some op k b (known is fixed wide) zero)
     divides_none_by false is fixed wide none zero =
         λ v returns. divided_is l ws y op v k a b d e returns means also ∙ ap (λ o. code.divided v o y) none
@@ -306,8 +333,15 @@ module _
     (free : length ranges ≤ n)
     (returns : List Stmt → Bool)
   where
+    abbrev at : Place
+    at = next_place i s.at.index
+
+    -- the state after an op
+    abbrev done : Opcode → Option Varnode → List Varnode → State M
+    done code out vs = step_at m l f (Does i (op_of code out vs)) s
+
     abbrev Meet : Opcode → Option Varnode → List Varnode → Type 0
-    Meet code out vs = Meets l ranges look (next_place i s.at.index) (step_at m l f (Does i (op_of code out vs)) s)
+    Meet code out vs = Meets l ranges look at (done code out vs)
         (run_all l ws returns (op_made l ranges n code out vs).statements x)
 
     unary_meets : (op : Unary) (z v : Varnode)
@@ -318,19 +352,19 @@ module _
         let d = word_at (reads l ranges n (v ∷ [])) 0 in
         let node = unary_node op z.size d in
         let small = h.1.1.0 in
-        computes_meets m l f look ranges ws is set (next_place i s.at.index) s go n free (v ∷ []) z returns
-        (λ u. S.Assign u node) x (step_at m l f (Does i (op_of (O.Unary op) (Some z) (v ∷ []))) s) h.1.1
+        let made = computed m l f look ranges ws is set at s go n free in
+        computes_meets m l f look ranges ws is set at s go n free (v ∷ []) z returns
+        (λ u. S.Assign u node) x (done (O.Unary op) (Some z) (v ∷ [])) h.1.1
         (h.1.0, tt) wide
         sees
         (λ y r.
         let o = one_of m l ws s y.env v d r.words r.have in
-        inl (record {
-          word = unary_value op v.size o.word z.size;
-          below = unary_word op v.size z.size o.word small.0 h.0 o.has.below;
-          makes = assign_makes l ws y node z.size (unary_value op v.size o.word z.size)
-              (unary_means ws y.env op v.size z.size o.word d h.0 small.0 small.1 h.1.0.0.1 o.has.below o.has.means);
-          step = unary_step m l f i s op z v o.word (r.read ∙ ap (λ q. Ok q) o.are);
-        }))
+        let word = unary_value op v.size o.word z.size in
+        inl (made z (λ u. S.Assign u node) y (done (O.Unary op) (Some z) (v ∷ [])) word r.sees
+        (unary_word op v.size z.size o.word small.0 h.0 o.has.below)
+        (assign_makes l ws y node z.size word
+        (unary_means ws y.env op v.size z.size o.word d h.0 small.0 small.1 h.1.0.0.1 o.has.below o.has.means))
+        (unary_step m l f i s op z v o.word (r.read ∙ ap (λ q. Ok q) o.are))))
 
     binary_meets : (op : Binary) (z v w : Varnode)
         → IsPlainOp l ranges (O.Binary op) (Some z) (v ∷ w ∷ [])
@@ -342,22 +376,21 @@ module _
         let e = word_at reading 1 in
         let node = binary_node op v.size w.offset z.size d e in
         let small = h.1.1.0 in
-        computes_meets m l f look ranges ws is set (next_place i s.at.index) s go n free (v ∷ w ∷ []) z returns
-        (λ u. S.Assign u node) x (step_at m l f (Does i (op_of (O.Binary op) (Some z) (v ∷ w ∷ []))) s) h.1.1
+        let made = computed m l f look ranges ws is set at s go n free in
+        computes_meets m l f look ranges ws is set at s go n free (v ∷ w ∷ []) z returns
+        (λ u. S.Assign u node) x (done (O.Binary op) (Some z) (v ∷ w ∷ [])) h.1.1
         (h.1.0.0, (h.1.0.1, tt)) wide sees
         (λ y r.
         let o = two_of m l ws s y.env v w d e r.words r.have in
         let word = binary_value op v.size o.first w.size o.second z.size in
         let drops = dropped_by l op w o.second h.0.0
         (λ c. constant_has m l ws s y.env (kind_of l w.space) w e o.second c o.also) in
-        inl (record {
-          word = word;
-          below = binary_word op v.size w.size z.size o.first o.second small.0 h.0.1 o.has.below o.also.below;
-          makes = assign_makes l ws y node z.size word
-              (binary_means ws y.env op v.size w.size z.size o.first o.second w.offset d e h.0.1 drops h.1.0.0.0 small
-              o.has.below o.has.means o.also.means);
-          step = binary_step m l f i s op z v w o.first o.second (r.read ∙ ap (λ q. Ok q) o.are);
-        }))
+        inl (made z (λ u. S.Assign u node) y (done (O.Binary op) (Some z) (v ∷ w ∷ [])) word r.sees
+        (binary_word op v.size w.size z.size o.first o.second small.0 h.0.1 o.has.below o.also.below)
+        (assign_makes l ws y node z.size word
+        (binary_means ws y.env op v.size w.size z.size o.first o.second w.offset d e h.0.1 drops h.1.0.0.0 small
+        o.has.below o.has.means o.also.means))
+        (binary_step m l f i s op z v w o.first o.second (r.read ∙ ap (λ q. Ok q) o.are))))
 
     divide_meets : (op : Divide) (z v w : Varnode)
         → IsPlainOp l ranges (O.Divide op) (Some z) (v ∷ w ∷ [])
@@ -369,8 +402,10 @@ module _
         let e = word_at reading 1 in
         let t = divides_at (kind_of l w.space) op w in
         let small = h.1.1.0 in
-        computes_meets m l f look ranges ws is set (next_place i s.at.index) s go n free (v ∷ w ∷ []) z returns
-        (divides l op w d e) x (step_at m l f (Does i (op_of (O.Divide op) (Some z) (v ∷ w ∷ []))) s) h.1.1
+        let there = done (O.Divide op) (Some z) (v ∷ w ∷ []) in
+        let made = computed m l f look ranges ws is set at s go n free in
+        computes_meets m l f look ranges ws is set at s go n free (v ∷ w ∷ []) z returns
+        (divides l op w d e) x (done (O.Divide op) (Some z) (v ∷ w ∷ [])) h.1.1
         (h.1.0.0, (h.1.0.1, tt)) wide sees
         (λ y r.
         let o = two_of m l ws s y.env v w d e r.words r.have in
@@ -388,45 +423,47 @@ module _
         ⊎_elim
         (λ (zero : b ≡ 0).
         let none : divide_value op z.size a b ≡ None = ap (divide_value op z.size a) zero ∙ divide_none op z.size a in
+        let P : State M → Type 0 = λ u. Meets l ranges look at u (ends DivZero y) in
         inr (record {
+          to = ends DivZero y;
+          end = DivZero;
+          over = refl;
           fails = divides_none_by l ws y op w z.size a b d e means also t refl fixed near none zero;
-          step = divide_ends m l f i s op z v w a b read none;
+          meets = subst P (sym (divide_ends m l f i s op z v w a b read none))
+              (ended_meets l ranges look at s y DivZero r.sees);
         }))
         (λ (some : b ≢ 0).
-        inl (record {
-          word = quotient_or_rest op z.size a b;
-          below = divide_word op z.size a b (quotient_or_rest op z.size a b) (subst R h.0.0 o.has.below)
-              (divide_some op z.size a b some);
-          makes = divides_some_by l ws y op w z.size a b d e means also t refl fixed near some;
-          step = divide_step m l f i s op z v w a b read some;
-        }))
+        inl (made z (divides l op w d e) y there (quotient_or_rest op z.size a b) r.sees
+        (divide_word op z.size a b (quotient_or_rest op z.size a b) (subst R h.0.0 o.has.below)
+        (divide_some op z.size a b some))
+        (divides_some_by l ws y op w z.size a b d e means also t refl fixed near some)
+        (divide_step m l f i s op z v w a b read some)))
         (cases_eq b 0))
 
-    load_meets : (z at v : Varnode)
-        → IsPlainOp l ranges O.Load (Some z) (at ∷ v ∷ [])
-        → AreWide ws n (op_made l ranges n O.Load (Some z) (at ∷ v ∷ [])).locals
-        → Meet O.Load (Some z) (at ∷ v ∷ [])
-    load_meets z at v h wide =
+    load_meets : (z from v : Varnode)
+        → IsPlainOp l ranges O.Load (Some z) (from ∷ v ∷ [])
+        → AreWide ws n (op_made l ranges n O.Load (Some z) (from ∷ v ∷ [])).locals
+        → Meet O.Load (Some z) (from ∷ v ∷ [])
+    load_meets z from v h wide =
         let d = word_at (reads l ranges n (v ∷ [])) 0 in
-        let e = address l at.offset v.size d in
-        let next = next_place i s.at.index in
-        computes_meets m l f look ranges ws is set next s go n free (v ∷ []) z returns
-        (λ u. S.Load u (name_of l at.offset) e) x (step_at m l f (Does i (op_of O.Load (Some z) (at ∷ v ∷ []))) s) h.1.1
-        (h.1.0, tt) wide sees
+        let e = address l from.offset v.size d in
+        let there = done O.Load (Some z) (from ∷ v ∷ []) in
+        let made = computed m l f look ranges ws is set at s go n free in
+        computes_meets m l f look ranges ws is set at s go n free (v ∷ []) z returns
+        (λ u. S.Load u (name_of l from.offset) e) x there h.1.1 (h.1.0, tt) wide sees
         (λ y r.
         let o = one_of m l ws s y.env v d r.words r.have in
-        let to = byte_address l at.offset o.word in
+        let to = byte_address l from.offset o.word in
         let mem : look s.world.memory ≡ y.world.memory = ap (λ w. w.memory) r.sees.world in
-        let P : Bytes → Type 0 = λ b. word_in_bytes l at.offset to z.size b < limit z.size in
-        inl (record {
-          word = word_in_bytes l at.offset to z.size y.world.memory;
-          below = subst P mem (word_below l at.offset to z.size (look s.world.memory) r.sees.memory);
-          makes = λ u returns wide. load_runs l ws returns at.offset h.0 u z.size to e y wide
-              (address_points ws y.env l at.offset v.size o.word d h.0 h.1.0.0.0 h.1.0.0.1 o.has.means);
-          step = load_step m l f i s look is at v z o.word (r.read ∙ ap (λ q. Ok q) o.are) unframed
-              ∙ ap (λ b. write_varnode m l (kind_of l z.space) z (word_in_bytes l at.offset to z.size b) (moved next s))
-              mem;
-        }))
+        let P : Bytes → Type 0 = λ b. word_in_bytes l from.offset to z.size b < limit z.size in
+        inl (made z (λ u. S.Load u (name_of l from.offset) e) y there
+        (word_in_bytes l from.offset to z.size y.world.memory) r.sees
+        (subst P mem (word_below l from.offset to z.size (look s.world.memory) r.sees.memory))
+        (λ u returns wide. load_runs l ws returns from.offset h.0 u z.size to e y wide
+        (address_points ws y.env l from.offset v.size o.word d h.0 h.1.0.0.0 h.1.0.0.1 o.has.means))
+        (load_step m l f i s look is from v z o.word (r.read ∙ ap (λ q. Ok q) o.are) unframed
+        ∙ ap (λ b. write_varnode m l (kind_of l z.space) z (word_in_bytes l from.offset to z.size b) (moved at s))
+        mem)))
 
     -- An op that goes on.
     pub op_meets : (code : Opcode) (out : Option Varnode) (vs : List Varnode)
@@ -438,11 +475,11 @@ module _
     op_meets (O.Unary op) (Some z) (v ∷ []) h turn wide = unary_meets op z v h wide
     op_meets (O.Binary op) (Some z) (v ∷ w ∷ []) h turn wide = binary_meets op z v w h wide
     op_meets (O.Divide op) (Some z) (v ∷ w ∷ []) h turn wide = divide_meets op z v w h wide
-    op_meets O.Load (Some z) (at ∷ v ∷ []) h turn wide = load_meets z at v h wide
-    op_meets O.Store None (at ∷ v ∷ w ∷ []) h turn wide =
-        stores_meet m l f look ranges ws is set (next_place i s.at.index) s go n free at.offset v w returns x
-        (step_at m l f (Does i (op_of O.Store None (at ∷ v ∷ w ∷ []))) s) h.0 (h.1.0, (h.1.1, tt)) wide sees
-        (λ a b read. store_step m l f i s at v w a b read unframed)
+    op_meets O.Load (Some z) (from ∷ v ∷ []) h turn wide = load_meets z from v h wide
+    op_meets O.Store None (to ∷ v ∷ w ∷ []) h turn wide =
+        stores_meet m l f look ranges ws is set at s go n free to.offset v w returns x
+        (done O.Store None (to ∷ v ∷ w ∷ [])) h.0 (h.1.0, (h.1.1, tt)) wide sees
+        (λ a b read. store_step m l f i s to v w a b read unframed)
     op_meets O.Branch out vs h turn wide = absurd (cc)
     op_meets O.CBranch out vs h turn wide = absurd (cc)
     op_meets O.Return out vs h turn wide = absurd (cc)
