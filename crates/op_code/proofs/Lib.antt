@@ -12,6 +12,8 @@ pub mod Numbers
 pub mod Operands
 pub mod Ops
 pub mod Sees
+pub mod Taken
+pub mod Kept
 pub mod Settled
 pub mod Sets
 pub mod Steps
