@@ -14,6 +14,8 @@ pub mod Ops
 pub mod Sees
 pub mod Taken
 pub mod Kept
+pub mod Spared
+pub mod Extras
 pub mod Settled
 pub mod Sets
 pub mod Steps
