@@ -16,6 +16,9 @@ pub mod Taken
 pub mod Kept
 pub mod Spared
 pub mod Extras
+pub mod Called
+pub mod Calling
+pub mod Computes
 pub mod Settled
 pub mod Sets
 pub mod Steps

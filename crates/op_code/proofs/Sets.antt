@@ -70,6 +70,19 @@ ended_meets l ranges look next s x e sees = record {
   at = λ g. absurd (cc);
 }
 
+-- The variable that is assigned for a range has the range's width.
+pub target_wide : (l : Listing) (ranges : List Varnode) (ws : ℕ → ℕ) (t : ℕ) (z : Varnode) (ps : List Piece)
+    → Setting l ranges ws
+    → IsNarrow z
+    → IsRow ranges z.space z.offset ps (z.offset + z.size)
+    → AreWide ws t (local_for ps z)
+    → ws (words.target_by t ps) ≡ z.size
+target_wide l ranges ws t z [] set narrow row wide = wide.0 ∙ nearest_is z.size narrow.0 narrow.1
+target_wide l ranges ws t z (p ∷ []) set narrow row wide =
+    let size : p.range.size ≡ z.size = omega (arith, row.1) in
+    set.widths p.variable p.range row.0.listed (row.0.some, omega (arith, size, narrow.1)) ∙ size
+target_wide l ranges ws t z (p ∷ q ∷ ps) set narrow row wide = wide.0 ∙ nearest_is z.size narrow.0 narrow.1
+
 -- The statement is carried out in x and leads to y, which sees what s does.
 module _
     {M : Type 0}
@@ -89,19 +102,6 @@ module _
     (returns : List Stmt → Bool)
     (make : ℕ → Stmt)
   where
-    -- the variable that is assigned for a range has the range's width
-    target_wide : (t : ℕ) (z : Varnode)
-        → IsNarrow z
-        → (ps : List Piece)
-        → IsRow ranges z.space z.offset ps (z.offset + z.size)
-        → AreWide ws t (local_for ps z)
-        → ws (words.target_by t ps) ≡ z.size
-    target_wide t z narrow [] row wide = wide.0 ∙ nearest_is z.size narrow.0 narrow.1
-    target_wide t z narrow (p ∷ []) row wide =
-        let size : p.range.size ≡ z.size = omega (arith, row.1) in
-        set.widths p.variable p.range row.0.listed (row.0.some, omega (arith, size, narrow.1)) ∙ size
-    target_wide t z narrow (p ∷ q ∷ ps) row wide = wide.0 ∙ nearest_is z.size narrow.0 narrow.1
-
     -- a range of variables
     range_meets : (t : ℕ) (z : Varnode) (n : ℕ)
         → IsNarrow z
@@ -117,7 +117,7 @@ module _
         let v = target ranges t z in
         let parts = write_range (is_big l z.space) ranges z t in
         let there : State M = record { at = next; local = with_word l z n s.local; world = s.world } in
-        let width = target_wide t z narrow (cover ranges z) h wide in
+        let width = target_wide l ranges ws t z (cover ranges z) set narrow h wide in
         let ran = run_one l ws returns (make v) parts x (assigned v n y) go (makes v (λ c. returns parts) width) in
         let wrote = write_wrote l ranges set.table ws returns z narrow.0 narrow.1 n below t s.local y h
         (slice_get_past ranges t behind) width sees.holds on in

@@ -1,5 +1,5 @@
 -- What a call spares and what it doesn't: each variable of a register lies in one range that it spares, or meets none.
-use Rattle.std.proofs.Common.{◌≡◌, ◌≢◌, ℕ, ◌+◌, ◌<◌, ◌≤◌, Bool, true, false, List, [], ◌∷◌, ◌++◌, Option, Some, None, refl, sym, ap, ◌∙◌, subst, ◌⊎◌, inl, inr, ⊎_elim, arith}
+use Rattle.std.proofs.Common.{◌≡◌, ◌≢◌, ℕ, ◌+◌, ◌<◌, ◌≤◌, Bool, true, false, List, [], ◌∷◌, ◌++◌, Option, Some, None, refl, sym, ap, ◌∙◌, subst, ◌⊎◌, inl, inr, ⊎_elim, append-nil, arith}
 use Rattle.std.specs.Prelude.{◌==◌, ◌&&◌, cond, not, slice_get, IfSome}
 use Rattle.std.proofs.lemmas.Bool.{cases_eq, cases_lt}
 use Rattle.std.proofs.lemmas.Bool.Decides.{nat_tests}
@@ -79,8 +79,8 @@ meets_one [] v h = absurd (cc)
 meets_one (w ∷ ws) v h =
     met_first w ws v (meets v.offset v.size w.offset w.size) refl h (λ g. meets_one ws v g)
 
--- an offset of a member lies in some
-lies_some : (ws : List Varnode) (w : Varnode) (o : ℕ) → IsIn w ws → LiesAt w o → in_some ws o ≡ true
+-- An offset of a member lies in some.
+pub lies_some : (ws : List Varnode) (w : Varnode) (o : ℕ) → IsIn w ws → LiesAt w o → in_some ws o ≡ true
 lies_some [] w o is at = absurd is
 lies_some (x ∷ ws) w o (inl e) at =
     let A : Varnode → Type 0 = λ y. LiesAt y o in
@@ -230,3 +230,81 @@ module _ (l : Listing) (ranges : List Varnode) (table : IsTable l ranges) where
         let r = meets_one (spared l p) v (kept_met v h at) in
         let within = spared_has n v r.range e wide at r.among r.met in
         lies_some (spared l p) r.range o r.among (omega (arith, within.0, lies.0), omega (arith, within.1, lies.1))
+
+    -- ---- the result
+
+    -- no member has the offset
+    some_append : (xs ys : List Varnode) (o : ℕ) → in_some ys o ≡ false → in_some (xs ++ ys) o ≡ in_some xs o
+    some_append [] ys o out = out
+    some_append (x ∷ xs) ys o out = ap (λ b. cond (in_range x o) true b) (some_append xs ys o out)
+
+    -- Without a result there is only what is kept.
+    pub spared_kept : p.gives ≡ None → spared l p ≡ p.keep
+    spared_kept none =
+        ap (λ gives. p.keep ++ (one_range gives ++ one_range l.stack)) none
+        ∙ ap (λ stack. p.keep ++ one_range stack) call.stack
+        ∙ append-nil p.keep
+
+    spared_is : (z : Varnode) → p.gives ≡ Some z → spared l p ≡ p.keep ++ z ∷ []
+    spared_is z gives =
+        ap (λ g. p.keep ++ (one_range g ++ one_range l.stack)) gives
+        ∙ ap (λ stack. p.keep ++ z ∷ one_range stack) call.stack
+
+    -- and with one it is spared beside
+    pub spared_off : (z : Varnode)
+        → p.gives ≡ Some z
+        → (o : ℕ)
+        → (o < z.offset) ⊎ (z.offset + z.size ≤ o)
+        → in_some (spared l p) o ≡ in_some p.keep o
+    spared_off z gives o off =
+        let out : in_range z o ≡ false = ⊎_elim
+        (λ (before : o < z.offset). grind (arith, nat_tests))
+        (λ (past : z.offset + z.size ≤ o). grind (arith, nat_tests))
+        off in
+        ap (λ ws. in_some ws o) (spared_is z gives)
+        ∙ some_append p.keep (z ∷ []) o (ap (λ b. cond b true false) out)
+
+    result_spared : (z : Varnode) → p.gives ≡ Some z → IsIn z (spared l p)
+    result_spared z gives =
+        let P : List Varnode → Type 0 = λ ws. IsIn z ws in
+        subst P (sym (spared_is z gives)) (behind p.keep (z ∷ []) z (inl refl))
+
+    target_by_other : (k n : ℕ) (v z : Varnode) (ps : List Piece)
+        → p.gives ≡ Some z
+        → 0 < z.size
+        → slice_get ranges k ≡ None
+        → slice_get ranges n ≡ Some v
+        → is_left l p v ≡ true
+        → IsRow ranges z.space z.offset ps (z.offset + z.size)
+        → n ≡ target_by k ps
+        → ⊥
+    target_by_other k n v z [] gives some free e h row is =
+        let g : slice_get ranges n ≡ slice_get ranges k = ap (slice_get ranges) is in
+        absurd (cc)
+    target_by_other k n v z (q ∷ []) gives some free e h row is =
+        let g : Some v ≡ Some q.range = sym e ∙ ap (slice_get ranges) is ∙ row.0.listed in
+        let same : v ≡ q.range = cc in
+        let begins : v.offset ≡ z.offset = ap (λ (a : Varnode). a.offset) same ∙ row.0.offset in
+        let size : v.size ≡ q.range.size = ap (λ (a : Varnode). a.size) same in
+        let at : LiesAt v v.offset = (omega arith, omega (arith, size, row.0.some)) in
+        let there : LiesAt z v.offset = (omega (arith, begins), omega (arith, begins, some)) in
+        let out : in_some (spared l p) v.offset ≡ false = left_out v v.offset h at in
+        let within : in_some (spared l p) v.offset ≡ true =
+        lies_some (spared l p) z v.offset (result_spared z gives) there in
+        absurd (cc)
+    target_by_other k n v z (q ∷ r ∷ ps) gives some free e h row is =
+        let g : slice_get ranges n ≡ slice_get ranges k = ap (slice_get ranges) is in
+        absurd (cc)
+
+    -- What is assigned for the result takes nothing that a call left.
+    pub target_other : (k : ℕ) (z : Varnode)
+        → p.gives ≡ Some z
+        → 0 < z.size
+        → HasCover ranges z
+        → slice_get ranges k ≡ None
+        → (n : ℕ) (v : Varnode)
+        → slice_get ranges n ≡ Some v
+        → is_left l p v ≡ true
+        → n ≢ target ranges k z
+    target_other k z gives some has free n v e h is =
+        target_by_other k n v z (cover ranges z) gives some free e h has is
