@@ -188,7 +188,8 @@ module _
         → IsCallable l ranges (proto_of l (callee_at l to.offset))
         → AreWide ws n (call_made b l ranges n to.offset (proto_of l (callee_at l to.offset))).locals
         → returns' [] ≡ false
-        → Meets l ranges look at (done O.Call None (to ∷ []))
+        → ((done O.Call None (to ∷ [])).world.over ≡ Some NoReturn)
+        × Meets l ranges look at (done O.Call None (to ∷ []))
         (run_all l ws returns' (call_made b l ranges n to.offset (proto_of l (callee_at l to.offset))).statements x)
     never_by true to returning turn call wide never = absurd (cc)
     never_by false to returning turn call wide never =
@@ -216,8 +217,11 @@ module _
         ∙ ap (λ b. called m l p b (noted e)) returning in
         let P : Local → Type 0 = λ u. Meets l ranges look at (done O.Call None (to ∷ [])) u in
         let Q : State M → Type 0 = λ u. Meets l ranges look at u (ends NoReturn z) in
-        subst P (sym (run_append l ws returns' reading.loads (one ∷ []) x ∙ ran))
-        (subst Q (sym stepped) (ended_meets l ranges look at (noted e) z NoReturn seen))
+        (
+          ap (λ (u : State M). u.world.over) stepped,
+          subst P (sym (run_append l ws returns' reading.loads (one ∷ []) x ∙ ran))
+              (subst Q (sym stepped) (ended_meets l ranges look at (noted e) z NoReturn seen)),
+        )
 
     -- Both end behind the event where the callee doesn't return.
     pub never_meets : (to : Varnode)
@@ -225,7 +229,7 @@ module _
         → returns (callee_at l to.offset) ≡ false
         → AreWide ws n (op_made l ranges n O.Call None (to ∷ [])).locals
         → returns' [] ≡ false
-        → Meet O.Call None (to ∷ [])
+        → ((done O.Call None (to ∷ [])).world.over ≡ Some NoReturn) × Meet O.Call None (to ∷ [])
     never_meets to call turn wide never = never_by (returns (callee_at l to.offset)) to refl turn call wide never
 
     -- ---- CALLIND

@@ -24,7 +24,7 @@ use Rattle.pcode_model.specs.Places.{Does, next_place}
 use Rattle.pcode_model.specs.Spaces.{kind_of}
 use Rattle.pcode_model.specs.Memory.{Acts, Bytes, Frame}
 use Rattle.pcode_model.specs.Step.{State, all_read, byte_address, callee_at, moved, read_all, step_at, word_in_bytes, write_varnode}
-use Rattle.pcode_model.specs.Step.{returns as returns_by}
+use Rattle.pcode_model.specs.Step.{returns as does_return}
 use Rattle.pcode_laws.specs.AsBytes.{AsBytes}
 use Rattle.range_words.proofs.Variables.{word_below}
 use Rattle.cmeaning.specs.declared.tree.Expr.{Expr}
@@ -294,7 +294,7 @@ module _
         mem)))
 
     -- A call that returns.
-    call_goes : (to : Varnode) (b : Bool) → returns_by (callee_at l to.offset) ≡ b → call_turn b ≡ GoesOn → b ≡ true
+    call_goes : (to : Varnode) (b : Bool) → does_return (callee_at l to.offset) ≡ b → call_turn b ≡ GoesOn → b ≡ true
     call_goes to true e turn = refl
     call_goes to false e turn = absurd (cc)
 
@@ -315,7 +315,7 @@ module _
         (done O.Store None (to ∷ v ∷ w ∷ [])) h.0 (h.1.0, (h.1.1, tt)) wide sees
         (λ a b read. store_step m l f i s to v w a b read unframed)
     op_meets O.Call None (to ∷ []) h turn wide all =
-        let goes = call_goes to (returns_by (callee_at l to.offset)) refl turn in
+        let goes = call_goes to (does_return (callee_at l to.offset)) refl turn in
         returning_meets m l f look ranges ws is set i s x go sees n free returns to h goes wide all
     op_meets O.CallInd None (to ∷ []) h turn wide all =
         indirect_meets m l f look ranges ws is set i s x go sees n free returns to h wide all
