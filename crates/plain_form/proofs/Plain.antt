@@ -358,6 +358,9 @@ module _
           covered v home
           (behind (ranges_read (operands l op.code op.inputs)) _ v (behind (one_range op.out) _ v further))
 
+      has_stack : (offset size : ℕ) → IsArgument l.spaces l.stack (Stack offset size) → IsSome l.stack
+      has_stack offset size h = h.3
+
       all_passed : (args : List Storage)
           → AllByRecursion (IsArgument l.spaces l.stack) args
           → ((v : Varnode) → IsIn v (passed args) → IsOperand l ranges v)
@@ -365,9 +368,8 @@ module _
       all_passed [] all f = tt
       all_passed (At v ∷ args) all f = (f v (inl refl), all_passed args all.1 (λ w is. f w (inr is)))
       all_passed (Stack offset size ∷ args) all f =
-          let S : Option Varnode → Type 0 = λ o. IsSome o in
-          let has : IsSome l.stack = all.0.1.1.1 in
-          absurd (subst S sup.stack has)
+          let has : IsSome l.stack = has_stack offset size all.0 in
+          absurd (cc)
 
       given_by : (gives : Option Varnode)
           → IfSome gives (IsStorage l.spaces)

@@ -40,11 +40,13 @@ module _ (l : Listing) (read : IsWellFormed l) where
       → (a : ℕ)
       → IsDeclared l (proto_of l (callee_in fs a))
   by_callees [] all a = own_declared
-  by_callees (f ∷ fs) all a = by (f.address == a)
+  by_callees (f ∷ fs) all a = by (f.address == a) (by_callees fs all.1 a)
     where
-      by : (b : Bool) → IsDeclared l (proto_of l (if b then Some f else callee_in fs a))
-      by true = declared_at f.proto all.0.proto
-      by false = by_callees fs all.1 a
+      by : (b : Bool)
+          → IsDeclared l (proto_of l (callee_in fs a))
+          → IsDeclared l (proto_of l (if b then Some f else callee_in fs a))
+      by true rest = declared_at f.proto all.0.proto
+      by false rest = rest
 
   -- The prototype of the callee at an address.
   pub callee_declared : (a : ℕ) → IsDeclared l (proto_of l (callee_at l a))
