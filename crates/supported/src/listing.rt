@@ -41,7 +41,7 @@ fn is_supported_code_of(code: &[Instruction]) -> bool
 pub fn is_supported(listing: &Listing) -> bool
     ensures { IsTrue result ↔ IsSupported listing.now }
 {
-    if listing.stack.is_some() || !listing.callees.is_empty() {
+    if listing.stack.is_some() || !listing.callees.as_slice().is_empty() {
         return false;
     }
     is_supported_code_of(listing.code.as_slice())
