@@ -1,6 +1,6 @@
 -- What the reader and the rules of operations promise of the spaces of a listing, of the ranges of its ops and of the
 -- function's result.
-use Rattle.std.proofs.Common.{◌≡◌, ◌≤◌, ◌<◌, ◌+◌, ◌^◌, ◌⊎◌, ℕ, zero, suc, Bool, true, false, List, [], ◌∷◌, Option, Some, None, length, refl, inl, inr, sym, subst, ap, ◌∙◌, arith}
+use Rattle.std.proofs.Common.{◌≡◌, ◌≤◌, ◌<◌, ◌+◌, ◌^◌, ◌⊎◌, ℕ, zero, suc, Bool, true, false, List, [], ◌∷◌, Option, Some, None, length, refl, inl, inr, sym, subst, ap, ◌∙◌, arith, lit<}
 use Rattle.std.specs.Prelude.{◌==◌, ◌&&◌, if◌then◌else◌, not, IfSome}
 use Rattle.std.specs.List.{AllByRecursion}
 use Rattle.std.proofs.lemmas.Bool.Decides.{nat_tests}
@@ -18,7 +18,7 @@ use Rattle.pcode_model.specs.Flow.{IsIn}
 use Rattle.pcode_model.specs.Rules.{breaks, first_bad, input_ranges, inputs_stand, is_out_of_space, is_too_wide, names_address, output_is_constant, past_first, rules}
 use Rattle.pcode_model.specs.Spaces.{kind_of, register_space, same_kind, size_of, unique_space}
 use Rattle.pcode_model.specs.Ranges.{leaves}
-use Rattle.pcode_model.specs.Step.{proto_of}
+use Rattle.pcode_model.specs.Step.{proto_of, varnode_at}
 use Rattle.pcode_model.specs.WellFormed.{HasKnownOps, HasOps, IsKnown, IsKnownOp, IsOp, IsOperand, IsProto, IsStorage, IsWellFormed}
 use Rattle.pcode_model.proofs.Members.{of_member}
 use Rattle.pcode_laws.proofs.Rules.{breaks_none, neither}
@@ -157,6 +157,14 @@ module _ (l : Listing) (read : IsWellFormed l) (good : first_bad l ≡ None) whe
               λ e. no_output_constant op.out (not-true _ (and_parts _ _ spaces).0) v is
               (constant_is l.spaces read.spaces v.space small e);
         }
+
+    -- The first input's offset, or 0 without inputs, has 64 bits.
+    pub first_long : (varnode_at op.inputs 0).offset < 2 ^ 64
+    first_long = by op.inputs formed.inputs
+      where
+        by : (vs : List Varnode) → AllByRecursion IsOperand vs → (varnode_at vs 0).offset < 2 ^ 64
+        by [] all = lit< tt
+        by (v ∷ vs) all = all.0.long
 
     pub output_inside : (v : Varnode) → IsLocal l v.space → IsIn v (one_range op.out) → Inside l v
     output_inside v home is =
