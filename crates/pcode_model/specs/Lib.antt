@@ -4,6 +4,7 @@ pub mod Places
 pub mod Memory
 pub mod Frame
 pub mod World
+pub mod Functions
 pub mod Step
 pub mod Flow
 pub mod Atoms

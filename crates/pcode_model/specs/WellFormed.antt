@@ -81,10 +81,12 @@ abbrev pub IsArgument : List Space → Option Varnode → Storage → Type 0
 IsArgument spaces stack (At v) = IsStorage spaces v
 IsArgument spaces stack (Stack offset size) = (0 < size) × (size ≤ 16) × (offset ≤ 0xffff) × IsSome stack
 
--- at least one byte, in a size of at most five decimal digits; a constant is reduced to its size
+-- at least one byte, in a size of at most five decimal digits, at an offset of at most 16 hexadecimal ones; a constant
+-- is reduced to its size
 pub record IsOperand (v : Varnode) : Type 0 where
   pub some : 0 < v.size
   pub few : v.size < 10 ^ 5
+  pub long : v.offset < 2 ^ 64
   pub reduced : v.space ≡ 0 → v.offset < 256 ^ v.size
 
 -- two register ranges share no byte

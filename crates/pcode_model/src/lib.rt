@@ -2,6 +2,7 @@
 #![tactic(auto)]
 
 pub mod atoms;
+pub mod callees;
 pub mod flow;
 pub mod frame;
 pub mod inputs;
@@ -14,6 +15,7 @@ pub mod storage;
 pub mod tables;
 
 pub use atoms::{Atom, Atoms};
+pub use callees::Callees;
 pub use flow::{Block, Exit, Flow, FlowWhy, Numbers, Places, Turn};
 pub use frame::{Frame, FrameAccess, FrameVariable, OffsetFact};
 pub use inputs::Inputs;

@@ -6,6 +6,7 @@ ghost use Rattle.pcode_model.specs.Rules.{past_first};
 ghost use Rattle.pcode_model.specs.Spaces.{kind_of};
 ghost use Rattle.pcode_model.specs.Step.{callee_at, proto_at, proto_of, size_out, varnode_at};
 
+use crate::callees::Callees;
 use crate::inputs::Inputs;
 use crate::opcode::Opcode;
 use sqlite_items::Items;
@@ -137,7 +138,7 @@ pub struct Listing {
     pub stack: Option<Varnode>,
     pub protos: Protos,
     pub func: Function,
-    pub callees: Functions,
+    pub callees: Callees,
     pub fixed: Fixeds,
     pub code: Instructions,
 }
@@ -209,11 +210,6 @@ impl Listing {
     pub fn callee_at(&self, address: u64) -> Option<&Function>
         ensures { option_copied result ≡ callee_at self.now address }
     {
-        for callee in self.callees.as_slice() {
-            if callee.address == address {
-                return Some(callee);
-            }
-        }
-        None
+        self.callees.at(address)
     }
 }

@@ -47,9 +47,11 @@ IsAmong spaces (named.Space n) = n < spaces
 IsAmong spaces named.Stack = Unit {0}
 IsAmong spaces named.Unknown = Unit {0}
 
--- a range in one of so many spaces, where it is known, in a size of at most five decimal digits
+-- a range in one of so many spaces, where it is known, at an offset of at most 16 hexadecimal digits, in a size of at most
+-- five decimal ones
 pub record IsWritten (spaces : ℕ) (w : Written) : Type 0 where
   pub space : IsAmong spaces w.space
+  pub offset : w.offset < 16 ^ 16
   pub size : w.size < 10 ^ 5
 
 -- only in version 2 some value is another one than in version 1

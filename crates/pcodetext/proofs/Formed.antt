@@ -13,10 +13,11 @@ use Rattle.pcode_model.specs.declared.listing.Space.{Space}
 use Rattle.pcode_model.specs.declared.listing.Varnode.{Varnode}
 use Rattle.pcode_model.specs.Flow.{AreApart}
 use Rattle.pcode_model.specs.WellFormed.{AreDistinct, AreSpaces, FixedRise, HasKnownOps, HasOps, HaveWords, IsComplete, IsFixed, IsFunction, IsNamedFunction, IsNamedProto, IsNamedSpace, IsProto, IsShort, IsStackPointer, total_ops}
+use Rattle.pcode_model.specs.Functions.{function_address}
 use Rattle.pcodetext.specs.declared.partial_listing.PartialListing.{PartialListing}
 use Rattle.pcodetext.specs.declared.line_kinds.Form.{Form}
 use Rattle.pcodetext.specs.LineKinds.{after, faults, is_two}
-use Rattle.pcodetext.specs.Tables.{function_address, function_name, proto_name, space_name}
+use Rattle.pcodetext.specs.Tables.{function_name, proto_name, space_name}
 use Rattle.pcodetext.proofs.FormIs.{IsForm, known_of}
 use Rattle.pcodetext.proofs.Passing.{never, not_both}
 

@@ -15,6 +15,7 @@ use Rattle.pcode_model.specs.declared.listing.SpaceKind.TheVariants.{Ram}
 use Rattle.pcode_model.specs.Ranges.{leaves}
 use Rattle.pcode_model.specs.Spaces.{number_of}
 use Rattle.pcode_model.specs.WellFormed.{IsFunction, IsNamedFunction}
+use Rattle.pcode_model.specs.Functions.{function_address, has_address}
 use Rattle.pcodetext.specs.declared.partial_listing.PartialListing.{PartialListing}
 use Rattle.pcodetext.specs.declared.function_line.FunctionLine.{FunctionLine}
 use Rattle.pcodetext.specs.declared.line_kinds.Form.TheVariants as form
@@ -23,7 +24,7 @@ use Rattle.pcodetext.specs.declared.written.Named.TheVariants as named
 use Rattle.pcodetext.specs.Checks.{leaves_known, of_some}
 use Rattle.pcodetext.specs.FunctionLine.{callee_faults, callee_form, callee_made, func_faults, func_form, func_made, function_made, function_of, is_first_ram, is_misplaced, is_taken, is_taken_by, proto_number, returns_by}
 use Rattle.pcodetext.specs.LineKinds.{is_two}
-use Rattle.pcodetext.specs.Tables.{function_address, function_name, has_address, has_name, place_in, proto_name}
+use Rattle.pcodetext.specs.Tables.{function_name, has_name, place_in, proto_name}
 use Rattle.pcodetext.specs.Written.{place_of}
 use Rattle.pcodetext.proofs.Distinct.{distinct_after, other_number, other_text}
 use Rattle.pcodetext.proofs.FormIs.{IsForm, IsFunctionLine, IsOneBefore, Known, NamesProto, known, named_small}

@@ -1,7 +1,7 @@
 -- The line of an op: what its form has, and that it keeps to the rules.
-use Rattle.std.proofs.Common.{◌≡◌, ◌∙◌, ◌<◌, ◌+◌, ◌^◌, ℕ, Bool, false, List, [], ◌∷◌, ◌++◌, length, ap, sym, refl, arith, subst, map, lit<}
-use Rattle.std.proofs.Math.Nat.{mod-lt, one-le-pow}
-use Rattle.std.specs.Prelude.{◌==◌, Option, Some, None, IfSome}
+use Rattle.std.proofs.Common.{◌≡◌, ◌∙◌, ◌<◌, ◌+◌, ◌%◌, ◌^◌, ℕ, Bool, true, false, List, [], ◌∷◌, ◌++◌, length, ap, sym, refl, arith, subst, map, lit<}
+use Rattle.std.proofs.Math.Nat.{mod-le, mod-lt, one-le-pow}
+use Rattle.std.specs.Prelude.{◌==◌, Option, Some, None, IfSome, if◌then◌else◌}
 use Rattle.std.specs.List.{AllByRecursion, list_any}
 use Rattle.std.specs.Option.{is_none, option_map}
 use Rattle.line_reader.proofs.Faults.{AllFalse, all_false}
@@ -69,9 +69,20 @@ reduced_small : (n offset size : ℕ) → n ≡ 0 → reduced n offset size < 25
 reduced_small n offset size e =
     subst (λ (k : ℕ). reduced k offset size < 256 ^ size) (sym e) (mod-lt offset (one-le-pow size 256 (lit< tt)))
 
-operand_is : (w : Written) → is_empty w ≡ false → w.size < 10 ^ 5 → IsOperand (varnode w)
-operand_is w some few =
-    record { some = zero_false _ some; few = few; reduced = λ e. reduced_small (number w.space) w.offset w.size e }
+reduced_below : (n offset size : ℕ) → offset < 16 ^ 16 → reduced n offset size < 2 ^ 64
+reduced_below n offset size below = by_test (n == 0)
+  where
+    by_test : (t : Bool) → (if t then offset % 256 ^ size else offset) < 2 ^ 64
+    by_test true = let less = mod-le offset (256 ^ size) in omega (arith, below, less)
+    by_test false = omega (arith, below)
+
+operand_is : (n : ℕ) (w : Written) → is_empty w ≡ false → IsWritten n w → IsOperand (varnode w)
+operand_is n w some is = record {
+  some = zero_false _ some;
+  few = is.size;
+  long = reduced_below (number w.space) w.offset w.size is.offset;
+  reduced = λ e. reduced_small (number w.space) w.offset w.size e;
+}
 
 -- a range with the number of one of so many spaces
 known_by : (n : ℕ) (space : Named) → 0 < n → IsAmong n space → number space < n
@@ -85,7 +96,7 @@ module _ (spaces : List Space) (are : AreSpaces spaces) where
       → IfSome out (IsWritten (length spaces))
       → IfSome (option_map varnode out) IsOperand
   output_is None some is = tt
-  output_is (Some w) some is = operand_is w some is.size
+  output_is (Some w) some is = operand_is (length spaces) w some is
 
   inputs_are : (ws : List Written)
       → list_any is_empty ws ≡ false
@@ -93,7 +104,7 @@ module _ (spaces : List Space) (are : AreSpaces spaces) where
       → AllByRecursion IsOperand (map varnode ws)
   inputs_are [] some is = tt
   inputs_are (w ∷ ws) some is =
-      (operand_is w (left_false _ _ some) is.0.size, inputs_are ws (right_false _ _ some) is.1)
+      (operand_is (length spaces) w (left_false _ _ some) is.0, inputs_are ws (right_false _ _ some) is.1)
 
   output_known : (out : Option Written)
       → IfSome out (IsWritten (length spaces))

@@ -1,11 +1,12 @@
--- Ranges that lines write: the number of a known space, and a size of at most five decimal digits.
+-- Ranges that lines write: the number of a known space, an offset of at most 16 hexadecimal digits, and a size of at most
+-- five decimal ones.
 use Rattle.std.proofs.Common.{◌<◌, ◌^◌, ℕ, Bool, true, false, List, [], ◌∷◌, length, map}
 use Rattle.std.specs.Prelude.{codes, Option, Some, None, IfSome, if◌then◌else◌}
 use Rattle.std.specs.List.{AllByRecursion}
 use Rattle.std.specs.Str.{bytes_eq}
 use Rattle.listing_lines.specs.Text.{Line, parts_of}
 use Rattle.listing_lines.specs.Tokens.{decimal_of, hexadecimal_of, is_name}
-use Rattle.listing_lines.proofs.Numbers.{decimal_small}
+use Rattle.listing_lines.proofs.Numbers.{decimal_small, hexadecimal_small}
 use Rattle.pcode_model.specs.declared.listing.Space.{Space}
 use Rattle.pcodetext.specs.declared.written.Named.{Named}
 use Rattle.pcodetext.specs.declared.written.Named.TheVariants as named
@@ -28,11 +29,12 @@ space_small spaces name = by_name (bytes_eq name (codes "stack"))
 
 written_small : (n : ℕ) (space : Named) (offset size : Option ℕ)
     → IsAmong n space
+    → IfSome offset (λ o. o < 16 ^ 16)
     → IfSome size (λ k. k < 10 ^ 5)
     → IfSome (written space offset size) (IsWritten n)
-written_small n space None size h few = tt
-written_small n space (Some o) None h few = tt
-written_small n space (Some o) (Some k) h few = record { space = h; size = few }
+written_small n space None size h below few = tt
+written_small n space (Some o) None h below few = tt
+written_small n space (Some o) (Some k) h below few = record { space = h; offset = below; size = few }
 
 pub range_small : (spaces : List Space) (part : Line) → IfSome (range_of spaces part) (IsWritten (length spaces))
 range_small spaces part = by_parts (parts_of 58 part)
@@ -41,7 +43,8 @@ range_small spaces part = by_parts (parts_of 58 part)
         → IfSome (if t then written (named_by spaces name) (hexadecimal_of offset) (decimal_of size) else None)
         (IsWritten (length spaces))
     by_name true name offset size =
-        written_small (length spaces) _ _ (decimal_of size) (space_small spaces name) (decimal_small size)
+        written_small (length spaces) _ (hexadecimal_of offset) (decimal_of size) (space_small spaces name)
+        (hexadecimal_small offset) (decimal_small size)
     by_name false name offset size = tt
 
     by_parts : (parts : List Line) → IfSome (range_by spaces parts) (IsWritten (length spaces))

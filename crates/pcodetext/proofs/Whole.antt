@@ -15,13 +15,14 @@ use Rattle.pcode_model.specs.declared.listing.Function.{Function}
 use Rattle.pcode_model.specs.declared.listing.Instruction.{Instruction}
 use Rattle.pcode_model.specs.declared.listing.Listing.{Listing}
 use Rattle.pcode_model.specs.WellFormed.{AreDistinct, IsFunction, IsNamedFunction, IsVersionOne, IsWellFormed, constant_space}
+use Rattle.pcode_model.specs.Functions.{function_address}
 use Rattle.pcodetext.specs.declared.partial_listing.PartialListing.{PartialListing}
 use Rattle.pcodetext.specs.declared.fault.TextFault.{TextFault}
 use Rattle.pcodetext.specs.declared.fault.TextFault.TheVariants.{Syntax}
 use Rattle.pcodetext.specs.declared.fault.Why.{Why}
 use Rattle.pcodetext.specs.declared.line_kinds.Form.{Form}
 use Rattle.pcodetext.specs.LineKinds.{after, faults, form_of, is_two}
-use Rattle.pcodetext.specs.Tables.{function_address, function_name}
+use Rattle.pcodetext.specs.Tables.{function_name}
 use Rattle.pcodetext.specs.Meaning.{fault_at, finished, is_skipped, listing_of, reading, start, step, step_by, stepped, whole}
 use Rattle.pcodetext.proofs.Formed.{IsFormed, has_protos, no_fixed, no_functions, no_protos}
 use Rattle.pcodetext.proofs.Instructions.{few_ops}

@@ -19,14 +19,8 @@ proto_name p = p.name
 abbrev pub function_name : Function → Line
 function_name f = f.name
 
-abbrev pub function_address : Function → ℕ
-function_address f = f.address
-
 abbrev pub has_name : Line → Function → Bool
 has_name name f = bytes_eq f.name name
-
-abbrev pub has_address : ℕ → Function → Bool
-has_address address f = f.address == address
 
 -- some bytes of that space stand at the offset or after it
 abbrev pub begins_late : ℕ → ℕ → Fixed → Bool

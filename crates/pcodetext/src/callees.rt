@@ -1,34 +1,32 @@
-//! The callees of the lines so far, by their names and by their addresses.
+//! The callees of the lines so far, by their addresses and by their names.
 
 ghost use Rattle.std.specs.Prelude.{◌≡◌, ◌∷◌, ◌++◌, [], false, length, OnErr, OnOk};
 ghost use Rattle.std.specs.List.{list_any};
-ghost use Rattle.pcodetext.specs.Tables.{has_address, has_name};
+ghost use Rattle.pcode_model.specs.Functions.{has_address};
+ghost use Rattle.pcodetext.specs.Tables.{has_name};
 
-use indexmap::IndexSet;
 use names::NameTable;
-use pcode_model::{Function, Functions};
-use sqlite_items::Items;
+use pcode_model::{Callees, Function};
 use std::alloc::{AllocError, Global};
 use std::marker::Model;
 
 /// Callees, no two of which have one name or one address.
 #[derive(Drop)]
 pub struct CalleeTable {
-    callees: Functions,
+    callees: Callees,
     names: NameTable,
-    addresses: IndexSet<u64>,
 }
 
 impl Model for CalleeTable {
     ghost use Rattle.std.specs.Prelude.{List, map, ◌≡◌};
     ghost use Rattle.pcode_model.specs.declared.listing.Function.{Function};
-    ghost use Rattle.pcodetext.specs.Tables.{function_address, function_name};
+    ghost use Rattle.pcodetext.specs.Tables.{function_name};
 
     ghost Value = { List Function };
 
     ghost view = { λ t. t.callees };
 
-    ghost invariant = { λ t. (t.names ≡ map function_name t.callees) × (t.addresses.keys ≡ map function_address t.callees) };
+    ghost invariant = { λ t. t.names ≡ map function_name t.callees };
 }
 
 impl CalleeTable {
@@ -36,9 +34,8 @@ impl CalleeTable {
         ensures { result ≡ [] }
     {
         CalleeTable {
-            callees: Items::new(alloc),
+            callees: Callees::new(alloc),
             names: NameTable::new(alloc),
-            addresses: IndexSet::new(alloc),
         }
     }
 
@@ -59,7 +56,7 @@ impl CalleeTable {
     pub fn has_address(&self, address: u64) -> bool
         ensures { result ≡ list_any (has_address address) self.now }
     {
-        self.addresses.contains(&address)
+        self.callees.has_address(address)
     }
 
     /// Adds a callee whose name and address no other has. After an Err the table is as before.
@@ -70,24 +67,16 @@ impl CalleeTable {
         ensures err { OnErr result (self.new ≡ self.old) }
     {
         self.names.push(alloc, callee.name.as_slice())?;
-        match self.addresses.insert(callee.address) {
-            Ok(_) => {}
-            Err(_) => {
-                self.names.pop();
-                return Err(AllocError);
-            }
-        }
         match self.callees.push(callee) {
             Ok(()) => Ok(()),
             Err(refused) => {
-                self.addresses.pop();
                 self.names.pop();
                 Err(refused)
             }
         }
     }
 
-    pub fn into_items(self) -> Functions
+    pub fn into_callees(self) -> Callees
         ensures { result ≡ self }
     {
         self.callees

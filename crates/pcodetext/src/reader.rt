@@ -101,7 +101,7 @@ impl PartialListing {
             stack,
             protos: protos.into_items(),
             func,
-            callees: callees.into_items(),
+            callees: callees.into_callees(),
             fixed: fixed.into_items(),
             code: done,
         }

@@ -5,7 +5,6 @@ pub returns : goal.returns
 returns c = (
   λ t. record {
     stack = search rules;
-    callees = search rules;
     ops = search rules;
   },
   λ s. search rules,

@@ -10,5 +10,5 @@ pub returns : goal.returns
 returns c =
     c.is_some.ensures
     ∙ ap is_some c.number.ensures.place
-    ∙ ap (λ (names : List Line). is_some (place_in c.args.name.now names)) c.self.invariant.0
+    ∙ ap (λ (names : List Line). is_some (place_in c.args.name.now names)) c.self.invariant
     ∙ named_is c.args.name.now c.self.inside.callees ∙ ap (list_any (has_name c.args.name.now)) c.self.view_is

@@ -2,9 +2,10 @@ use Rattle.std.proofs.Common.{◌≡◌, ◌∙◌, true, false, ap, sym}
 use Rattle.std.specs.List.{list_any}
 use Rattle.std.proofs.lemmas.Bool.{not-false}
 use Rattle.pcode_model.specs.declared.listing.Function.{Function}
+use Rattle.pcode_model.specs.Functions.{has_address}
 use Rattle.pcodetext.specs.Checks.{leaves_known}
 use Rattle.pcodetext.specs.FunctionLine.{is_first_ram, is_taken_by}
-use Rattle.pcodetext.specs.Tables.{has_address, has_name}
+use Rattle.pcodetext.specs.Tables.{has_name}
 use Rattle.pcodetext.proofs.Passing.{left_false, right_false}
 use Rattle.pcodetext.proofs.FunctionLine.{free_address, free_name}
 use Rattle.pcodetext.proofs.partial_listing.PartialListing.callee.Goals as goal

@@ -2,8 +2,9 @@ use Rattle.std.proofs.Common.{◌≡◌, ◌∙◌, Bool, ap, ap₂, sym}
 use Rattle.std.specs.Prelude.{◌&&◌, ◌||◌}
 use Rattle.std.specs.List.{list_any}
 use Rattle.listing_lines.specs.Text.{Line}
+use Rattle.pcode_model.specs.Functions.{has_address}
 use Rattle.pcodetext.specs.FunctionLine.{is_first_ram}
-use Rattle.pcodetext.specs.Tables.{has_address, has_name}
+use Rattle.pcodetext.specs.Tables.{has_name}
 use Rattle.pcodetext.proofs.FunctionLine.{taken_is}
 use Rattle.pcodetext.proofs.partial_listing.PartialListing.is_callee.Goals as goal
 
