@@ -1,10 +1,10 @@
 -- What stands for a call does what the call does: it is recorded, takes an answer, and leaves what the answer has.
-use Rattle.std.proofs.Common.{◌≡◌, ℕ, suc, ◌+◌, ◌%◌, ◌<◌, ◌≤◌, Bool, true, false, List, [], ◌∷◌, ◌++◌, length, Option, Some, None, refl, sym, ap, ◌∙◌, subst, arith, inl, inr, ◌⊎◌}
-use Rattle.std.specs.Prelude.{Ok, IfSome, slice_get}
+use Rattle.std.proofs.Common.{◌≡◌, ℕ, suc, ◌%◌, ◌<◌, ◌≤◌, Bool, true, List, [], ◌∷◌, ◌++◌, length, Option, Some, None, refl, sym, ap, ◌∙◌, subst}
+use Rattle.std.specs.Prelude.{IfSome}
 use Rattle.std.specs.List.{AllByRecursion}
 use Rattle.std.proofs.Math.Nat.{mod-lt}
 use Rattle.std.proofs.lemmas.Option.{slice_get_past}
-use Rattle.machine.specs.Trace.{Event, NoReturn}
+use Rattle.machine.specs.Trace.{Event}
 use Rattle.bits_core.specs.Value.{limit}
 use Rattle.bits_core.proofs.Limits.{limit_pos}
 use Rattle.pcode_model.specs.declared.listing.Varnode.{Varnode}
@@ -13,9 +13,9 @@ use Rattle.pcode_model.specs.declared.listing.Proto.{Proto}
 use Rattle.pcode_model.specs.declared.listing.Storage.{Storage}
 use Rattle.pcode_model.specs.declared.listing.Storage.TheVariants.{At, Stack}
 use Rattle.pcode_model.specs.declared.listing.Listing.{Listing}
-use Rattle.pcode_model.specs.Memory.{Acts, Bytes, Frame, plain}
-use Rattle.pcode_model.specs.Spaces.{is_big, kind_of}
-use Rattle.pcode_model.specs.World.{Answer, Stops, Taken, Took, World, ended, recorded, take_answer}
+use Rattle.pcode_model.specs.Memory.{Acts, Bytes, Frame}
+use Rattle.pcode_model.specs.Spaces.{is_big}
+use Rattle.pcode_model.specs.World.{Answer, Stops, Taken, Took, World, recorded, take_answer}
 use Rattle.pcode_model.specs.Step.{State, after_call, all_read, arguments, in_world, moved, read_all, with_word, write_varnode}
 use Rattle.pcode_model.specs.Step as listing
 use Rattle.pcode_laws.specs.AsBytes.{AsBytes, seen_over, taken_over}
@@ -23,23 +23,22 @@ use Rattle.range_words.specs.Ranges.{AreBytes, Holds}
 use Rattle.range_words.proofs.Variables.{bytes_written}
 use Rattle.cmeaning.specs.declared.tree.Expr.{Expr}
 use Rattle.cmeaning.specs.declared.tree.Stmt.{Stmt}
-use Rattle.cmeaning.specs.declared.tree.Stmt.TheVariants as S
 use Rattle.cmeaning.specs.Do.{Local, assigned, do_simple, values_of, with_words}
 use Rattle.cmeaning.specs.Do as code
 use Rattle.blockcode.proofs.Straight.{run_all, run_over}
 use Rattle.op_code.specs.Cover.{cover}
 use Rattle.op_code.specs.Words.{target, write_range}
 use Rattle.op_code.specs.Left.{argument_ranges, extras, spared}
-use Rattle.op_code.specs.Made.{Asking, answered, asks, behind, calls, local_for, reads}
-use Rattle.op_code.specs.Form.{AllOperands, IsCallable, IsGiven, IsOutput, IsPassed}
+use Rattle.op_code.specs.Made.{Asking, answered, behind, local_for}
+use Rattle.op_code.specs.Form.{AllOperands, IsCallable, IsGiven, IsPassed}
 use Rattle.op_code.proofs.Extras.{extras_hold, extras_swap}
 use Rattle.op_code.proofs.Kept.{after_is, replaced, replaced_bytes, result_over}
-use Rattle.op_code.proofs.Operands.{AllHave, ReadsAll, goes, reads_all, run_append, run_one}
+use Rattle.op_code.proofs.Operands.{AllHave, run_append, run_one}
 use Rattle.op_code.proofs.Reading.{cover_inside}
-use Rattle.op_code.proofs.Sees.{AreWide, Meets, Sees, Setting, wide_back, wide_front}
+use Rattle.op_code.proofs.Sees.{AreWide, Meets, Sees, Setting}
 use Rattle.op_code.proofs.Sets.{target_wide}
 use Rattle.op_code.proofs.Spared.{spared_kept, spared_off, target_other}
-use Rattle.op_code.proofs.Taken.{IsStopped, IsTaken, IsTakenSo, left_by, sees_taken, stops_meets, takes_same, takes_so}
+use Rattle.op_code.proofs.Taken.{IsStopped, IsTaken, IsTakenSo, left_by, stops_meets, takes_same, takes_so}
 use Rattle.op_code.proofs.Writing.{write_wrote}
 
 -- ---- arguments

@@ -1,6 +1,6 @@
 -- What stands for CALL, CALLIND and CALLOTHER does what they do: operands are read, and then an answer is taken.
-use Rattle.std.proofs.Common.{◌≡◌, ℕ, ◌+◌, ◌%◌, ◌<◌, ◌≤◌, Bool, true, false, List, [], ◌∷◌, ◌++◌, length, drop, Option, Some, None, refl, sym, ap, ◌∙◌, subst, arith, inl, inr, ◌⊎◌}
-use Rattle.std.specs.Prelude.{Ok, IfSome}
+use Rattle.std.proofs.Common.{◌≡◌, ℕ, ◌+◌, ◌%◌, ◌≤◌, Bool, true, false, List, [], ◌∷◌, ◌++◌, length, Option, Some, None, refl, sym, ap, ◌∙◌, subst, arith, inl, inr, ◌⊎◌}
+use Rattle.std.specs.Prelude.{Ok}
 use Rattle.std.proofs.Math.Nat.{mod-lt}
 use Rattle.machine.specs.Trace.{Event, Call, NoReturn, Other}
 use Rattle.bits_core.specs.Value.{limit}
@@ -14,8 +14,7 @@ use Rattle.pcode_model.specs.declared.opcode.Opcode.{Opcode}
 use Rattle.pcode_model.specs.declared.opcode.Opcode.TheVariants as O
 use Rattle.pcode_model.specs.Memory.{Acts, Bytes, Frame}
 use Rattle.pcode_model.specs.Places.{Does, next_place}
-use Rattle.pcode_model.specs.Spaces.{kind_of}
-use Rattle.pcode_model.specs.World.{Stops, Taken, Took, ended, recorded}
+use Rattle.pcode_model.specs.World.{Stops, Taken, Took, recorded}
 use Rattle.pcode_model.specs.Step.{State, all_read, asked, callee_at, called, in_world, moved, proto_of, read_all, returns, step_at}
 use Rattle.pcode_model.specs.Step as listing
 use Rattle.pcode_laws.specs.AsBytes.{AsBytes, seen_over, taken_over}
@@ -28,11 +27,11 @@ use Rattle.cmeaning.proofs.Do.{do_call, do_call_ind, do_other}
 use Rattle.cmeaning.specs.Value.{value_of}
 use Rattle.blockcode.proofs.Straight.{run_all}
 use Rattle.op_code.specs.Left.{argument_ranges}
-use Rattle.op_code.specs.Made.{Asking, answered, asks, call_made, calls, op_made, passed, read_one, reads}
-use Rattle.op_code.specs.Form.{AllOperands, IsCallable, IsOutput, IsPlainOp}
+use Rattle.op_code.specs.Made.{Asking, answered, call_made, calls, op_made, passed, read_one, reads}
+use Rattle.op_code.specs.Form.{AllOperands, IsCallable, IsPlainOp}
 use Rattle.op_code.proofs.Called.{Records, all_passed, arguments_are, call_meets, taken_after, taken_so, words_run}
 use Rattle.op_code.proofs.Computes.{Computed, Failed, computes_meets}
-use Rattle.op_code.proofs.Operands.{AllHave, ReadsAll, goes, reads_all, run_append, run_one}
+use Rattle.op_code.proofs.Operands.{AllHave, goes, reads_all, run_append, run_one}
 use Rattle.op_code.proofs.Sees.{AreWide, Meets, Sees, Setting, wide_back, wide_front}
 use Rattle.op_code.proofs.Sets.{ended_meets}
 use Rattle.op_code.proofs.Steps.{call_step, indirect_step, op_of, other_step}
@@ -216,8 +215,7 @@ module _
         let stepped = call_step m l f i s to r.words (call_read to r.words call r.read)
         ∙ ap (λ b. called m l p b (noted e)) returning in
         let P : Local → Type 0 = λ u. Meets l ranges look at (done O.Call None (to ∷ [])) u in
-        let Q : State M → Type 0 = λ u. Meets l ranges look at u (ends NoReturn z) in
-        (
+        let Q : State M → Type 0 = λ u. Meets l ranges look at u (ends NoReturn z) in (
           ap (λ (u : State M). u.world.over) stepped,
           subst P (sym (run_append l ws returns' reading.loads (one ∷ []) x ∙ ran))
               (subst Q (sym stepped) (ended_meets l ranges look at (noted e) z NoReturn seen)),

@@ -1,6 +1,6 @@
 -- The bytes of registers after a call, range by range.
-use Rattle.std.proofs.Common.{◌≡◌, ◌≢◌, ℕ, zero, suc, ◌+◌, ◌<◌, ◌≤◌, Bool, true, false, List, [], ◌∷◌, ◌++◌, length, Option, Some, None, refl, sym, ap, ◌∙◌, ◌⊎◌, inl, inr, ⊎_elim, arith}
-use Rattle.std.specs.Prelude.{◌==◌, cond, if◌then◌else◌, nat_le, nat_lt}
+use Rattle.std.proofs.Common.{◌≡◌, ◌≢◌, ℕ, zero, suc, ◌+◌, ◌<◌, ◌≤◌, Bool, true, false, List, [], ◌∷◌, length, None, refl, sym, ap, ◌∙◌, ◌⊎◌, inl, inr, ⊎_elim, arith}
+use Rattle.std.specs.Prelude.{◌==◌, cond, if◌then◌else◌}
 use Rattle.std.proofs.Math.Path.{fun_ext}
 use Rattle.std.proofs.lemmas.Bool.{cases_eq, cases_lt}
 use Rattle.std.proofs.lemmas.Bool.Decides.{nat_tests}
@@ -9,16 +9,13 @@ use Rattle.laws.proofs.Bytes.{length-word_bytes}
 use Rattle.pcode_model.specs.declared.listing.Varnode.{Varnode}
 use Rattle.pcode_model.specs.declared.listing.Proto.{Proto}
 use Rattle.pcode_model.specs.declared.listing.Listing.{Listing}
-use Rattle.pcode_model.specs.Atoms.{one_range}
 use Rattle.pcode_model.specs.Spaces.{bytes_at, each_at, is_big, next, put_in, register_space, size_of}
 use Rattle.pcode_model.specs.Memory.{Bytes}
 use Rattle.pcode_model.specs.World.{Answer}
-use Rattle.pcode_model.specs.Step.{after_call, after_callee, bytes_in, in_option, in_range, in_some, local_word, with_pop, with_result, with_word}
+use Rattle.pcode_model.specs.Step.{after_call, after_callee, bytes_in, in_option, in_some, local_word, with_pop, with_result, with_word}
 use Rattle.pcode_laws.proofs.Puts.{IsOther, next_within, put_in_at, put_in_else}
 use Rattle.range_words.specs.Ranges.{AreBytes, IsInside}
 use Rattle.range_words.proofs.Written.{IsOff}
-use Rattle.range_words.proofs.Variables.{bytes_written}
-use Rattle.cmeaning.specs.Do.{left_word}
 
 -- ---- bytes that are the same in a range
 

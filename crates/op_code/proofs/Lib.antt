@@ -28,3 +28,4 @@ pub mod Walks
 pub mod Worked
 pub mod WorkedBlocks
 pub mod WorkedSeveral
+pub mod WorkedCalls

@@ -1,5 +1,5 @@
 -- What stands for an op does what the op does. A further operation adds its cases here.
-use Rattle.std.proofs.Common.{◌≡◌, ◌≢◌, ℕ, ◌<◌, ◌≤◌, Bool, true, false, List, [], ◌∷◌, length, Option, Some, None, refl, sym, ap, ◌∙◌, subst, ◌⊎◌, inl, inr, ⊎_elim}
+use Rattle.std.proofs.Common.{◌≡◌, ◌≢◌, ℕ, ◌<◌, ◌≤◌, Bool, true, false, List, [], ◌∷◌, length, Option, Some, None, refl, sym, ap, ◌∙◌, subst, inl, inr, ⊎_elim}
 use Rattle.std.specs.Prelude.{cond, Ok}
 use Rattle.std.proofs.lemmas.Bool.{cases_eq}
 use Rattle.machine.specs.Trace.{DivZero}
@@ -44,7 +44,6 @@ use Rattle.op_code.specs.Form.{IsPlainOp, IsSecond}
 use Rattle.op_code.proofs.Access.{address_points, load_runs}
 use Rattle.op_code.proofs.Calling.{indirect_meets, other_meets, returning_meets}
 use Rattle.op_code.proofs.Computes.{computed, computes_meets, constant_has, one_of, stores_meet, two_of}
-use Rattle.op_code.proofs.Operands.{goes}
 use Rattle.op_code.proofs.Sees.{AreWide, Meets, Sees, Setting}
 use Rattle.op_code.proofs.Sets.{Fails, Makes, ended_meets}
 use Rattle.op_code.proofs.Steps.{op_of, binary_step, divide_ends, divide_step, load_step, store_step, unary_step}

@@ -11,10 +11,10 @@ use Rattle.pcode_model.specs.Flow.{IsIn}
 use Rattle.pcode_model.specs.Ranges.{meets}
 use Rattle.pcode_model.specs.Spaces.{or, register_space}
 use Rattle.pcode_model.specs.Step.{in_range, in_some}
-use Rattle.pcode_model.proofs.Members.{behind, in_either, in_front, member_at, of_member}
-use Rattle.range_words.specs.Ranges.{AreApart, IsTable}
+use Rattle.pcode_model.proofs.Members.{behind, in_either, member_at, of_member}
+use Rattle.range_words.specs.Ranges.{IsTable}
 use Rattle.op_code.specs.Cover.{HasCover, IsRow, Piece, cover}
-use Rattle.op_code.specs.Form.{IsCallable, IsGiven, IsNarrow, IsSplitBy}
+use Rattle.op_code.specs.Form.{IsCallable, IsGiven, IsSplitBy}
 use Rattle.op_code.specs.Left.{is_left, meets_some, spared}
 use Rattle.op_code.specs.Words.{target, target_by}
 use Rattle.op_code.proofs.Rows.{row_rises}
@@ -87,10 +87,10 @@ lies_some (x ∷ ws) w o (inl e) at =
     ap (λ c. cond c true (in_some ws o)) (lies_in x o (subst A e at))
 lies_some (x ∷ ws) w o (inr is) at =
     either (in_range x o) (in_some ws o) (lies_some ws w o is at)
-    where
-      either : (b c : Bool) → c ≡ true → cond b true c ≡ true
-      either true c rest = refl
-      either false c rest = rest
+  where
+    either : (b c : Bool) → c ≡ true → cond b true c ≡ true
+    either true c rest = refl
+    either false c rest = rest
 
 -- ---- ranges with a cover
 

@@ -1,5 +1,5 @@
 -- An answer is taken: memory stays bytes, and the code's run takes the same one.
-use Rattle.std.proofs.Common.{◌≡◌, ◌<◌, ℕ, Bool, true, false, List, [], ◌∷◌, Some, None, refl, sym, ap, ◌∙◌, subst}
+use Rattle.std.proofs.Common.{◌≡◌, ◌<◌, Bool, true, false, List, [], ◌∷◌, Some, None, refl, sym, ap, ◌∙◌, subst}
 use Rattle.std.specs.Prelude.{Result, Ok, Err}
 use Rattle.machine.specs.Trace.{End, Event, NoAnswer, ReadOnlyWrite}
 use Rattle.pcode_model.specs.declared.listing.Place.{Place}
