@@ -1,7 +1,7 @@
 -- The declarations of the callees of a code: each address that the code calls has the listing's, and they are declarations
 -- as a function has them.
 use Rattle.std.proofs.Common.{◌≡◌, ℕ, ◌<◌, ◌^◌, ◌&&◌, ◌==◌, not, Bool, true, false, cond, List, [], ◌∷◌, ◌++◌, map, refl, sym, ap, ap₂, ◌∙◌, subst, Option, Some, None, arith, inl, inr}
-use Rattle.std.proofs.lemmas.Bool.{and_parts, eqb-true}
+use Rattle.std.proofs.lemmas.Bool.{and_from, and_parts, eqb-true}
 use Rattle.std.proofs.lemmas.Option.{none-some}
 use Rattle.std.proofs.lemmas.Bool.Decides.{nat_tests}
 use Rattle.pcode_model.specs.declared.listing.Function.{Function}
@@ -15,8 +15,10 @@ use Rattle.pcode_model.proofs.Members.{of_member}
 use Rattle.pcode_laws.proofs.Rules.{neither}
 use Rattle.cmeaning.specs.declared.tree.CalleeDecl.{CalleeDecl}
 use Rattle.cmeaning.specs.declared.tree.Arm.{Arm}
+use Rattle.cmeaning.specs.declared.tree.Expr.{Expr}
 use Rattle.cmeaning.specs.declared.tree.Stmt.{Stmt, out-roll-Stmt, roll-Stmt}
 use Rattle.cmeaning.specs.declared.tree.Stmt.TheOpen.{Stmt-F}
+use Rattle.cmeaning.specs.declared.tree.Stmt.TheVariants as S
 use Rattle.cmeaning.specs.Callees.{declared_in, does_return, returns_by}
 use Rattle.cmeaning.specs.Do.{callee_in, callee_of, same_name}
 use Rattle.cmeaning.specs.Valid.{are_apart, are_callees, is_apart_from, is_callee, is_callee_name, is_long, result_fits, same_callee_name}
@@ -31,15 +33,18 @@ use Rattle.layout.specs.Callees.{called_by, called_in, callee_decl, callees_of, 
 
 -- ---- what holds of each address that is called
 
+-- by statements
 abbrev pub EachCalled : (ℕ → Type 0) → List Stmt → Type 0
 EachCalled P [] = Unit {0}
 EachCalled P (s ∷ ss) = ((a : ℕ) → callee_of s ≡ Some a → P a) × EachCalled P ss
 
+-- by the statements of blocks
 abbrev pub AllCalled : (ℕ → Type 0) → List Block → Type 0
 AllCalled P [] = Unit {0}
 AllCalled P (b ∷ bs) = EachCalled P b.body × AllCalled P bs
 
 module _ (P : ℕ → Type 0) where
+  -- What holds of two lists of statements holds of both behind each other, and the other way round.
   pub called_append : (xs ys : List Stmt) → EachCalled P xs → EachCalled P ys → EachCalled P (xs ++ ys)
   called_append [] ys h g = g
   called_append (x ∷ xs) ys h g = (h.0, called_append xs ys h.1 g)
@@ -55,6 +60,10 @@ module _ (P : ℕ → Type 0) where
 -- The address that a statement calls, by its layer.
 pub callee_layer : (s : Stmt) (y : Stmt-F Stmt Arm) → roll-Stmt y ≡ s → callee_of s ≡ callee_in y
 callee_layer s y is = ap callee_of (sym is) ∙ ap callee_in (out-roll-Stmt y)
+
+-- A call by an address calls it.
+pub callee_of_call : (v : Option ℕ) (a : ℕ) (args : List Expr) → callee_of (S.Call v a args) ≡ Some a
+callee_of_call v a args = callee_layer (S.Call v a args) (Stmt-F.Call v a args) (S.rolls-Call v a args)
 
 -- A statement that calls no address has no part in what holds of those that are called.
 pub calls_none : (P : ℕ → Type 0) (s : Stmt) → callee_of s ≡ None → (a : ℕ) → callee_of s ≡ Some a → P a
@@ -72,6 +81,7 @@ module _ (P Q : ℕ → Type 0) (leads : (a : ℕ) → P a → Q a) where
   each_map [] h = tt
   each_map (s ∷ ss) h = (λ a is. leads a (h.0 a is), each_map ss h.1)
 
+  -- What holds of each address that blocks call, by what leads from the one to the other.
   pub called_map : (bs : List Block) → AllCalled P bs → AllCalled Q bs
   called_map [] h = tt
   called_map (b ∷ bs) h = (each_map b.body h.0, called_map bs h.1)
@@ -229,9 +239,6 @@ same_is (x ∷ xs) (y ∷ ys) h =
     let parts = and_parts (x == y) (same_name xs ys) h in
     ap₂ (λ (b : ℕ) (bs : List ℕ). b ∷ bs) (eqb-true x y parts.0) (same_is xs ys parts.1)
 
-both : (a b : Bool) → a ≡ true → b ≡ true → a && b ≡ true
-both a b p q = ap₂ (λ (c d : Bool). c && d) p q
-
 module _ (l : Listing) (named : AreNamed l) (distinct : AreApartByName l) where
   named_by : (a : ℕ) (o : Option Function) → callee_at l a ≡ o → is_callee_name (name_by o) ≡ true
   named_by a None is = refl
@@ -246,8 +253,8 @@ module _ (l : Listing) (named : AreNamed l) (distinct : AreApartByName l) where
       let f = callee_at l a in
       let name = is_callee_name (name_by f) in
       let result = result_fits (returns f) (gives_by (returns f) (proto_of l f).gives) in
-      both (is_long a) (name && result) (grind (arith, nat_tests))
-      (both name result (named_by a f refl) (result_by (returns f) (proto_of l f).gives))
+      and_from (is_long a) (name && result) (grind (arith, nat_tests))
+      (and_from name result (named_by a f refl) (result_by (returns f) (proto_of l f).gives))
 
   -- callees at two addresses have two names
   apart_by : (a b : ℕ) (o p : Option Function)
@@ -270,7 +277,7 @@ module _ (l : Listing) (named : AreNamed l) (distinct : AreApartByName l) where
   two_apart : (a b : ℕ) → (b == a) ≡ false → are_apart (callee_decl l a) (callee_decl l b) ≡ true
   two_apart a b other =
       let differ : (a ≡ b → ⊥) = λ e. let t : (b == a) ≡ true = grind (arith, nat_tests) in absurd (cc) in
-      both (not (a == b)) (not (same_callee_name (name_by (callee_at l a)) (name_by (callee_at l b))))
+      and_from (not (a == b)) (not (same_callee_name (name_by (callee_at l a)) (name_by (callee_at l b))))
       (grind (arith, nat_tests)) (apart_by a b (callee_at l a) (callee_at l b) differ refl refl)
 
   apart_all : (a : ℕ) (ns : List ℕ)
@@ -279,7 +286,7 @@ module _ (l : Listing) (named : AreNamed l) (distinct : AreApartByName l) where
   apart_all a [] new = refl
   apart_all a (n ∷ ns) new =
       let parts = neither (n == a) (is_listed a ns) new in
-      both (are_apart (callee_decl l a) (callee_decl l n)) (is_apart_from (callee_decl l a) (map (callee_decl l) ns))
+      and_from (are_apart (callee_decl l a) (callee_decl l n)) (is_apart_from (callee_decl l a) (map (callee_decl l) ns))
       (two_apart a n parts.0) (apart_all a ns parts.1)
 
   all_right : (ns : List ℕ)
@@ -289,8 +296,8 @@ module _ (l : Listing) (named : AreNamed l) (distinct : AreApartByName l) where
   all_right [] once low = refl
   all_right (n ∷ ns) once low =
       let cs = map (callee_decl l) ns in
-      both (is_callee (callee_decl l n)) (is_apart_from (callee_decl l n) cs && are_callees cs) (one_right n low.0)
-      (both (is_apart_from (callee_decl l n) cs) (are_callees cs) (apart_all n ns once.0) (all_right ns once.1 low.1))
+      and_from (is_callee (callee_decl l n)) (is_apart_from (callee_decl l n) cs && are_callees cs) (one_right n low.0)
+      (and_from (is_apart_from (callee_decl l n) cs) (are_callees cs) (apart_all n ns once.0) (all_right ns once.1 low.1))
 
   -- The callees of a code whose addresses are numbers of 64 bits, where the listing's names have their form and differ.
   pub callees_right : (k : Code)

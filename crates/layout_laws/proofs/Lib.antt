@@ -12,3 +12,4 @@ pub mod Obeys
 pub mod Fits
 pub mod Callees
 mod Worked
+mod WorkedCallees

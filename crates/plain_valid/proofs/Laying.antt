@@ -33,7 +33,7 @@ use Rattle.blockcode.specs.CanLay.{AllSimple, AreSimple, CanLay, CanLeave, EndsI
 use Rattle.blockcode.specs.Numbers.{ExitBelow, ExitsBelow}
 use Rattle.blockcode.specs.Run.{call_returns}
 use Rattle.layout.specs.Callees.{callees_of}
-use Rattle.layout_laws.proofs.Callees.{AllCalled, EachCalled, IsDeclared, all_declared, called_append, called_back, called_front, called_map, callee_layer, callees_right, calls_none, calls_one, declared_returns}
+use Rattle.layout_laws.proofs.Callees.{AllCalled, EachCalled, IsDeclared, all_declared, called_append, called_back, called_front, called_map, callee_layer, callee_of_call, callees_right, calls_none, calls_one, declared_returns}
 use Rattle.op_code.specs.declared.left.Leftover.{Leftover}
 use Rattle.op_code.specs.Left.{takes_left}
 use Rattle.op_code.specs.Made.{ReadOne, name_of}
@@ -143,9 +143,6 @@ module _ (l : Listing) where
       (callee_layer (S.Extra v o) (Stmt-F.Extra v o) (S.rolls-Extra v o)))
       (extras_lay left)
 
-  callee_is : (v : Option ℕ) (a : ℕ) (args : List Expr) → callee_of (S.Call v a args) ≡ Some a
-  callee_is v a args = callee_layer (S.Call v a args) (Stmt-F.Call v a args) (S.rolls-Call v a args)
-
   simple_call : (returns : ℕ → Bool) (v : Option ℕ) (a : ℕ) (args : List Expr) → IsSimple returns (S.Call v a args)
   simple_call returns v a args =
       record { leaves = not (returns a); piece = piece_of_call returns v a args }
@@ -156,7 +153,7 @@ module _ (l : Listing) where
       → LaysOut (S.Call v a args ∷ [])
   call_lays v a args low is =
       let s = S.Call v a args in
-      let calls = callee_is v a args in
+      let calls = callee_of_call v a args in
       record {
         low = (calls_one IsLow s a calls low, tt);
         lead = λ returns each. (
@@ -171,7 +168,7 @@ module _ (l : Listing) where
       → Lays m (S.Call None a args ∷ []) X.Stop
   last_lays m a args low is =
       let s = S.Call None a args in
-      let calls = callee_is None a args in
+      let calls = callee_of_call None a args in
       record {
         low = (calls_one IsLow s a calls low, tt);
         simple = λ returns each. (

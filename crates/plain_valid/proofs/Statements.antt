@@ -34,7 +34,7 @@ use Rattle.blockcode.specs.declared.code.Exit.TheVariants as X
 use Rattle.layout.specs.Callees.{callee_decl, gives_by, width_passed}
 use Rattle.layout.specs.Suits.{BodySuits, ExitSuits, Knows}
 use Rattle.layout.proofs.Suiting.{knows_append, knows_in, knows_one, obey_one, suits_append, suits_none}
-use Rattle.layout_laws.proofs.Callees.{EachCalled, IsDeclared, callee_layer, called_back, called_front}
+use Rattle.layout_laws.proofs.Callees.{EachCalled, IsDeclared, called_back, called_front, callee_of_call}
 use Rattle.op_values.specs.Nodes.{nearest, width_of_range}
 use Rattle.op_values.proofs.Means.{nearest_is}
 use Rattle.op_code.specs.declared.left.Leftover.{Leftover}
@@ -450,9 +450,6 @@ module _ (l : Listing) (ranges : List Varnode) (h : Head) (few : length h.params
       let n = variables h in
       knows_below h (in_exprs args) (below_all ws n args (rights ws n args vs wide))
 
-  callee_is : (v : Option ℕ) (a : ℕ) (args : List Expr) → callee_of (S.Call v a args) ≡ Some a
-  callee_is v a args = callee_layer (S.Call v a args) (Stmt-F.Call v a args) (S.rolls-Call v a args)
-
   -- The kinds of statements and exits suit a head, where the listing's spaces are named and the head gives the result.
   pub suit_kinds : (m : ℕ)
       → AllByRecursion IsNamedSpace l.spaces
@@ -472,7 +469,7 @@ module _ (l : Listing) (ranges : List Varnode) (h : Head) (few : length h.params
     call = λ v a args left low is target passed wide all called.
         let p = proto_of l (callee_at l a) in
         call_suits v a args left (knows_target h v p.gives target) (knows_args args (argument_ranges p.args) wide)
-        (called.0 a (callee_is v a args))
+        (called.0 a (callee_of_call v a args))
         (declared_call true v a args is (takes_is (widths_of h) (variables h) v p.gives few target) passed wide) all;
     indirect = λ v out w to args left target f own all called. indirect_suits v out w to args left target f own all;
     other = λ v out index args low target own called. other_suits v out index args low target own;
@@ -485,7 +482,7 @@ module _ (l : Listing) (ranges : List Varnode) (h : Head) (few : length h.params
     returns = λ given called. (suits_none h, return_suits gives given);
     stops = λ a args low is passed wide called. (
       call_suits None a args [] tt (knows_args args (argument_ranges (proto_of l (callee_at l a)).args) wide)
-          (called.0 a (callee_is None a args)) (declared_call false None a args is refl passed wide) tt,
+          (called.0 a (callee_of_call None a args)) (declared_call false None a args is refl passed wide) tt,
       tt,
     );
   }
