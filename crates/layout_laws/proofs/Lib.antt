@@ -11,4 +11,3 @@ mod Cases
 pub mod Obeys
 pub mod Fits
 mod Worked
-mod WorkedCallees

@@ -12,3 +12,4 @@ pub mod Suits
 pub mod Fit
 pub mod Signature
 pub mod Long
+mod WorkedCallees
