@@ -1,5 +1,5 @@
 -- A call, as a statement, and what follows it, by the number of its prototype.
-use Rattle.std.specs.Prelude.{ℕ, Option, List}
+use Rattle.std.specs.Prelude.{ℕ, List}
 use Rattle.pcode_model.specs.declared.listing.Listing.{Listing}
 use Rattle.pcode_model.specs.declared.listing.Varnode.{Varnode}
 use Rattle.pcode_model.specs.Step.{proto_at}
