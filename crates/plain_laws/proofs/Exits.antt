@@ -55,6 +55,11 @@ pub record Leaving (ws : ℕ → ℕ) (e : Exit) (u v : CodeState) : Type 0 wher
   pub on : u.local.world.over ≡ None → v ≡ leave ws e u
   pub off : (h : End) → u.local.world.over ≡ Some h → v ≡ u
 
+-- In front of a jump every call returns.
+pub jump_returns : (n : ℕ) (ss : List Stmt) → call_returns ss (X.Jump n) ≡ true
+jump_returns n [] = refl
+jump_returns n (a ∷ ss) = refl
+
 module _
     {M : Type 0}
     (m : Acts M)
@@ -127,10 +132,6 @@ module _
     -- a call in front of these statements and this exit returns or doesn't
     abbrev IsBefore : Exit → Type 0
     IsBefore e = (ss : List Stmt) → returns ss ≡ call_returns ss e
-
-    jump_returns : (n : ℕ) (ss : List Stmt) → call_returns ss (X.Jump n) ≡ true
-    jump_returns n [] = refl
-    jump_returns n (a ∷ ss) = refl
 
     leaves_on : (here : Standing) (e : flow_exit.Exit) (s : State M) (x : Local) (u v : CodeState) (n k : ℕ)
         → IsPlain l ranges here

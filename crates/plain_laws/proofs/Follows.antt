@@ -43,7 +43,7 @@ use Rattle.op_code.specs.Form.{IsPlainOp}
 use Rattle.op_code.specs.Made.{ReadOne, call_made, op_made, passed}
 use Rattle.op_code.specs.Lowered.{block_made, blocks_made, condition_in, directly, made_in, place_made, places_made, result, tests, way_out}
 use Rattle.op_code.specs.Lowerable.{IsPlain, IsUnframed}
-use Rattle.plain_laws.proofs.Exits.{Left, Leaving, goes_to, leaves}
+use Rattle.plain_laws.proofs.Exits.{Left, Leaving, goes_to, jump_returns, leaves}
 use Rattle.pcode_model.proofs.Members.{in_front, behind}
 
 -- ---- blocks of the flow
@@ -152,10 +152,6 @@ return_behind : (o : Option Expr) (zs : List Stmt) → call_returns zs (X.Return
 return_behind o [] = refl
 return_behind o (a ∷ zs) = refl
 
-jump_behind : (n : ℕ) (zs : List Stmt) → call_returns zs (X.Jump n) ≡ true
-jump_behind n [] = refl
-jump_behind n (a ∷ zs) = refl
-
 test_behind : (c : ReadOne) (m n : ℕ) (same : Bool) (zs : List Stmt)
     → call_returns zs (cond same (directly (X.Jump m)) (tests c m n)).exit ≡ true
 test_behind c m n true [] = refl
@@ -207,7 +203,7 @@ module _ (l : Listing) (ranges : List Varnode) where
       → (let way = way_out l ranges k (Does i op) e in
       GoesBehind ((op_made l ranges next op.code op.out op.inputs).statements ++ way.loads) way.exit)
   last_by t starts p next k i op turn F.Return h is by ss = return_behind (result l ranges) (ss ++ _)
-  last_by t starts p next k i op turn (F.Jump n) h is by ss = jump_behind n (ss ++ _)
+  last_by t starts p next k i op turn (F.Jump n) h is by ss = jump_returns n (ss ++ _)
   last_by t starts p next k i op turn (F.Test m n) h is by ss =
       test_behind (condition_in l ranges k (Does i op)) m n (m == n) (ss ++ _)
   last_by t starts p next k i op Switches (F.Switch table ns) h is by ss =
@@ -230,7 +226,7 @@ module _ (l : Listing) (ranges : List Varnode) where
       → JumpsTo starts to e
       → (let way = way_out l ranges k (Passes i) e in GoesBehind ([] ++ way.loads) way.exit)
   passes_by to starts k i F.Return jump ss = absurd jump
-  passes_by to starts k i (F.Jump n) jump ss = jump_behind n (ss ++ [])
+  passes_by to starts k i (F.Jump n) jump ss = jump_returns n (ss ++ [])
   passes_by to starts k i (F.Test m n) jump ss = absurd jump
   passes_by to starts k i (F.Switch table ns) jump ss = absurd jump
   passes_by to starts k i F.Stop jump ss = absurd jump
