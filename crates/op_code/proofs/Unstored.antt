@@ -1,11 +1,12 @@
 -- The locals of the plain lowering are no parameters: they have no storage.
-use Rattle.std.proofs.Common.{◌≡◌, ℕ, ◌+◌, Bool, true, false, List, [], ◌∷◌, ◌++◌, length, Option, Some, None, refl}
+use Rattle.std.proofs.Common.{◌≡◌, ℕ, ◌+◌, Bool, true, false, List, [], ◌∷◌, ◌++◌, drop, length, Option, Some, None, refl}
 use Rattle.std.specs.Prelude.{◌==◌, cond}
 use Rattle.pcode_model.specs.declared.listing.SpaceKind.{SpaceKind}
 use Rattle.pcode_model.specs.declared.listing.SpaceKind.TheVariants.{Constant, Ram, Register, Unique}
 use Rattle.pcode_model.specs.declared.listing.Varnode.{Varnode}
 use Rattle.pcode_model.specs.declared.listing.Place.{Place}
 use Rattle.pcode_model.specs.declared.listing.Listing.{Listing}
+use Rattle.pcode_model.specs.declared.listing.Proto.{Proto}
 use Rattle.pcode_model.specs.declared.opcode.Opcode.{Opcode}
 use Rattle.pcode_model.specs.declared.opcode.Opcode.TheVariants as O
 use Rattle.pcode_model.specs.declared.flow.Exit as flow_exit
@@ -13,11 +14,14 @@ use Rattle.pcode_model.specs.declared.flow.Exit.TheVariants as F
 use Rattle.pcode_model.specs.declared.flow.Block as flow_block
 use Rattle.pcode_model.specs.Places.{Standing, Nothing, Passes, Does, standing}
 use Rattle.pcode_model.specs.Spaces.{kind_of}
-use Rattle.pcode_model.specs.Step.{varnode_at}
+use Rattle.pcode_model.specs.Rules.{past_first}
+use Rattle.pcode_model.specs.Step.{callee_at, proto_of, returns, varnode_at}
+use Rattle.cmeaning.specs.declared.tree.Stmt.TheVariants as S
 use Rattle.blockcode.specs.declared.code.Exit.TheVariants as X
 use Rattle.blockcode.specs.declared.code.Variable.{Variable}
 use Rattle.op_code.specs.Cover.{Piece, cover}
-use Rattle.op_code.specs.Made.{ReadOne, local_for, locals_by, op_made, read_by, read_one, reads}
+use Rattle.op_code.specs.Left.{argument_ranges}
+use Rattle.op_code.specs.Made.{Asking, Made, Read, ReadOne, answered, behind, call_made, calls, indirect_read, local_for, locals_by, op_made, passed, read_by, read_one, reads, word_at}
 use Rattle.op_code.specs.Lowered.{block_made, blocks_made, condition_in, directly, made_in, place_made, places_made, tests, way_out}
 
 abbrev pub AreUnstored : List Variable → Type 0
@@ -64,6 +68,28 @@ module _ (l : Listing) (ranges : List Varnode) where
       unstored_append (reads l ranges next vs).locals (locals_by (kind_of l z.space) ranges z) (reads_unstored next vs)
       (output_unstored (kind_of l z.space) z)
 
+  -- behind what is read
+  behind_unstored : (r : Read) (m : Made) → AreUnstored r.locals → AreUnstored m.locals → AreUnstored (behind r m).locals
+  behind_unstored r m h g = unstored_append r.locals m.locals h g
+
+  answered_unstored : (next : ℕ) (p : Proto) (gives : Option Varnode) (make : Asking)
+      → AreUnstored (answered l ranges next p gives make).locals
+  answered_unstored next p None make = tt
+  answered_unstored next p (Some z) make = local_unstored (cover ranges z) z
+
+  calls_unstored : (next : ℕ) (p : Proto) (r : Read) (make : Asking)
+      → AreUnstored r.locals
+      → AreUnstored (calls l ranges next p r make).locals
+  calls_unstored next p r make h =
+      let free = next + length r.locals in
+      behind_unstored r (answered l ranges free p p.gives make) h (answered_unstored free p p.gives make)
+
+  call_unstored : (t : Bool) (next a : ℕ) (p : Proto) → AreUnstored (call_made t l ranges next a p).locals
+  call_unstored true next a p =
+      let r = passed l ranges next p in
+      calls_unstored next p r (λ v. S.Call v a r.words) (reads_unstored next (argument_ranges p.args))
+  call_unstored false next a p = alone next (argument_ranges p.args)
+
   op_unstored : (next : ℕ) (code : Opcode) (out : Option Varnode) (vs : List Varnode)
       → AreUnstored (op_made l ranges next code out vs).locals
   op_unstored next (O.Unary op) None vs = alone next (varnode_at vs 0 ∷ [])
@@ -75,6 +101,16 @@ module _ (l : Listing) (ranges : List Varnode) where
   op_unstored next O.Load None vs = alone next (varnode_at vs 1 ∷ [])
   op_unstored next O.Load (Some z) vs = with_output next (varnode_at vs 1 ∷ []) z
   op_unstored next O.Store out vs = alone next (varnode_at vs 1 ∷ varnode_at vs 2 ∷ [])
+  op_unstored next O.Call out vs =
+      let f = callee_at l (varnode_at vs 0).offset in
+      call_unstored (returns f) next (varnode_at vs 0).offset (proto_of l f)
+  op_unstored next O.CallInd out vs =
+      let p = proto_of l None in
+      let r = indirect_read l ranges next (varnode_at vs 0) p in
+      calls_unstored next p r (λ v. S.CallInd v (word_at r 0) (drop 1 r.words))
+      (reads_unstored next (varnode_at vs 0 ∷ argument_ranges p.args))
+  op_unstored next O.CallOther None vs = alone next (past_first vs)
+  op_unstored next O.CallOther (Some z) vs = with_output next (past_first vs) z
   op_unstored next code out vs = tt
 
   made_unstored : (next : ℕ) (here : Standing) → AreUnstored (made_in l ranges next here).locals

@@ -4,12 +4,18 @@ use Rattle.bits_core.specs.declared.word.Width.{Width}
 use Rattle.pcode_model.specs.declared.atoms.Atom.{Atom}
 use Rattle.pcode_model.specs.declared.flow.Block.{Block}
 use Rattle.pcode_model.specs.declared.listing.Listing.{Listing}
+use Rattle.pcode_model.specs.declared.listing.Place.{Place}
+use Rattle.pcode_model.specs.declared.listing.Varnode.{Varnode}
+use Rattle.pcode_model.specs.declared.opcode.Opcode.{Opcode}
+use Rattle.pcode_model.specs.declared.opcode.Opcode.TheVariants as O
 use Rattle.pcode_model.specs.Atoms.{AreAtoms}
 use Rattle.pcode_model.specs.Flow.{IsFlow, NoFault}
 use Rattle.pcode_model.specs.Frame.{NoStackPointer, no_variables}
 use Rattle.pcode_model.specs.Limits.{max_atoms, max_blocks}
+use Rattle.pcode_model.specs.Places.{Standing, Nothing, Passes, Does, standing}
 use Rattle.pcode_model.specs.Rules.{first_bad}
 use Rattle.pcode_model.specs.Spaces.{first_ram}
+use Rattle.pcode_model.specs.Step.{varnode_at}
 use Rattle.pcode_model.specs.WellFormed.{IsWellFormed}
 use Rattle.supported.specs.Supported.{IsSupported}
 use Rattle.flow.specs.Answer.{IsFlowFault}
@@ -24,6 +30,7 @@ use Rattle.refusals.specs.declared.refusal.Refusal.{Refusal}
 use Rattle.refusals.specs.declared.refusal.Refusal.TheVariants as R
 use Rattle.refusals.proofs.Blocks.{few_starts}
 use Rattle.cmeaning.specs.declared.tree.CFunction.{CFunction}
+use Rattle.cmeaning.specs.declared.tree.CalleeDecl.{CalleeDecl}
 use Rattle.cmeaning.specs.Fits.{Fits}
 use Rattle.cmeaning.specs.Valid.{IsValid}
 use Rattle.ctext.specs.Text.{text_of}
@@ -31,13 +38,14 @@ use Rattle.naming.specs.declared.head.Head.{Head}
 use Rattle.naming.specs.Covered.{IsCovered}
 use Rattle.blockcode.specs.declared.code.Code.{Code}
 use Rattle.blockcode.specs.Laid.{laid_body}
+use Rattle.layout.specs.Callees.{callees_of}
 use Rattle.layout.specs.Function.{head_of, laid_out}
 use Rattle.op_code.specs.Lowerable as code
 use Rattle.op_code.specs.Lowered.{lowered, ranges_of, result_width}
 use Rattle.plain_valid.specs.Function.{plain_function, plain_head}
-use Rattle.plain_valid.specs.Long.{AreLong}
+use Rattle.plain_valid.specs.Long.{HasLong, NamesLong, StandsLong}
 use Rattle.plain_valid.proofs.Fit.{plain_body_fits, plain_params_fit}
-use Rattle.plain_valid.proofs.Laying.{blocks_length, can_lay}
+use Rattle.plain_valid.proofs.Laying.{blocks_length, can_lay, plain_callees}
 use Rattle.plain_valid.proofs.Long.{atoms_long}
 use Rattle.plain_valid.proofs.Signature.{plain_inputs}
 use Rattle.plain_valid.proofs.Suits.{plain_suits}
@@ -46,6 +54,8 @@ use Rattle.layout_laws.proofs.Fits.{laid_fits}
 use Rattle.layout_laws.proofs.Obeys.{laid_valid}
 use Rattle.plain_form.proofs.Accessed.{accessed_low}
 use Rattle.plain_form.proofs.Form.{plain_form}
+use Rattle.plain_form.proofs.Read.{first_long}
+use Rattle.plain_form.proofs.Standing.{stands_in}
 use Rattle.plain_form.proofs.Spaces.{space_some}
 use Rattle.pipeline.specs.Passed.{Lowers}
 use Rattle.pipeline.specs.Verdict.{Accepts, IsCause, MayPrint, Stops}
@@ -53,6 +63,12 @@ use Rattle.pipeline.proofs.Formed.{gives_is}
 use Rattle.pipeline.proofs.Keeps as keeps
 
 -- ---- the function
+
+-- the first input's offset is all that an op names by a number of 64 bits
+names_long : (code : Opcode) (vs : List Varnode) → (varnode_at vs 0).offset < 2 ^ 64 → NamesLong code vs
+names_long O.Call vs h = h
+names_long O.CallOther vs h = h
+names_long code vs h = tt
 
 module _
     (l : Listing)
@@ -75,33 +91,41 @@ module _
     abbrev head : Head
     head = plain_head l made
 
-    long : AreLong atoms
-    long = atoms_long l [] atoms are (accessed_low l read good built)
+    stands_long : (here : Standing) → (p : Place) → standing l p ≡ here → StandsLong here
+    stands_long Nothing p at = tt
+    stands_long (Passes i) p at = tt
+    stands_long (Does i op) p at = names_long op.code op.inputs (first_long l read good i op (stands_in l p i op at))
+
+    long : HasLong l [] atoms
+    long = record {
+      storages = atoms_long l [] atoms are (accessed_low l read good built);
+      places = λ p reached. stands_long (standing l p) p refl;
+    }
 
     module _ (small : length made.variables ≤ 2 ^ 32) where
       covered : IsCovered head (laid_body made)
-      covered = keeps.plain_covered l [] blocks atoms form built.stack (space_some l (first_ram l)) small read.named.spaces
+      covered = keeps.plain_covered l [] blocks atoms form built.stack (space_some l (first_ram l)) long small read.named.spaces
 
       valid : IsValid (plain_function l blocks atoms)
       valid = laid_valid head made
-          (can_lay l [] blocks atoms (λ a. true) form small).numbers
-          (plain_suits l [] blocks atoms form small read.named.spaces)
+          (can_lay l [] blocks atoms form long small).numbers
+          (plain_suits l [] blocks atoms form long small read.named.spaces)
           (few_declared l blocks atoms small)
           read.named.func
-          (params_right l blocks atoms long are.in_order)
-          refl
+          (params_right l blocks atoms long.storages are.in_order)
+          (plain_callees l [] blocks atoms form long small read.named read.distinct)
 
       fits : Fits l (plain_function l blocks atoms)
       fits = laid_fits l head made covered
           (plain_params_fit l [] blocks atoms form)
-          (plain_body_fits l [] blocks atoms form small)
+          (plain_body_fits l [] blocks atoms form long small)
 
       -- All that is said of the function of the plain lowering.
       pub lowers : Lowers l (plain_function l blocks atoms)
       lowers = record {
         valid = valid;
         fits = fits;
-        agrees = keeps.agrees l [] blocks atoms form built.stack (space_some l (first_ram l)) small read.named.spaces;
+        agrees = keeps.agrees l [] blocks atoms form built.stack (space_some l (first_ram l)) long small read.named.spaces;
         form = record {
           name = refl;
           gives = gives_is l read good;
@@ -132,19 +156,21 @@ few_blocks_made l blocks atoms k is few =
 
 -- the laid out function, by its parts
 pub laid_is : (l : Listing) (blocks : List Block) (atoms : List Atom) (name : List ℕ) (gives : Option Width)
-    (h : Head) (k : Code) (f : CFunction)
+    (callees : List CalleeDecl) (h : Head) (k : Code) (f : CFunction)
     → f ≡ laid_out h k
-    → h ≡ head_of name gives k.variables
+    → h ≡ head_of name gives callees k.variables
     → name ≡ l.func.name
     → gives ≡ result_width l
+    → callees ≡ callees_of l k
     → k ≡ lowered l blocks atoms
     → f ≡ plain_function l blocks atoms
-laid_is l blocks atoms name gives h k f is headed named given made =
+laid_is l blocks atoms name gives callees h k f is headed named given called made =
     is
     ∙ ap (λ (x : Head). laid_out x k) headed
-    ∙ ap (λ (x : List ℕ). laid_out (head_of x gives k.variables) k) named
-    ∙ ap (λ (x : Option Width). laid_out (head_of l.func.name x k.variables) k) given
-    ∙ ap (λ (x : Code). laid_out (head_of l.func.name (result_width l) x.variables) x) made
+    ∙ ap (λ (x : List ℕ). laid_out (head_of x gives callees k.variables) k) named
+    ∙ ap (λ (x : Option Width). laid_out (head_of l.func.name x callees k.variables) k) given
+    ∙ ap (λ (x : List CalleeDecl). laid_out (head_of l.func.name (result_width l) x k.variables) k) called
+    ∙ ap (λ (x : Code). laid_out (head_of l.func.name (result_width l) (callees_of l x) x.variables) x) made
 
 -- ---- what may be printed
 

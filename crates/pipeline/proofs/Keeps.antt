@@ -21,7 +21,6 @@ use Rattle.pcode_model.specs.Step.{first_whole, layout as layout_of, proto_of, r
 use Rattle.pcode_laws.proofs.Ends.{Allows, ends_within}
 use Rattle.cmeaning.specs.Agree.{AgreesWith}
 use Rattle.cmeaning.specs.Step.{seen_c}
-use Rattle.naming.specs.Run.{returns_of}
 use Rattle.naming.specs.Covered.{IsCovered}
 use Rattle.blockcode.specs.declared.code.Code.{Code}
 use Rattle.blockcode.specs.CanLay.{has_switch}
@@ -34,6 +33,7 @@ use Rattle.op_code.specs.Lowered.{lowered}
 use Rattle.op_code.specs.Lowerable.{IsLowerable}
 use Rattle.plain_laws.proofs.Agrees as lowering
 use Rattle.plain_valid.specs.Function.{plain_head, plain_function}
+use Rattle.plain_valid.specs.Long.{HasLong}
 use Rattle.plain_valid.proofs.Laying.{can_lay, no_switch}
 use Rattle.plain_valid.proofs.Suits.{plain_suits}
 use Rattle.plain_valid.proofs.Valid.{few_declared, plain_declares}
@@ -131,6 +131,7 @@ module _
     (form : IsLowerable l t blocks atoms)
     (none : l.stack ≡ None)
     (some : 0 < size_of l (first_ram l))
+    (long : HasLong l t atoms)
     (few : length (lowered l blocks atoms).variables ≤ 2 ^ 32)
     (named : AllByRecursion IsNamedSpace l.spaces)
   where
@@ -140,7 +141,7 @@ module _
     -- The head of the plain lowering covers its body.
     pub plain_covered : IsCovered (plain_head l code) (laid_body code)
     plain_covered = laid_covered (plain_head l code) code (few_declared l blocks atoms few)
-        (can_lay l t blocks atoms (λ a. true) form few).numbers.few (plain_suits l t blocks atoms form few named)
+        (can_lay l t blocks atoms form long few).numbers.few (plain_suits l t blocks atoms form long few named)
 
     -- no run of this code meets a switch
     never_switches : (e : Entry) → has_switch code ≡ true → NeverEnds BadTarget (seen_code l code e)
@@ -153,7 +154,7 @@ module _
         let p = seen_p l (frame_of l no_variables) e in
         let c = seen_c l (plain_function l blocks atoms) e in
         let h = plain_head l code in
-        let laid = layout.function_keeps l h code e (can_lay l t blocks atoms (returns_of h) form few)
+        let laid = layout.function_keeps l h code e (can_lay l t blocks atoms form long few)
         (plain_declares l blocks atoms) plain_covered (never_switches e) in
         let lowers = lowering.code_agrees l t blocks atoms form e entry (low_stack l e none some) in
         without_words (proto_of l None).gives p c (λ w none. never_word l (frame_of l no_variables) e w none)

@@ -7,7 +7,7 @@ use crate::verdict::{Accepted, accept};
 use bits_core::Memory;
 use cmeaning::CFunction;
 use ctext::print_c;
-use layout::{laid_out, plain_head};
+use layout::{callees, laid_out, plain_head};
 use pcode_model::{Name, Text};
 use plaincode::{plain, result_width};
 use refusals::Refusal;
@@ -34,10 +34,12 @@ pub fn lower(alloc: Global, accepted: &Accepted) -> Result<CFunction, Memory>
     let listing = &accepted.listing;
     let code = plain(alloc, listing, &accepted.flow, &accepted.atoms)?;
     let name = Name::from_slice(alloc, listing.func.name.as_slice())?;
+    let callees = callees(alloc, listing, &code)?;
     let head = plain_head(
         alloc,
         name,
         result_width(listing),
+        callees,
         code.variables.as_slice(),
     )?;
     let function = laid_out(alloc, head, code)?;

@@ -1,6 +1,6 @@
 -- Each range of the register space or of the unique space that a supported listing accesses has 1 to 16 bytes and lies
 -- inside its space.
-use Rattle.std.proofs.Common.{◌≡◌, ◌≤◌, ◌+◌, ◌^◌, Bool, true, false, List, [], ◌++◌, None, refl, inl, inr, subst}
+use Rattle.std.proofs.Common.{◌≡◌, ◌≤◌, ◌+◌, ◌^◌, ◌⊎◌, Bool, true, false, List, [], ◌∷◌, ◌++◌, Option, None, refl, inl, inr, subst}
 use Rattle.std.specs.Prelude.{if◌then◌else◌}
 use Rattle.pcode_model.specs.declared.opcode.Opcode.{Opcode}
 use Rattle.pcode_model.specs.declared.opcode.Opcode.TheVariants as O
@@ -9,21 +9,24 @@ use Rattle.pcode_model.specs.declared.listing.Place.{Place}
 use Rattle.pcode_model.specs.declared.listing.Varnode.{Varnode}
 use Rattle.pcode_model.specs.declared.listing.Instruction.{Instruction}
 use Rattle.pcode_model.specs.declared.listing.Listing.{Listing}
+use Rattle.pcode_model.specs.declared.listing.Proto.{Proto}
 use Rattle.pcode_model.specs.Flow.{IsIn}
 use Rattle.pcode_model.specs.Places.{Standing, Nothing, Passes, Does, standing}
 use Rattle.pcode_model.specs.Rules.{first_bad, input_ranges, names_address, past_first}
-use Rattle.pcode_model.specs.Step.{all_but_first, all_read, operands, proto_of}
+use Rattle.pcode_model.specs.Step.{all_but_first, all_read, arguments, callee_at, operands, proto_of, varnode_at}
 use Rattle.pcode_model.specs.Atoms.{Accesses, IsLocal, further_ranges, one_range, op_ranges, ranges_in, ranges_read}
-use Rattle.pcode_model.specs.WellFormed.{IsWellFormed}
+use Rattle.pcode_model.specs.WellFormed.{IsStorage, IsWellFormed}
 use Rattle.pcode_model.proofs.Members.{in_either}
 use Rattle.supported.specs.Supported.{IsSupported, is_supported_code}
 use Rattle.stackvars.proofs.Ops.{read_all, read_past}
+use Rattle.stackvars.proofs.Passed.{reads_passed}
+use Rattle.plain_form.proofs.Prototypes.{IsDeclared, callee_declared, own_declared, passed_storage}
 use Rattle.plain_form.proofs.Standing.{StandsIn, stands_in, supported_in}
 use Rattle.plain_form.proofs.Rules.{past_in}
-use Rattle.plain_form.proofs.Formed.{Inside}
-use Rattle.plain_form.proofs.Read.{input_inside, output_inside, result_inside}
+use Rattle.plain_form.proofs.Formed.{IsInput, Inside}
+use Rattle.plain_form.proofs.Read.{input, input_inside, one_in, output_inside, storage_input, storage_inside}
 
--- ---- what a supported op accesses: what it reads, its output, and a RETURN the function's result
+-- ---- what a supported op accesses: what it reads, its output, and at a call and a RETURN the result
 
 all_in : (vs : List Varnode) (v : Varnode) → IsIn v (ranges_read (all_read vs)) → IsIn v vs
 all_in vs v h = let P : List Varnode → Type 0 = λ xs. IsIn v xs in subst P (read_all vs) h
@@ -31,46 +34,88 @@ all_in vs v h = let P : List Varnode → Type 0 = λ xs. IsIn v xs in subst P (r
 rest_in : (vs : List Varnode) (v : Varnode) → IsIn v (ranges_read (all_but_first vs)) → IsIn v (past_first vs)
 rest_in vs v h = let P : List Varnode → Type 0 = λ xs. IsIn v xs in subst P (read_past vs) h
 
--- What an op reads is one of its inputs that aren't addresses.
-pub operand_is : (l : Listing) (code : Opcode) (vs : List Varnode)
-    → is_supported_code code ≡ true
-    → (v : Varnode)
-    → IsIn v (ranges_read (operands l code vs))
-    → IsIn v (input_ranges code vs)
-operand_is l (O.Unary op) vs s v h = all_in vs v h
-operand_is l (O.Binary op) vs s v h = all_in vs v h
-operand_is l (O.Divide op) vs s v h = all_in vs v h
-operand_is l O.Load vs s v h = past_in vs v (rest_in vs v h)
-operand_is l O.Store vs s v h = past_in vs v (rest_in vs v h)
-operand_is l O.Branch vs s v h = absurd h
-operand_is l O.CBranch vs s v h = by_test (names_address O.CBranch vs) (rest_in vs v h)
-  where
-    by_test : (b : Bool) → IsIn v (past_first vs) → IsIn v (if b then past_first vs else vs)
-    by_test true k = k
-    by_test false k = past_in vs v k
-operand_is l O.Return vs s v h = all_in vs v h
-operand_is l O.BranchInd vs s v h = absurd (cc)
-operand_is l O.Call vs s v h = absurd (cc)
-operand_is l O.CallInd vs s v h = absurd (cc)
-operand_is l O.CallOther vs s v h = absurd (cc)
-operand_is l (O.Float name) vs s v h = absurd (cc)
-operand_is l (O.FloatConversion op) vs s v h = absurd (cc)
-operand_is l (O.Analysis op) vs s v h = absurd (cc)
-operand_is l (O.LeftOut op) vs s v h = absurd (cc)
+module _ (l : Listing) (read : IsWellFormed l) where
+  argument_is : (p : Proto)
+      → IsDeclared l p
+      → (v : Varnode)
+      → IsIn v (ranges_read (arguments 0 p.args))
+      → IsStorage l.spaces v
+  argument_is p declared v h =
+      let P : List Varnode → Type 0 = λ xs. IsIn v xs in
+      passed_storage l read p.args declared.is.args v (subst P (reads_passed 0 p.args) h)
 
-further_is : (l : Listing) (code : Opcode) (vs : List Varnode)
-    → is_supported_code code ≡ true
-    → (v : Varnode)
-    → IsIn v (further_ranges l None code vs)
-    → IsIn v (one_range (proto_of l None).gives)
-further_is l O.Return vs s v h = h
-further_is l O.Call vs s v h = absurd (cc)
-further_is l O.CallInd vs s v h = absurd (cc)
-further_is l code vs s v h = absurd h
+  -- What an op reads is one of its inputs that aren't addresses, or an argument of what it calls.
+  pub operand_is : (code : Opcode) (vs : List Varnode)
+      → is_supported_code code ≡ true
+      → (v : Varnode)
+      → IsIn v (ranges_read (operands l code vs))
+      → IsIn v (input_ranges code vs) ⊎ IsStorage l.spaces v
+  operand_is (O.Unary op) vs s v h = inl (all_in vs v h)
+  operand_is (O.Binary op) vs s v h = inl (all_in vs v h)
+  operand_is (O.Divide op) vs s v h = inl (all_in vs v h)
+  operand_is O.Load vs s v h = inl (past_in vs v (rest_in vs v h))
+  operand_is O.Store vs s v h = inl (past_in vs v (rest_in vs v h))
+  operand_is O.Branch vs s v h = absurd h
+  operand_is O.CBranch vs s v h = inl (by_test (names_address O.CBranch vs) (rest_in vs v h))
+    where
+      by_test : (b : Bool) → IsIn v (past_first vs) → IsIn v (if b then past_first vs else vs)
+      by_test true k = k
+      by_test false k = past_in vs v k
+  operand_is O.Return vs s v h = inl (all_in vs v h)
+  operand_is O.BranchInd vs s v h = absurd (cc)
+  operand_is O.Call [] s v h = absurd h
+  operand_is O.Call (to ∷ vs) s v h =
+      inr (argument_is (proto_of l (callee_at l to.offset)) (callee_declared l read to.offset) v h)
+  operand_is O.CallInd [] s v h = absurd h
+  operand_is O.CallInd (to ∷ vs) s v (inl e) = inl (inl e)
+  operand_is O.CallInd (to ∷ vs) s v (inr h) = inr (argument_is (proto_of l None) (own_declared l read) v h)
+  operand_is O.CallOther vs s v h = inl (past_in vs v (rest_in vs v h))
+  operand_is (O.Float name) vs s v h = absurd (cc)
+  operand_is (O.FloatConversion op) vs s v h = absurd (cc)
+  operand_is (O.Analysis op) vs s v h = absurd (cc)
+  operand_is (O.LeftOut op) vs s v h = absurd (cc)
+
+  module _ (none : l.stack ≡ None) where
+    given_is : (p : Proto)
+        → IsDeclared l p
+        → (v : Varnode)
+        → IsIn v (one_range p.gives ++ one_range l.stack)
+        → IsStorage l.spaces v
+    given_is p declared v h =
+        elim (in_either (one_range p.gives) (one_range l.stack) v h) [
+          | inl g ↦ one_in (IsStorage l.spaces) p.gives declared.is.gives v g
+          | inr f ↦ let P : Option Varnode → Type 0 = λ o. IsIn v (one_range o) in absurd (subst P none f)
+        ]
+
+    -- What it accesses further is the result of what it calls, or the function's.
+    further_is : (code : Opcode) (vs : List Varnode)
+        → is_supported_code code ≡ true
+        → (v : Varnode)
+        → IsIn v (further_ranges l None code vs)
+        → IsStorage l.spaces v
+    further_is O.Return vs s v h =
+        one_in (IsStorage l.spaces) (proto_of l None).gives (own_declared l read).is.gives v h
+    further_is O.Call vs s v h =
+        let a = (varnode_at vs 0).offset in
+        given_is (proto_of l (callee_at l a)) (callee_declared l read a) v h
+    further_is O.CallInd vs s v h = given_is (proto_of l None) (own_declared l read) v h
+    further_is code vs s v h = absurd h
 
 -- ---- what is accessed lies inside its space
 
 module _ (l : Listing) (read : IsWellFormed l) (good : first_bad l ≡ None) (sup : IsSupported l) where
+  -- What an op reads may be read.
+  pub operand_input : (i : Instruction) (op : Op)
+      → StandsIn l.code i op
+      → (v : Varnode)
+      → IsIn v (ranges_read (operands l op.code op.inputs))
+      → IsInput l v
+  operand_input i op stand v h =
+      elim (operand_is l read op.code op.inputs (supported_in l.code sup.ops i op stand) v h) [
+        | inl is ↦ input l read good i op stand v is
+        | inr is ↦ storage_input l read good v is
+      ]
+
   op_inside : (i : Instruction) (op : Op)
       → StandsIn l.code i op
       → (v : Varnode)
@@ -81,10 +126,10 @@ module _ (l : Listing) (read : IsWellFormed l) (good : first_bad l ≡ None) (su
       let code = supported_in l.code sup.ops i op stand in
       elim (in_either (ranges_read (operands l op.code op.inputs))
       (one_range op.out ++ further_ranges l None op.code op.inputs) v h) [
-        | inl p ↦ input_inside l read good i op stand v home (operand_is l op.code op.inputs code v p)
+        | inl p ↦ input_inside l read good v home (operand_input i op stand v p)
         | inr q ↦ elim (in_either (one_range op.out) (further_ranges l None op.code op.inputs) v q) [
           | inl o ↦ output_inside l read good i op stand v home o
-          | inr f ↦ result_inside l read good v (further_is l op.code op.inputs code v f)
+          | inr f ↦ storage_inside l read good v (further_is l read sup.stack op.code op.inputs code v f)
         ]
       ]
 

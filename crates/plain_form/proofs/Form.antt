@@ -19,7 +19,8 @@ use Rattle.op_code.specs.Ranges.{HasAtoms}
 use Rattle.op_code.proofs.Atoms.{accessed_cover}
 use Rattle.plain_form.proofs.Accessed.{accessed_inside}
 use Rattle.plain_form.proofs.Plain.{plain_at}
-use Rattle.plain_form.proofs.Table.{atoms_narrow, atoms_some, atoms_table, in_ranges}
+use Rattle.plain_form.proofs.Splits.{kept_of, splits}
+use Rattle.plain_form.proofs.Table.{atoms_local, atoms_narrow, atoms_some, atoms_table, in_ranges}
 
 has_atoms : (l : Listing) (atoms : List Atom) → HasAtoms l atoms (ranges_of l atoms)
 has_atoms l atoms = record {
@@ -63,5 +64,7 @@ plain_form l read good sup blocks flow fine few atoms are =
       few = omega arith;
       table = atoms_table l differ inner atoms are;
       narrow = atoms_narrow l differ inner atoms are;
-      plain = plain_at l read good sup (ranges_of l atoms) (covered l read good sup atoms are) fine;
+      plain = plain_at l read good sup (ranges_of l atoms) (covered l read good sup atoms are)
+          (λ p k among is. splits l differ k (kept_of l.protos p k among is) atoms are (atoms_local l differ inner atoms are))
+          fine;
     }

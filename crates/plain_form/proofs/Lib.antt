@@ -3,8 +3,10 @@ pub mod Spaces
 pub mod Memory
 pub mod Rules
 pub mod Formed
+pub mod Prototypes
 pub mod Read
 pub mod Accessed
 pub mod Plain
 pub mod Table
+pub mod Splits
 pub mod Form

@@ -1,6 +1,7 @@
 -- What stands at a reached place of a supported listing has the form that the plain lowering asks for.
 use Rattle.std.proofs.Common.{◌≡◌, ◌<◌, ℕ, Bool, true, false, List, [], ◌∷◌, Option, Some, None, length, refl, inl, inr, sym, subst, ◌∙◌, arith}
-use Rattle.std.specs.Prelude.{◌&&◌, nat_le, not}
+use Rattle.std.specs.Prelude.{◌&&◌, nat_le, not, IfSome, IsSome}
+use Rattle.std.specs.List.{AllByRecursion}
 use Rattle.std.proofs.lemmas.Bool.Decides.{nat_tests}
 use Rattle.std.proofs.lemmas.Bool.{and_parts, eqb-true, not-false}
 use Rattle.bits_core.specs.Value.{limit}
@@ -17,6 +18,9 @@ use Rattle.pcode_model.specs.declared.listing.Place.{Place}
 use Rattle.pcode_model.specs.declared.listing.Varnode.{Varnode}
 use Rattle.pcode_model.specs.declared.listing.Instruction.{Instruction}
 use Rattle.pcode_model.specs.declared.listing.Listing.{Listing}
+use Rattle.pcode_model.specs.declared.listing.Proto.{Proto}
+use Rattle.pcode_model.specs.declared.listing.Storage.{Storage}
+use Rattle.pcode_model.specs.declared.listing.Storage.TheVariants.{At, Stack}
 use Rattle.pcode_model.specs.declared.rules.OpWhy.{OpWhy}
 use Rattle.pcode_model.specs.declared.rules.OpWhy.TheVariants.{Arity, BadSpace, SizeRule}
 use Rattle.pcode_model.specs.declared.rules.Output.TheVariants as output
@@ -24,13 +28,16 @@ use Rattle.pcode_model.specs.Flow.{IsIn, Reached, Fails, NoFault, standing_ways}
 use Rattle.pcode_model.specs.declared.flow.FlowWhy.TheVariants.{NoTarget}
 use Rattle.pcode_model.specs.Spaces.{kind_of, register_space}
 use Rattle.pcode_model.specs.Places.{Standing, Nothing, Passes, Does, standing}
-use Rattle.pcode_model.specs.Step.{operands, proto_of, size_out}
+use Rattle.pcode_model.specs.Step.{arguments, callee_at, operands, proto_of, size_out}
 use Rattle.pcode_model.specs.Atoms.{Accesses, IsLocal, further_ranges, one_range, op_ranges, ranges_in, ranges_read}
 use Rattle.pcode_model.specs.Rules.{breaks, first_bad, has_operands, has_output, inputs_stand, leaves_space, names_ram, operands_of, output_is_constant, rules, sizes_fit}
-use Rattle.pcode_model.specs.WellFormed.{IsWellFormed}
+use Rattle.pcode_model.specs.WellFormed.{IsArgument, IsStorage, IsWellFormed, ShareNothing}
 use Rattle.supported.specs.Supported.{IsSupported, is_supported_code}
+use Rattle.stackvars.specs.Accesses.{passed}
+use Rattle.stackvars.proofs.Ops.{read_all}
+use Rattle.stackvars.proofs.Passed.{reads_passed}
 use Rattle.op_code.specs.Cover.{HasCover}
-use Rattle.op_code.specs.Form.{IsDirect, IsLocalBy, IsMemory, IsOperand, IsOperandBy, IsOutput, IsOutputBy, IsPlainOp, IsResult, IsSecond}
+use Rattle.op_code.specs.Form.{AllOperands, IsCallable, IsDirect, IsGiven, IsLocalBy, IsMemory, IsOperand, IsOperandBy, IsOutput, IsOutputBy, IsPassed, IsPlainOp, IsResult, IsSecond, IsSplitBy}
 use Rattle.op_code.specs.Lowerable.{IsPlain}
 use Rattle.pcode_model.proofs.Members.{behind, in_front}
 use Rattle.pcode_laws.proofs.Rules.{breaks_none}
@@ -39,8 +46,9 @@ use Rattle.plain_form.proofs.Standing.{StandsIn, stands_in, supported_in}
 use Rattle.plain_form.proofs.Spaces.{differ, first_constant, same_is}
 use Rattle.plain_form.proofs.Memory.{memory_is}
 use Rattle.plain_form.proofs.Formed.{IsInput, IsWritten}
-use Rattle.plain_form.proofs.Read.{input, output as written, register_home, register_kind, result_home, result_inside, unique_home}
-use Rattle.plain_form.proofs.Accessed.{operand_is}
+use Rattle.plain_form.proofs.Prototypes.{IsDeclared, callee_declared, own_declared}
+use Rattle.plain_form.proofs.Read.{output as written, register_home, register_kind, result_home, result_inside, storage_home, unique_home}
+use Rattle.plain_form.proofs.Accessed.{operand_input}
 use Rattle.plain_form.proofs.Rules.{ends_within}
 
 -- ---- operands
@@ -148,6 +156,11 @@ module _ (l : Listing) (read : IsWellFormed l) (ranges : List Varnode) where
     inputs : (v : Varnode) → IsIn v (ranges_read (operands l code vs)) → IsOperand l ranges v
     output : (v : Varnode) → IsIn v (one_range out) → IsOutput l ranges v
     result : code ≡ O.Return → IsResult l ranges (proto_of l None).gives
+    callable : (p : Proto)
+        → IsDeclared l p
+        → ((v : Varnode) → IsIn v (passed p.args) → IsIn v (ranges_read (operands l code vs)))
+        → ((v : Varnode) → IsIn v (one_range p.gives) → IsIn v (further_ranges l None code vs))
+        → IsCallable l ranges p
 
   abbrev HasForm : Opcode → Option Varnode → List Varnode → Type 0
   HasForm code out vs = Known code out vs → IsPlainOp l ranges code out vs
@@ -189,6 +202,40 @@ module _ (l : Listing) (read : IsWellFormed l) (ranges : List Varnode) where
   return_form : (to : Varnode) → HasForm O.Return None (to ∷ [])
   return_form to k = (k.inputs to (inl refl), k.result refl)
 
+  passed_read : (args : List Storage) (v : Varnode) → IsIn v (passed args) → IsIn v (ranges_read (arguments 0 args))
+  passed_read args v is = let P : List Varnode → Type 0 = λ xs. IsIn v xs in subst P (sym (reads_passed 0 args)) is
+
+  call_form : (to : Varnode) → HasForm O.Call None (to ∷ [])
+  call_form to k =
+      let p = proto_of l (callee_at l to.offset) in
+      k.callable p (callee_declared l read to.offset) (passed_read p.args)
+      (λ v is. in_front (one_range p.gives) (one_range l.stack) v is)
+
+  indirect_form : (to : Varnode) → HasForm O.CallInd None (to ∷ [])
+  indirect_form to k =
+      let p = proto_of l None in (
+        k.inputs to (inl refl),
+        k.callable p (own_declared l read) (λ v is. inr (passed_read p.args v is))
+            (λ v is. in_front (one_range p.gives) (one_range l.stack) v is),
+      )
+
+  all_operands : (vs : List Varnode) → ((v : Varnode) → IsIn v vs → IsOperand l ranges v) → AllOperands l ranges vs
+  all_operands [] f = tt
+  all_operands (v ∷ vs) f = (f v (inl refl), all_operands vs (λ w is. f w (inr is)))
+
+  may_be_set : (out : Option Varnode)
+      → ((z : Varnode) → IsIn z (one_range out) → IsOutput l ranges z)
+      → IfSome out (IsOutput l ranges)
+  may_be_set None f = tt
+  may_be_set (Some z) f = f z (inl refl)
+
+  other_form : (out : Option Varnode) (index : Varnode) (vs : List Varnode) → HasForm O.CallOther out (index ∷ vs)
+  other_form out index vs k = (
+    all_operands vs (λ v is. k.inputs v
+        (let P : List Varnode → Type 0 = λ xs. IsIn v xs in subst P (sym (read_all vs)) is)),
+    may_be_set out k.output,
+  )
+
   -- by the operation
   form_of : (code : Opcode) (out : Option Varnode) (vs : List Varnode)
       → is_supported_code code ≡ true
@@ -219,9 +266,14 @@ module _ (l : Listing) (read : IsWellFormed l) (ranges : List Varnode) where
       without_output (λ o. HasForm O.Return o vs) out (third _ _ _ ar)
       (of_one (HasForm O.Return None) vs (counted 1 _ _ ar) return_form)
   form_of O.BranchInd out vs s ar = absurd (cc)
-  form_of O.Call out vs s ar = absurd (cc)
-  form_of O.CallInd out vs s ar = absurd (cc)
-  form_of O.CallOther out vs s ar = absurd (cc)
+  form_of O.Call out vs s ar =
+      without_output (λ o. HasForm O.Call o vs) out (third _ _ _ ar)
+      (of_one (HasForm O.Call None) vs (counted 1 _ _ ar) call_form)
+  form_of O.CallInd out vs s ar =
+      without_output (λ o. HasForm O.CallInd o vs) out (third _ _ _ ar)
+      (of_one (HasForm O.CallInd None) vs (counted 1 _ _ ar) indirect_form)
+  form_of O.CallOther out [] s ar = absurd (cc)
+  form_of O.CallOther out (index ∷ vs) s ar = other_form out index vs
   form_of (O.Float name) out vs s ar = absurd (cc)
   form_of (O.FloatConversion op) out vs s ar = absurd (cc)
   form_of (O.Analysis op) out vs s ar = absurd (cc)
@@ -236,6 +288,7 @@ module _
     (sup : IsSupported l)
     (ranges : List Varnode)
     (has : (v : Varnode) → Accesses l [] v → HasCover ranges v)
+    (splits : (p : Proto) (k : Varnode) → IsIn p l.protos → IsIn k p.keep → IsSplitBy l ranges k)
   where
     module _ (p : Place) (reached : Reached l [] p) (i : Instruction) (op : Op) (here : standing l p ≡ Does i op) where
       stand : StandsIn l.code i op
@@ -260,7 +313,7 @@ module _
       operand : (v : Varnode) → IsIn v (ranges_read (operands l op.code op.inputs)) → IsOperand l ranges v
       unfolding stand
       operand v is =
-          let known = input l read good i op stand v (operand_is l op.code op.inputs code v is) in (
+          let known = operand_input l read good sup i op stand v is in (
             (known.some, known.narrow),
             operand_by l read good ranges v (kind_of l v.space) refl known
                 (λ home. covered v home (in_front (ranges_read (operands l op.code op.inputs)) _ v is)),
@@ -295,6 +348,63 @@ module _
                 (covered v (inl home) accessed),
           )
 
+      -- ---- what is called
+
+      covered_further : (v : Varnode)
+          → IsLocal l v.space
+          → IsIn v (further_ranges l None op.code op.inputs)
+          → HasCover ranges v
+      covered_further v home further =
+          covered v home
+          (behind (ranges_read (operands l op.code op.inputs)) _ v (behind (one_range op.out) _ v further))
+
+      has_stack : (offset size : ℕ) → IsArgument l.spaces l.stack (Stack offset size) → IsSome l.stack
+      has_stack offset size h = h.3
+
+      all_passed : (args : List Storage)
+          → AllByRecursion (IsArgument l.spaces l.stack) args
+          → ((v : Varnode) → IsIn v (passed args) → IsOperand l ranges v)
+          → AllByRecursion (IsPassed l ranges) args
+      all_passed [] all f = tt
+      all_passed (At v ∷ args) all f = (f v (inl refl), all_passed args all.1 (λ w is. f w (inr is)))
+      all_passed (Stack offset size ∷ args) all f =
+          let has : IsSome l.stack = has_stack offset size all.0 in
+          absurd (cc)
+
+      given_by : (gives : Option Varnode)
+          → IfSome gives (IsStorage l.spaces)
+          → ((v : Varnode) → IsIn v (one_range gives) → IsIn v (further_ranges l None op.code op.inputs))
+          → IfSome gives (IsGiven l ranges)
+      given_by None is further = tt
+      given_by (Some v) is further =
+          let home = storage_home l read good v is in
+          (home, ((is.register.some, is.few), covered_further v (inl home) (further v (inl refl))))
+
+      all_split : (keep : List Varnode)
+          → ((k : Varnode) → IsIn k keep → IsSplitBy l ranges k)
+          → AllByRecursion (IsSplitBy l ranges) keep
+      all_split [] f = tt
+      all_split (k ∷ keep) f = (f k (inl refl), all_split keep (λ j is. f j (inr is)))
+
+      all_apart : (gives : Option Varnode) (keep : List Varnode)
+          → AllByRecursion (λ k. IfSome l.stack (ShareNothing k) × IfSome gives (ShareNothing k)) keep
+          → AllByRecursion (λ k. IfSome gives (ShareNothing k)) keep
+      all_apart gives [] all = tt
+      all_apart gives (k ∷ keep) all = (all.0.1, all_apart gives keep all.1)
+
+      callable : (q : Proto)
+          → IsDeclared l q
+          → ((v : Varnode) → IsIn v (passed q.args) → IsIn v (ranges_read (operands l op.code op.inputs)))
+          → ((v : Varnode) → IsIn v (one_range q.gives) → IsIn v (further_ranges l None op.code op.inputs))
+          → IsCallable l ranges q
+      callable q declared args further = record {
+        stack = sup.stack;
+        args = all_passed q.args declared.is.args (λ v is. operand v (args v is));
+        gives = given_by q.gives declared.is.gives further;
+        kept = all_split q.keep (λ k is. splits q k declared.among is);
+        apart = all_apart q.gives q.keep declared.is.kept_apart;
+      }
+
       op_form : IsPlainOp l ranges op.code op.out op.inputs
       op_form = form_of l read ranges op.code op.out op.inputs code
           (not-false _ (obeys Arity (inr (inr (inr (inl refl))))))
@@ -304,6 +414,7 @@ module _
             inputs = operand;
             output = assigned;
             result = given (proto_of l None).gives refl;
+            callable = callable;
           })
 
     module _ (fine : NoFault l []) (p : Place) (reached : Reached l [] p) where

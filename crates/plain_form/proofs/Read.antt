@@ -1,14 +1,13 @@
 -- What the reader and the rules of operations promise of the spaces of a listing, of the ranges of its ops and of the
 -- function's result.
-use Rattle.std.proofs.Common.{◌≡◌, ◌≤◌, ◌<◌, ◌+◌, ◌^◌, ◌⊎◌, ℕ, zero, suc, Bool, true, false, List, [], ◌∷◌, Option, Some, None, length, refl, inl, inr, sym, subst, ap, ◌∙◌, arith}
-use Rattle.std.specs.Prelude.{◌&&◌, if◌then◌else◌, not, slice_get, IfSome}
+use Rattle.std.proofs.Common.{◌≡◌, ◌≤◌, ◌<◌, ◌+◌, ◌^◌, ◌⊎◌, ℕ, zero, suc, Bool, true, false, List, [], ◌∷◌, Option, Some, None, length, refl, inl, inr, sym, subst, ap, ◌∙◌, arith, lit<}
+use Rattle.std.specs.Prelude.{◌==◌, ◌&&◌, if◌then◌else◌, not, IfSome}
 use Rattle.std.specs.List.{AllByRecursion}
 use Rattle.std.proofs.lemmas.Bool.Decides.{nat_tests}
 use Rattle.std.proofs.lemmas.Bool.{not-false, not-true, ltb-false, and_parts}
 use Rattle.pcode_model.specs.declared.listing.Instruction.{Instruction}
 use Rattle.pcode_model.specs.declared.listing.Listing.{Listing}
 use Rattle.pcode_model.specs.declared.listing.Op.{Op}
-use Rattle.pcode_model.specs.declared.listing.Proto.{Proto}
 use Rattle.pcode_model.specs.declared.listing.SpaceKind.TheVariants.{Constant, Register, Unique}
 use Rattle.pcode_model.specs.declared.listing.Varnode.{Varnode}
 use Rattle.pcode_model.specs.declared.opcode.Opcode.{Opcode}
@@ -18,17 +17,23 @@ use Rattle.pcode_model.specs.Atoms.{IsLocal, one_range}
 use Rattle.pcode_model.specs.Flow.{IsIn}
 use Rattle.pcode_model.specs.Rules.{breaks, first_bad, input_ranges, inputs_stand, is_out_of_space, is_too_wide, names_address, output_is_constant, past_first, rules}
 use Rattle.pcode_model.specs.Spaces.{kind_of, register_space, same_kind, size_of, unique_space}
-use Rattle.pcode_model.specs.Step.{proto_in, proto_of}
+use Rattle.pcode_model.specs.Ranges.{leaves}
+use Rattle.pcode_model.specs.Step.{proto_of, varnode_at}
 use Rattle.pcode_model.specs.WellFormed.{HasKnownOps, HasOps, IsKnown, IsKnownOp, IsOp, IsOperand, IsProto, IsStorage, IsWellFormed}
 use Rattle.pcode_model.proofs.Members.{of_member}
 use Rattle.pcode_laws.proofs.Rules.{breaks_none, neither}
+use Rattle.plain_form.proofs.Prototypes.{own_declared}
 use Rattle.plain_form.proofs.Standing.{StandsIn}
 use Rattle.plain_form.proofs.Spaces.{constant_is, differ, first_constant, kind_of_first, low, only, same_is}
 use Rattle.plain_form.proofs.Rules.{ends_within, narrow_in, output_narrow, output_stays, past_in, stays_in}
 use Rattle.plain_form.proofs.Formed.{IsInput, IsWritten, Inside}
 
--- what holds of an output
-one_in : (P : Varnode → Type 0) (o : Option Varnode) → IfSome o P → (v : Varnode) → IsIn v (one_range o) → P v
+no_second : (a b : Bool) → b ≡ false → (a && b) ≡ false
+no_second true b h = h
+no_second false b h = refl
+
+-- What holds of a range that there may be.
+pub one_in : (P : Varnode → Type 0) (o : Option Varnode) → IfSome o P → (v : Varnode) → IsIn v (one_range o) → P v
 one_in P None h v is = absurd is
 one_in P (Some w) h v (inl e) = subst P (sym e) h
 one_in P (Some w) h v (inr is) = absurd is
@@ -153,36 +158,50 @@ module _ (l : Listing) (read : IsWellFormed l) (good : first_bad l ≡ None) whe
               (constant_is l.spaces read.spaces v.space small e);
         }
 
-    pub input_inside : (v : Varnode) → IsLocal l v.space → IsIn v (input_ranges op.code op.inputs) → Inside l v
-    input_inside v home is =
-        let k = input v is in inside v home k.some k.narrow (ends_within l v (off_constants v home) k.stays)
+    -- The first input's offset, or 0 without inputs, has 64 bits.
+    pub first_long : (varnode_at op.inputs 0).offset < 2 ^ 64
+    first_long = by op.inputs formed.inputs
+      where
+        by : (vs : List Varnode) → AllByRecursion IsOperand vs → (varnode_at vs 0).offset < 2 ^ 64
+        by [] all = lit< tt
+        by (v ∷ vs) all = all.0.long
 
     pub output_inside : (v : Varnode) → IsLocal l v.space → IsIn v (one_range op.out) → Inside l v
     output_inside v home is =
         let k = output v is in inside v home k.some k.narrow (ends_within l v (off_constants v home) k.stays)
 
-  -- ---- the function's prototype
+  -- ---- ranges of prototypes
+
+  -- A storage is a range of the register space.
+  pub storage_home : (v : Varnode) → IsStorage l.spaces v → v.space ≡ register_space l
+  storage_home v is = register_number v.space is.register.kind
+
+  -- It has 1 to 16 bytes and lies inside this space.
+  pub storage_inside : (v : Varnode) → IsStorage l.spaces v → Inside l v
+  storage_inside v is = inside v (inl (storage_home v is)) is.register.some is.few (ltb-false _ _ is.register.inside)
+
+  -- It may be read.
+  pub storage_input : (v : Varnode) → IsStorage l.spaces v → IsInput l v
+  storage_input v is = record {
+    some = is.register.some;
+    narrow = is.few;
+    stays = no_second (not (v.space == 0)) (leaves l.spaces v.space v.offset v.size) is.register.inside;
+    fits = λ e. absurd (not_constant v.space (inl (storage_home v is)) e);
+  }
+
+  -- What may be read lies inside its space.
+  pub input_inside : (v : Varnode) → IsLocal l v.space → IsInput l v → Inside l v
+  input_inside v home k = inside v home k.some k.narrow (ends_within l v (off_constants v home) k.stays)
 
   pub proto_is : IsProto l.spaces l.stack (proto_of l None)
-  proto_is = at l.protos read.protos l.func.proto read.func.proto
-    where
-      at : (protos : List Proto)
-          → AllByRecursion (IsProto l.spaces l.stack) protos
-          → (n : ℕ)
-          → n < length protos
-          → IsProto l.spaces l.stack (proto_in (slice_get protos n))
-      at [] h n small = absurd (omega arith)
-      at (p ∷ protos) h zero small = h.0
-      at (p ∷ protos) h (suc n) small = at protos h.1 n (omega arith)
+  proto_is = (own_declared l read).is
 
   is_given : (v : Varnode) → IsIn v (one_range (proto_of l None).gives) → IsStorage l.spaces v
   is_given v is = one_in (IsStorage l.spaces) (proto_of l None).gives proto_is.gives v is
 
   -- The function's result is a range of the register space.
   pub result_home : (v : Varnode) → IsIn v (one_range (proto_of l None).gives) → v.space ≡ register_space l
-  result_home v is = register_number v.space (is_given v is).register.kind
+  result_home v is = storage_home v (is_given v is)
 
   pub result_inside : (v : Varnode) → IsIn v (one_range (proto_of l None).gives) → Inside l v
-  result_inside v is =
-      let h = is_given v is in
-      inside v (inl (result_home v is)) h.register.some h.few (ltb-false _ _ h.register.inside)
+  result_inside v is = storage_inside v (is_given v is)

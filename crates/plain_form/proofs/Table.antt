@@ -1,7 +1,7 @@
 -- The ranges of a listing's atoms are a table: each lies inside its space, and no two share a byte, since an atom that
 -- began inside another one would cut it. Each has 1 to 16 bytes.
 use Rattle.std.proofs.Common.{◌≡◌, ◌≤◌, ◌<◌, ◌+◌, ◌-◌, ℕ, zero, suc, List, [], ◌∷◌, Some, refl, inl, inr, sym, subst, ap, arith, ⊎_elim}
-use Rattle.std.specs.Prelude.{slice_get, pos}
+use Rattle.std.specs.Prelude.{slice_get, pos, ℤ}
 use Rattle.std.proofs.lemmas.Bool.{cases_lt}
 use Rattle.std.proofs.lemmas.Int.{ints}
 use Rattle.pcode_model.specs.declared.storage.ParamStorage.{ParamStorage}
@@ -183,6 +183,12 @@ module _
       -- Atoms are of the register space or the unique space, and have 1 to 16 bytes.
       pub atoms_narrow : AreNarrow atoms
       atoms_narrow = narrow_all atoms (λ a. (are.each a).0)
+
+      -- None is of the frame.
+      pub atoms_local : (a : Atom) → IsIn a atoms → (o : ℤ) → a.storage ≡ P.Stack o → ⊥
+      atoms_local a is o e =
+          let S : ParamStorage → Type 0 = λ s. IsLocalStorage s in
+          subst S e (placed a ((are.each a).0 is)).local
 
       of_range : (n : ℕ) (v : Varnode) → slice_get (ranges_of l atoms) n ≡ Some v → IsAtomAt l atoms n v
       of_range n v h = atom_at l atoms n v atoms_narrow h

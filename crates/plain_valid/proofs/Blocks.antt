@@ -1,6 +1,8 @@
 -- What holds of each kind of statement and of exit holds of all blocks of the plain lowering.
-use Rattle.std.proofs.Common.{◌≡◌, ℕ, ◌+◌, ◌<◌, ◌≤◌, ◌^◌, Bool, true, false, List, [], ◌∷◌, length, map, Option, Some, None, refl, sym, ◌∙◌, subst, arith, inl, inr}
-use Rattle.std.specs.Prelude.{cond, ◌==◌}
+use Rattle.std.proofs.Common.{◌≡◌, ℕ, suc, ◌+◌, ◌<◌, ◌≤◌, ◌^◌, Bool, true, false, List, [], ◌∷◌, ◌++◌, append-nil, drop, length, Option, Some, None, refl, sym, ◌∙◌, subst, arith, inl, inr}
+use Rattle.std.specs.Prelude.{cond, not, slice_get, ◌==◌, IfSome}
+use Rattle.std.specs.List.{AllByRecursion}
+use Rattle.std.proofs.lemmas.Bool.{and_parts, eqb-true}
 use Rattle.std.proofs.lemmas.Option.{slice_get_within}
 use Rattle.bits_core.specs.declared.ops.Divide.{Divide}
 use Rattle.bits_core.specs.Value.{limit}
@@ -9,16 +11,20 @@ use Rattle.pcode_model.specs.declared.listing.SpaceKind.TheVariants.{Constant, R
 use Rattle.pcode_model.specs.declared.listing.Varnode.{Varnode}
 use Rattle.pcode_model.specs.declared.listing.Place.{Place}
 use Rattle.pcode_model.specs.declared.listing.Listing.{Listing}
+use Rattle.pcode_model.specs.declared.listing.Proto.{Proto}
+use Rattle.pcode_model.specs.declared.listing.Storage.{Storage}
+use Rattle.pcode_model.specs.declared.listing.Storage.TheVariants.{At, Stack}
 use Rattle.pcode_model.specs.declared.opcode.Opcode.{Opcode}
 use Rattle.pcode_model.specs.declared.opcode.Opcode.TheVariants as O
 use Rattle.pcode_model.specs.declared.tables.TableAt.{TableAt}
 use Rattle.pcode_model.specs.declared.flow.Exit as flow_exit
 use Rattle.pcode_model.specs.declared.flow.Exit.TheVariants as F
 use Rattle.pcode_model.specs.declared.flow.Block as flow_block
-use Rattle.pcode_model.specs.Spaces.{is_big, kind_of, word_size}
+use Rattle.pcode_model.specs.declared.flow.Turn.TheVariants.{GoesOn, Stops}
+use Rattle.pcode_model.specs.Spaces.{is_big, kind_of, register_space, size_of, word_size}
 use Rattle.pcode_model.specs.Places.{Standing, Nothing, Passes, Does, standing}
-use Rattle.pcode_model.specs.Step.{proto_of, varnode_at}
-use Rattle.pcode_model.specs.Flow.{AllRun, IsIn, IsStart, JumpsTo, LeavesBy, RunsBlock, TestsTo, next_in, places_of, turn_in, turn_of}
+use Rattle.pcode_model.specs.Step.{callee_at, proto_of, returns as does_return, varnode_at}
+use Rattle.pcode_model.specs.Flow.{AllRun, IsIn, IsStart, JumpsTo, LeavesBy, RunsBlock, TestsTo, call_turn, next_in, places_of, turn_at, turn_in, turn_of}
 use Rattle.pcode_model.proofs.Members.{behind, in_front}
 use Rattle.cmeaning.specs.declared.tree.Expr.{Expr}
 use Rattle.cmeaning.specs.declared.tree.Expr.TheVariants as E
@@ -26,20 +32,23 @@ use Rattle.cmeaning.specs.declared.tree.Stmt.{Stmt}
 use Rattle.cmeaning.specs.declared.tree.Stmt.TheVariants as S
 use Rattle.blockcode.specs.declared.code.Exit.{Exit}
 use Rattle.blockcode.specs.declared.code.Exit.TheVariants as X
+use Rattle.blockcode.proofs.Straight.{get_of_drop, rest_of_drop}
 use Rattle.op_values.specs.Nodes.{binary_node, constant, divides_by, division_node, nearest, statement_of, unary_node}
 use Rattle.op_values.proofs.Means.{nearest_is}
 use Rattle.op_code.specs.declared.covers.Piece.{Piece}
 use Rattle.op_code.specs.Cover.{HasCover, IsRow, cover}
-use Rattle.op_code.specs.Words.{assigns_part, parts_by, target_by}
-use Rattle.op_code.specs.Made.{Read, ReadOne, address, address_of, computes, divides, divides_at, local_for, local_of, name_of, offset_bytes, op_made, range_word, read_by, read_one, reads, set_by, sets}
-use Rattle.op_code.specs.Form.{IsDirect, IsLocalBy, IsMemory, IsNarrow, IsOperand, IsOperandBy, IsOutput, IsOutputBy, IsPlainOp, IsResult}
+use Rattle.op_code.specs.Words.{parts_by, target_by}
+use Rattle.op_code.specs.Left.{argument_ranges, extras, is_left, left_from, leftovers, meets_some, spared}
+use Rattle.op_code.specs.Made.{Made, Read, ReadOne, address, address_of, answered, call_made, calls, computes, divides, divides_at, indirect_read, local_for, local_of, name_of, offset_bytes, op_made, passed, range_word, read_by, read_one, reads, set_by, sets}
+use Rattle.op_code.specs.Form.{AllOperands, IsCallable, IsDirect, IsGiven, IsLocalBy, IsMemory, IsNarrow, IsOperand, IsOperandBy, IsOutput, IsOutputBy, IsPassed, IsPlainOp, IsResult}
 use Rattle.op_code.specs.Lowered.{WayOut, block_made, blocks_made, condition_in, directly, made_in, place_made, places_made, tests, way_out}
 use Rattle.op_code.specs.Lowerable.{IsPlain}
 use Rattle.op_code.proofs.Sees.{Setting}
 use Rattle.plain_valid.proofs.Shapes.{Fits, as_wide, constant_fits, deeper, variable_fits}
 use Rattle.plain_valid.proofs.Expressions.{IsAddress, address_fits, binary_fits, division_node_fits, unary_fits}
-use Rattle.plain_valid.proofs.Covers.{parts_right, piece_variable, row_fills, word_fits}
-use Rattle.plain_valid.proofs.EachKind.{AllHold, AreLocals, Gives, IsVariable, Kinds, locals_back, locals_front}
+use Rattle.plain_valid.specs.Long.{NamesLong, StandsLong}
+use Rattle.plain_valid.proofs.Covers.{IsPiece, parts_right, piece_variable, row_fills, word_fits}
+use Rattle.plain_valid.proofs.EachKind.{AllHold, AreLocals, Gives, HaveWidths, IsLeft, IsTarget, IsVariable, Kinds, are_right, locals_back, locals_front}
 
 module _
     (l : Listing)
@@ -48,11 +57,12 @@ module _
     (n : ℕ)
     (starts : List Place)
     (P : List Stmt → Type 0)
-    (Q : Exit → Type 0)
-    (kinds : Kinds l ranges ws n (length starts) P Q)
+    (B : List Stmt → Exit → Type 0)
+    (kinds : Kinds l ranges ws n (length starts) P B)
     (set : Setting l ranges ws)
     (few : n ≤ 2 ^ 32)
     (known : length ranges ≤ n)
+    (each : (k : ℕ) (v : Varnode) → slice_get ranges k ≡ Some v → IsNarrow v × (v.offset < 2 ^ 64))
   where
     -- ---- variables
 
@@ -123,65 +133,71 @@ module _
         → Reads (read_one l ranges next v) v.size
     operand_right next v h are = reads_by (kind_of l v.space) next v h.0 h.1 are
 
-    -- one operand, and two
-    record One (next : ℕ) (x : Varnode) : Type 0 where
-      loads : P (reads l ranges next (x ∷ [])).loads
-      word : Fits ws n (read_one l ranges next x).word x.size 16
+    -- operands, in their order
+    record AllRead (r : Read) (vs : List Varnode) : Type 0 where
+      loads : P r.loads
+      words : HaveWidths ws n r.words vs
 
-    one_right : (next : ℕ) (x : Varnode)
-        → IsOperand l ranges x
-        → AreLocals ws n next (reads l ranges next (x ∷ [])).locals
-        → One next x
-    one_right next x h are =
-        let one = read_one l ranges next x in
-        let r = operand_right next x h (locals_front ws n next one.locals [] are) in
-        record { loads = kinds.append one.loads [] r.loads kinds.none; word = r.word }
+    reads_right : (next : ℕ) (vs : List Varnode)
+        → AllOperands l ranges vs
+        → AreLocals ws n next (reads l ranges next vs).locals
+        → AllRead (reads l ranges next vs) vs
+    reads_right next [] h are = record { loads = kinds.none; words = tt }
+    reads_right next (v ∷ vs) h are =
+        let one = read_one l ranges next v in
+        let rest = reads l ranges (next + length one.locals) vs in
+        let r = operand_right next v h.0 (locals_front ws n next one.locals rest.locals are) in
+        let s = reads_right (next + length one.locals) vs h.1 (locals_back ws n next one.locals rest.locals are) in
+        record { loads = kinds.append one.loads rest.loads r.loads s.loads; words = ((h.0.0, r.word), s.words) }
 
     -- the number of the next free variable behind an operand
     abbrev behind_one : ℕ → Varnode → ℕ
     behind_one next x = next + length (read_one l ranges next x).locals
 
-    record Two (next : ℕ) (x y : Varnode) : Type 0 where
-      loads : P (reads l ranges next (x ∷ y ∷ [])).loads
-      word : Fits ws n (read_one l ranges next x).word x.size 16
-      other : Fits ws n (read_one l ranges (behind_one next x) y).word y.size 16
-
-    two_right : (next : ℕ) (x y : Varnode)
-        → IsOperand l ranges x
-        → IsOperand l ranges y
-        → AreLocals ws n next (reads l ranges next (x ∷ y ∷ [])).locals
-        → Two next x y
-    two_right next x y h g are =
-        let one = read_one l ranges next x in
-        let rest = reads l ranges (behind_one next x) (y ∷ []) in
-        let r = operand_right next x h (locals_front ws n next one.locals rest.locals are) in
-        let s = one_right (behind_one next x) y g (locals_back ws n next one.locals rest.locals are) in
-        record { loads = kinds.append one.loads rest.loads r.loads s.loads; word = r.word; other = s.word }
-
     -- ---- outputs
+
+    -- the variable that is assigned a range's word: its own, or a local whose parts several are assigned
+    record Sets (big : Bool) (next : ℕ) (z : Varnode) (ps : List Piece) : Type 0 where
+      variable : IsVariable ws n (target_by next ps) z.size
+      parts : P (parts_by big z next ps)
+
+    range_right : (big : Bool) (next : ℕ) (z : Varnode) (ps : List Piece)
+        → IsNarrow z
+        → IsRow ranges z.space z.offset ps (z.offset + z.size)
+        → AreLocals ws n next (local_for ps z)
+        → Sets big next z ps
+    range_right big next z [] narrow row are = absurd (omega (arith, narrow.0, row))
+    range_right big next z (p ∷ []) narrow row are =
+        let size : p.range.size ≡ z.size = omega (arith, row.1) in
+        let R : ℕ → Type 0 = λ w. IsVariable ws n p.variable w in
+        let small : p.range.size ≤ 16 = omega (arith, size, narrow.1) in
+        let is : IsPiece ranges p = record { listed = row.0.listed; some = row.0.some } in
+        record {
+          variable = subst R size (piece_variable l ranges ws n set few known p is small);
+          parts = kinds.none;
+        }
+    range_right big next z (p ∷ q ∷ ps) narrow row are =
+        let is = local_variable next z narrow are in
+        let all = p ∷ q ∷ ps in
+        record {
+          variable = is;
+          parts = parts_right l ranges ws n set few known (length starts) P B kinds big z narrow next
+              (of_variable next z.size is) all z.size (row_fills ranges z.space z.offset z.size all row) narrow.1;
+        }
 
     module _ (next : ℕ) (z : Varnode) (make : ℕ → Stmt)
         (makes : (v : ℕ) → IsVariable ws n v z.size → P (make v ∷ [])) where
       -- one variable is set, or several are assigned the parts of a local
-      range_right : (big : Bool) (ps : List Piece)
-          → IsNarrow z
-          → IsRow ranges z.space z.offset ps (z.offset + z.size)
-          → AreLocals ws n next (local_for ps z)
-          → P (make (target_by next ps) ∷ parts_by big z next ps)
-      range_right big [] narrow row are = absurd (omega (arith, narrow.0, row))
-      range_right big (p ∷ []) narrow row are =
-          let size : p.range.size ≡ z.size = omega (arith, row.1) in
-          let R : ℕ → Type 0 = λ w. IsVariable ws n p.variable w in
-          makes p.variable
-          (subst R size
-          (piece_variable l ranges ws n set few known p (record { listed = row.0.listed; some = row.0.some })
-          (omega (arith, size, narrow.1))))
-      range_right big (p ∷ q ∷ ps) narrow row are =
-          let is = local_variable next z narrow are in
-          let all = p ∷ q ∷ ps in
-          kinds.append (make next ∷ []) (map (assigns_part big z next) all) (makes next is)
-          (parts_right l ranges ws n set few known (length starts) P Q kinds big z narrow next (of_variable next z.size is) all
-          z.size (row_fills ranges z.space z.offset z.size all row) narrow.1)
+      set_local : IsNarrow z
+          → HasCover ranges z
+          → AreLocals ws n next (local_for (cover ranges z) z)
+          → P (make (target_by next (cover ranges z)) ∷ parts_by (is_big l z.space) z next (cover ranges z))
+      set_local narrow has are =
+          let ps = cover ranges z in
+          let big = is_big l z.space in
+          let r = range_right big next z ps narrow has are in
+          kinds.append (make (target_by next ps) ∷ []) (parts_by big z next ps) (makes (target_by next ps) r.variable)
+          r.parts
 
       set_right : (k : SpaceKind)
           → IsNarrow z
@@ -194,8 +210,8 @@ module _
           kinds.append (make next ∷ []) (S.Store (name_of l z.space) (address_of l z) (E.Var next) ∷ []) (makes next is)
           (kinds.store z.space (offset_bytes l z.space) 1 z.size 16 (address_of l z) (E.Var next) h.0 (direct_fits z h)
           (of_variable next z.size is))
-      set_right Register narrow h are = range_right (is_big l z.space) (cover ranges z) narrow h are
-      set_right Unique narrow h are = range_right (is_big l z.space) (cover ranges z) narrow h are
+      set_right Register narrow h are = set_local narrow h are
+      set_right Unique narrow h are = set_local narrow h are
 
     -- an output that is set by what is read
     computes_right : (next : ℕ) (z : Varnode) (r : Read) (make : ℕ → Stmt)
@@ -243,79 +259,220 @@ module _
       divided_right Register next y same h g = divide_right (read_by Register l ranges next y).word g
       divided_right Unique next y same h g = divide_right (read_by Unique l ranges next y).word g
 
-    -- ---- ops
+    -- ---- calls
+
+    passed_operands : (args : List Storage)
+        → AllByRecursion (IsPassed l ranges) args
+        → AllOperands l ranges (argument_ranges args)
+    passed_operands [] h = tt
+    passed_operands (At v ∷ args) h = (h.0, passed_operands args h.1)
+    passed_operands (Stack offset size ∷ args) h = absurd h.0
+
+    -- the arguments of a call
+    passed_right : (next : ℕ) (p : Proto)
+        → IsCallable l ranges p
+        → AreLocals ws n next (passed l ranges next p).locals
+        → AllRead (passed l ranges next p) (argument_ranges p.args)
+    passed_right next p h are = reads_right next (argument_ranges p.args) (passed_operands p.args h.args) are
+
+    -- a variable of a range of registers can take what a call left there
+    left_at : (k : ℕ) (v : Varnode)
+        → slice_get ranges k ≡ Some v
+        → v.space ≡ register_space l
+        → IsLeft l ws n (record { variable = k; offset = v.offset })
+    left_at k v get is =
+        let narrow = (each k v get).0 in
+        let R : ℕ → Type 0 = λ s. v.offset + v.size ≤ size_of l s in
+        record {
+          width = v.size;
+          is = record {
+            within = omega (arith, slice_get_within ranges k v get, known);
+            width = set.widths k v get narrow;
+            some = narrow.0;
+          };
+          inside = subst R is (set.table.inside k v get);
+          long = (each k v get).1;
+        }
+
+    left_right : (p : Proto) (k : ℕ) (vs : List Varnode)
+        → drop k ranges ≡ vs
+        → AllByRecursion (IsLeft l ws n) (left_from l p k vs)
+    left_right p k [] e = tt
+    left_right p k (v ∷ vs) e = by (is_left l p v) refl (left_right p (suc k) vs (rest_of_drop ranges k v vs e)) where
+      by : (t : Bool)
+          → is_left l p v ≡ t
+          → AllByRecursion (IsLeft l ws n) (left_from l p (suc k) vs)
+          → AllByRecursion (IsLeft l ws n)
+          (cond t (record { variable = k; offset = v.offset } ∷ left_from l p (suc k) vs) (left_from l p (suc k) vs))
+      by true is all =
+          let parts = and_parts (v.space == register_space l) (not (meets_some (spared l p) v)) is in
+          (left_at k v (get_of_drop ranges k v vs e) (eqb-true v.space (register_space l) parts.0), all)
+      by false is all = all
+
+    -- what follows a call that takes an answer
+    answered_right : (next : ℕ) (p : Proto) (gives : Option Varnode) (make : Option ℕ → Stmt)
+        → IfSome gives (IsGiven l ranges)
+        → AreLocals ws n next (answered l ranges next p gives make).locals
+        → ((v : Option ℕ) → IsTarget ws n v gives → P (make v ∷ extras l p ranges))
+        → P (answered l ranges next p gives make).statements
+    answered_right next p None make h are makes = makes None tt
+    answered_right next p (Some z) make h are makes =
+        let ps = cover ranges z in
+        let big = is_big l z.space in
+        let r = range_right big next z ps h.1.0 h.1.1 are in
+        kinds.append (make (Some (target_by next ps)) ∷ extras l p ranges) (parts_by big z next ps)
+        (makes (Some (target_by next ps)) (h.1.0, r.variable)) r.parts
+
+    calls_right : (next : ℕ) (p : Proto) (r : Read) (make : Option ℕ → Stmt)
+        → IsCallable l ranges p
+        → P r.loads
+        → AreLocals ws n next (calls l ranges next p r make).locals
+        → ((v : Option ℕ) → IsTarget ws n v p.gives → P (make v ∷ extras l p ranges))
+        → P (calls l ranges next p r make).statements
+    calls_right next p r make h loads are makes =
+        let free = next + length r.locals in
+        let made = answered l ranges free p p.gives make in
+        kinds.append r.loads made.statements loads
+        (answered_right free p p.gives make h.gives (locals_back ws n next r.locals made.locals are) makes)
+
+    -- a call of a function that returns
+    call_right : (t : Bool) (next a : ℕ)
+        → does_return (callee_at l a) ≡ t
+        → a < 2 ^ 64
+        → IsCallable l ranges (proto_of l (callee_at l a))
+        → (call_turn t ≡ Stops → ⊥)
+        → AreLocals ws n next (call_made t l ranges next a (proto_of l (callee_at l a))).locals
+        → P (call_made t l ranges next a (proto_of l (callee_at l a))).statements
+    call_right true next a is long h leads are =
+        let p = proto_of l (callee_at l a) in
+        let r = passed l ranges next p in
+        let make : Option ℕ → Stmt = λ v. S.Call v a r.words in
+        let made = answered l ranges (next + length r.locals) p p.gives make in
+        let all = passed_right next p h (locals_front ws n next r.locals made.locals are) in
+        calls_right next p r make h all.loads are
+        (λ v target. kinds.call v a r.words (leftovers l p ranges) long is target h.args all.words
+        (left_right p 0 ranges refl))
+    call_right false next a is long h leads are = absurd (leads refl)
+
+    indirect_right : (next : ℕ) (to : Varnode)
+        → IsOperand l ranges to
+        → IsCallable l ranges (proto_of l None)
+        → AreLocals ws n next (op_made l ranges next O.CallInd None (to ∷ [])).locals
+        → P (op_made l ranges next O.CallInd None (to ∷ [])).statements
+    indirect_right next to operand h are =
+        let p = proto_of l None in
+        let vs = argument_ranges p.args in
+        let r = indirect_read l ranges next to p in
+        let e = (read_one l ranges next to).word in
+        let words = (reads l ranges (behind_one next to) vs).words in
+        let make : Option ℕ → Stmt = λ v. S.CallInd v e words in
+        let made = answered l ranges (next + length r.locals) p p.gives make in
+        let all = reads_right next (to ∷ vs) (operand, passed_operands p.args h.args)
+        (locals_front ws n next r.locals made.locals are) in
+        calls_right next p r make h all.loads are
+        (λ v target. kinds.indirect v p.gives to.size e words (leftovers l p ranges) target all.words.0.1
+        (are_right ws n words vs all.words.1) (left_right p 0 ranges refl))
+
+    other_right : (next : ℕ) (out : Option Varnode) (index : Varnode) (vs : List Varnode)
+        → AllOperands l ranges vs
+        → IfSome out (IsOutput l ranges)
+        → index.offset < 2 ^ 64
+        → AreLocals ws n next (op_made l ranges next O.CallOther out (index ∷ vs)).locals
+        → P (op_made l ranges next O.CallOther out (index ∷ vs)).statements
+    other_right next None index vs operands h long are =
+        let r = reads l ranges next vs in
+        let all = reads_right next vs operands (locals_front ws n next r.locals [] are) in
+        kinds.append r.loads (S.Other None index.offset r.words ∷ []) all.loads
+        (kinds.other None None index.offset r.words long tt (are_right ws n r.words vs all.words))
+    other_right next (Some z) index vs operands h long are =
+        let r = reads l ranges next vs in
+        let make : ℕ → Stmt = λ v. S.Other (Some v) index.offset r.words in
+        let all = reads_right next vs operands
+        (locals_front ws n next r.locals (sets l ranges (next + length r.locals) (Some z) make).locals are) in
+        computes_right next z r make all.loads h are
+        (λ v is. kinds.other (Some v) (Some z) index.offset r.words long (h.0, is) (are_right ws n r.words vs all.words))
+
+    -- ---- ops that lead on
 
     op_right : (next : ℕ) (code : Opcode) (out : Option Varnode) (vs : List Varnode)
         → IsPlainOp l ranges code out vs
+        → NamesLong code vs
+        → (turn_of l code vs ≡ Stops → ⊥)
         → AreLocals ws n next (op_made l ranges next code out vs).locals
         → P (op_made l ranges next code out vs).statements
-    op_right next (O.Unary op) (Some z) (x ∷ []) h are =
+    op_right next (O.Unary op) (Some z) (x ∷ []) h long leads are =
         let r = reads l ranges next (x ∷ []) in
         let e = (read_one l ranges next x).word in
         let make : ℕ → Stmt = λ v. S.Assign v (unary_node op z.size e) in
-        let one = one_right next x h.1.0
+        let all = reads_right next (x ∷ []) (h.1.0, tt)
         (locals_front ws n next r.locals (sets l ranges (next + length r.locals) (Some z) make).locals are) in
-        computes_right next z r make one.loads h.1.1 are
+        computes_right next z r make all.loads h.1.1 are
         (λ v is. kinds.assign v z.size 18 (unary_node op z.size e) is
-        (unary_fits ws n op x.size z.size e h.0 ((h.1.1).0).0 ((h.1.1).0).1 one.word))
-    op_right next (O.Binary op) (Some z) (x ∷ y ∷ []) h are =
+        (unary_fits ws n op x.size z.size e h.0 ((h.1.1).0).0 ((h.1.1).0).1 all.words.0.1))
+    op_right next (O.Binary op) (Some z) (x ∷ y ∷ []) h long leads are =
         let r = reads l ranges next (x ∷ y ∷ []) in
         let d = (read_one l ranges next x).word in
         let e = (read_one l ranges (behind_one next x) y).word in
         let make : ℕ → Stmt = λ v. S.Assign v (binary_node op x.size y.offset z.size d e) in
-        let two = two_right next x y (h.1.0).0 (h.1.0).1
+        let all = reads_right next (x ∷ y ∷ []) ((h.1.0).0, ((h.1.0).1, tt))
         (locals_front ws n next r.locals (sets l ranges (next + length r.locals) (Some z) make).locals are) in
         let narrow : IsNarrow x = ((h.1.0).0).0 in
-        computes_right next z r make two.loads h.1.1 are
+        computes_right next z r make all.loads h.1.1 are
         (λ v is. kinds.assign v z.size 18 (binary_node op x.size y.offset z.size d e) is
-        (binary_fits ws n x.size y.offset y.size z.size d e ((h.1.1).0).0 ((h.1.1).0).1 two.word two.other op narrow.0
+        (binary_fits ws n x.size y.offset y.size z.size d e ((h.1.1).0).0 ((h.1.1).0).1 all.words.0.1 all.words.1.0.1 op narrow.0
         narrow.1 h.0.1))
-    op_right next (O.Divide op) (Some z) (x ∷ y ∷ []) h are =
+    op_right next (O.Divide op) (Some z) (x ∷ y ∷ []) h long leads are =
         let r = reads l ranges next (x ∷ y ∷ []) in
         let d = (read_one l ranges next x).word in
         let e = (read_one l ranges (behind_one next x) y).word in
         let make : ℕ → Stmt = divides l op y d e in
-        let two = two_right next x y (h.1.0).0 (h.1.0).1
+        let all = reads_right next (x ∷ y ∷ []) ((h.1.0).0, ((h.1.0).1, tt))
         (locals_front ws n next r.locals (sets l ranges (next + length r.locals) (Some z) make).locals are) in
-        let of_x : Fits ws n d z.size 16 = as_wide ws n d x.size z.size 16 h.0.0 two.word in
-        let of_y : Fits ws n e z.size 16 = as_wide ws n e y.size z.size 16 h.0.1 two.other in
-        computes_right next z r make two.loads h.1.1 are
+        let of_x : Fits ws n d z.size 16 = as_wide ws n d x.size z.size 16 h.0.0 all.words.0.1 in
+        let of_y : Fits ws n e z.size 16 = as_wide ws n e y.size z.size 16 h.0.1 all.words.1.0.1 in
+        computes_right next z r make all.loads h.1.1 are
         (λ v is. divided_right op z.size d ((h.1.1).0).0 ((h.1.1).0).1 of_x v is (kind_of l y.space)
         (behind_one next x) y h.0.1 ((h.1.0).1).1 of_y)
-    op_right next O.Load (Some z) (s ∷ x ∷ []) h are =
+    op_right next O.Load (Some z) (s ∷ x ∷ []) h long leads are =
         let r = reads l ranges next (x ∷ []) in
         let e = (read_one l ranges next x).word in
         let make : ℕ → Stmt = λ v. S.Load v (name_of l s.offset) (address l s.offset x.size e) in
-        let one = one_right next x h.1.0
+        let all = reads_right next (x ∷ []) (h.1.0, tt)
         (locals_front ws n next r.locals (sets l ranges (next + length r.locals) (Some z) make).locals are) in
-        let at = address_right s.offset x.size e h.0 ((h.1.0).0).0 ((h.1.0).0).1 one.word in
-        computes_right next z r make one.loads h.1.1 are
+        let at = address_right s.offset x.size e h.0 ((h.1.0).0).0 ((h.1.0).0).1 all.words.0.1 in
+        computes_right next z r make all.loads h.1.1 are
         (λ v is. kinds.load v z.size s.offset at.width 18 (address l s.offset x.size e) is h.0 at.fits)
-    op_right next O.Store None (s ∷ x ∷ y ∷ []) h are =
+    op_right next O.Store None (s ∷ x ∷ y ∷ []) h long leads are =
         let r = reads l ranges next (x ∷ y ∷ []) in
         let d = (read_one l ranges next x).word in
         let e = (read_one l ranges (behind_one next x) y).word in
-        let two = two_right next x y h.1.0 h.1.1 (locals_front ws n next r.locals [] are) in
-        let at = address_right s.offset x.size d h.0 ((h.1.0).0).0 ((h.1.0).0).1 two.word in
-        kinds.append r.loads (S.Store (name_of l s.offset) (address l s.offset x.size d) e ∷ []) two.loads
-        (kinds.store s.offset at.width 18 y.size 16 (address l s.offset x.size d) e h.0 at.fits two.other)
-    op_right next O.Branch None (to ∷ []) h are = kinds.none
-    op_right next O.CBranch None (to ∷ x ∷ []) h are = kinds.none
-    op_right next O.Return None (to ∷ []) h are = kinds.none
-    op_right next code out vs h are = absurd h
+        let all = reads_right next (x ∷ y ∷ []) (h.1.0, (h.1.1, tt)) (locals_front ws n next r.locals [] are) in
+        let at = address_right s.offset x.size d h.0 ((h.1.0).0).0 ((h.1.0).0).1 all.words.0.1 in
+        kinds.append r.loads (S.Store (name_of l s.offset) (address l s.offset x.size d) e ∷ []) all.loads
+        (kinds.store s.offset at.width 18 y.size 16 (address l s.offset x.size d) e h.0 at.fits all.words.1.0.1)
+    op_right next O.Branch None (to ∷ []) h long leads are = kinds.none
+    op_right next O.CBranch None (to ∷ x ∷ []) h long leads are = kinds.none
+    op_right next O.Return None (to ∷ []) h long leads are = kinds.none
+    op_right next O.Call None (to ∷ []) h long leads are =
+        call_right (does_return (callee_at l to.offset)) next to.offset refl long h leads are
+    op_right next O.CallInd None (to ∷ []) h long leads are = indirect_right next to h.0 h.1 are
+    op_right next O.CallOther out (index ∷ vs) h long leads are = other_right next out index vs h.0 h.1 long are
+    op_right next code out vs h long leads are = absurd h
 
     made_right : (next : ℕ) (here : Standing)
         → IsPlain l ranges here
+        → StandsLong here
+        → (turn_in l here ≡ Stops → ⊥)
         → AreLocals ws n next (made_in l ranges next here).locals
         → P (made_in l ranges next here).statements
-    made_right next Nothing h are = absurd h
-    made_right next (Passes i) h are = kinds.none
-    made_right next (Does i op) h are = op_right next op.code op.out op.inputs h are
+    made_right next Nothing h long leads are = absurd h
+    made_right next (Passes i) h long leads are = kinds.none
+    made_right next (Does i op) h long leads are = op_right next op.code op.out op.inputs h long leads are
 
     -- ---- exits
 
     abbrev Leaves : WayOut → Type 0
-    Leaves out = P out.loads × Q out.exit
+    Leaves out = B out.loads out.exit
 
     start_below : (to : Option Place) (b : ℕ) → IsStart starts to b → b < length starts
     start_below to b h = slice_get_within starts b h.0 h.1.1
@@ -324,7 +481,7 @@ module _
         → JumpsTo starts to e
         → Leaves (way_out l ranges next here e)
     jump_right next here to F.Return h = absurd h
-    jump_right next here to (F.Jump b) h = (kinds.none, kinds.jump b (start_below to b h))
+    jump_right next here to (F.Jump b) h = kinds.jump b (start_below to b h)
     jump_right next here to (F.Test a b) h = absurd h
     jump_right next here to (F.Switch t ns) h = absurd h
     jump_right next here to F.Stop h = absurd h
@@ -337,11 +494,14 @@ module _
         → b < length starts
         → (let out = cond same (directly (X.Jump a)) (tests (read_one l ranges next c) a b) in
         AreLocals ws n next out.locals → Leaves out)
-    test_if next c a b true byte h la lb are = (kinds.none, kinds.jump a la)
+    test_if next c a b true byte h la lb are = kinds.jump a la
     test_if next c a b false byte h la lb are =
         let r = operand_right next c h are in
         let e = (read_one l ranges next c).word in
-        (r.loads, kinds.test e a b (as_wide ws n e c.size 1 16 byte r.word) la lb)
+        let loads = (read_one l ranges next c).loads in
+        let R : List Stmt → Type 0 = λ xs. B xs (X.Test e a b) in
+        subst R (append-nil loads)
+        (kinds.before loads [] (X.Test e a b) r.loads (kinds.test e a b (as_wide ws n e c.size 1 16 byte r.word) la lb))
 
     test_right : (next : ℕ) (c : Varnode) (here : Standing) (to behind : Option Place) (e : flow_exit.Exit)
         → condition_in l ranges next here ≡ read_one l ranges next c
@@ -377,70 +537,150 @@ module _
         → Leaves (way_out l ranges next here e)
     return_right next here e h is =
         let R : flow_exit.Exit → Type 0 = λ x. Leaves (way_out l ranges next here x) in
-        subst R (sym is) (kinds.none, kinds.returns (gives_right (proto_of l None).gives h))
+        subst R (sym is) (kinds.returns (gives_right (proto_of l None).gives h))
+
+    call_leaves : (tables : List TableAt) (next : ℕ) (p : Place) (here : Standing) (t : Bool) (e : flow_exit.Exit)
+        → (call_turn t ≡ Stops → ⊥)
+        → LeavesBy tables starts p here (call_turn t) e
+        → Leaves (way_out l ranges next here e)
+    call_leaves tables next p here true e leads by = jump_right next here (next_in here p.index) e by
+    call_leaves tables next p here false e leads by = absurd (leads refl)
 
     op_leaves : (t : List TableAt) (next : ℕ) (p : Place) (here : Standing) (code : Opcode) (out : Option Varnode)
         (vs : List Varnode) (e : flow_exit.Exit)
         → condition_in l ranges next here ≡ read_one l ranges next (varnode_at vs 1)
         → IsPlainOp l ranges code out vs
+        → (turn_of l code vs ≡ Stops → ⊥)
         → LeavesBy t starts p here (turn_of l code vs) e
         → AreLocals ws n next (way_out l ranges next here e).locals
         → Leaves (way_out l ranges next here e)
-    op_leaves t next p here (O.Unary op) out vs e is h by are = jump_right next here (next_in here p.index) e by
-    op_leaves t next p here (O.Binary op) out vs e is h by are = jump_right next here (next_in here p.index) e by
-    op_leaves t next p here (O.Divide op) out vs e is h by are = jump_right next here (next_in here p.index) e by
-    op_leaves t next p here O.Load out vs e is h by are = jump_right next here (next_in here p.index) e by
-    op_leaves t next p here O.Store out vs e is h by are = jump_right next here (next_in here p.index) e by
-    op_leaves t next p here O.Branch None (to ∷ []) e is h by are = jump_right next here _ e by
-    op_leaves t next p here O.CBranch None (to ∷ c ∷ []) e is h by are =
+    op_leaves t next p here (O.Unary op) out vs e is h leads by are = jump_right next here (next_in here p.index) e by
+    op_leaves t next p here (O.Binary op) out vs e is h leads by are = jump_right next here (next_in here p.index) e by
+    op_leaves t next p here (O.Divide op) out vs e is h leads by are = jump_right next here (next_in here p.index) e by
+    op_leaves t next p here O.Load out vs e is h leads by are = jump_right next here (next_in here p.index) e by
+    op_leaves t next p here O.Store out vs e is h leads by are = jump_right next here (next_in here p.index) e by
+    op_leaves t next p here O.Call None (to ∷ []) e is h leads by are =
+        call_leaves t next p here (does_return (callee_at l to.offset)) e leads by
+    op_leaves t next p here O.CallInd None vs e is h leads by are = jump_right next here (next_in here p.index) e by
+    op_leaves t next p here O.CallOther out vs e is h leads by are = jump_right next here (next_in here p.index) e by
+    op_leaves t next p here O.Branch None (to ∷ []) e is h leads by are = jump_right next here _ e by
+    op_leaves t next p here O.CBranch None (to ∷ c ∷ []) e is h leads by are =
         test_right next c here _ _ e is h.0 h.1 by are
-    op_leaves t next p here O.Return None (to ∷ []) e is h by are = return_right next here e h.1 by
-    op_leaves t next p here code out vs e is h by are = absurd h
+    op_leaves t next p here O.Return None (to ∷ []) e is h leads by are = return_right next here e h.1 by
+    op_leaves t next p here code out vs e is h leads by are = absurd h
 
-    leaves_right : (t : List TableAt) (next : ℕ) (p : Place) (here : Standing) (e : flow_exit.Exit)
+    -- ---- the last place of a block
+
+    abbrev Ends : Made → WayOut → Type 0
+    Ends here out = B (here.statements ++ out.loads) out.exit
+
+    -- a call of a function that returns leads on, and any other is the block's last statement
+    call_ends : (tables : List TableAt) (next a : ℕ) (p : Place) (here : Standing) (e : flow_exit.Exit) (t : Bool)
+        → does_return (callee_at l a) ≡ t
+        → a < 2 ^ 64
+        → IsCallable l ranges (proto_of l (callee_at l a))
+        → LeavesBy tables starts p here (call_turn t) e
+        → (let m = call_made t l ranges next a (proto_of l (callee_at l a)) in
+        let out = way_out l ranges (next + length m.locals) here e in
+        AreLocals ws n next (m.locals ++ out.locals) → Ends m out)
+    call_ends tables next a p here e true is long h by are =
+        let m = call_made true l ranges next a (proto_of l (callee_at l a)) in
+        let free = next + length m.locals in
+        let out = way_out l ranges free here e in
+        kinds.before m.statements out.loads out.exit
+        (call_right true next a is long h (λ f. absurd (cc)) (locals_front ws n next m.locals out.locals are))
+        (jump_right free here (next_in here p.index) e by)
+    call_ends tables next a p here e false is long h by are =
+        let proto = proto_of l (callee_at l a) in
+        let r = passed l ranges next proto in
+        let m = call_made false l ranges next a proto in
+        let free = next + length m.locals in
+        let out = way_out l ranges free here e in
+        let all = passed_right next proto h
+        (locals_front ws n next r.locals [] (locals_front ws n next m.locals out.locals are)) in
+        let R : flow_exit.Exit → Type 0 = λ x. Ends m (way_out l ranges free here x) in
+        let T : List Stmt → Type 0 = λ xs. B xs X.Stop in
+        subst R (sym by) (subst T (sym (append-nil m.statements))
+        (kinds.before r.loads (S.Call None a r.words ∷ []) X.Stop all.loads
+        (kinds.stops a r.words long is h.args all.words)))
+
+    lead_ends : (tables : List TableAt) (next : ℕ) (p : Place) (here : Standing) (code : Opcode) (o : Option Varnode)
+        (vs : List Varnode) (e : flow_exit.Exit)
+        → ((k : ℕ) → condition_in l ranges k here ≡ read_one l ranges k (varnode_at vs 1))
+        → IsPlainOp l ranges code o vs
+        → NamesLong code vs
+        → (turn_of l code vs ≡ Stops → ⊥)
+        → LeavesBy tables starts p here (turn_of l code vs) e
+        → (let m = op_made l ranges next code o vs in
+        let out = way_out l ranges (next + length m.locals) here e in
+        AreLocals ws n next (m.locals ++ out.locals) → Ends m out)
+    lead_ends tables next p here code o vs e is h long leads by are =
+        let m = op_made l ranges next code o vs in
+        let free = next + length m.locals in
+        let out = way_out l ranges free here e in
+        kinds.before m.statements out.loads out.exit
+        (op_right next code o vs h long leads (locals_front ws n next m.locals out.locals are))
+        (op_leaves tables free p here code o vs e (is free) h leads by (locals_back ws n next m.locals out.locals are))
+
+    op_ends : (tables : List TableAt) (next : ℕ) (p : Place) (here : Standing) (code : Opcode) (o : Option Varnode)
+        (vs : List Varnode) (e : flow_exit.Exit)
+        → ((k : ℕ) → condition_in l ranges k here ≡ read_one l ranges k (varnode_at vs 1))
+        → IsPlainOp l ranges code o vs
+        → NamesLong code vs
+        → LeavesBy tables starts p here (turn_of l code vs) e
+        → (let m = op_made l ranges next code o vs in
+        let out = way_out l ranges (next + length m.locals) here e in
+        AreLocals ws n next (m.locals ++ out.locals) → Ends m out)
+    op_ends tables next p here O.Call None (to ∷ []) e is h long by are =
+        call_ends tables next to.offset p here e (does_return (callee_at l to.offset)) refl long h by are
+    op_ends tables next p here O.Call o vs e is h long by are = absurd h
+    op_ends tables next p here code o vs e is h long by are =
+        lead_ends tables next p here code o vs e is h long (λ f. absurd (cc)) by are
+
+    last_right : (tables : List TableAt) (next : ℕ) (p : Place) (here : Standing) (e : flow_exit.Exit)
         → IsPlain l ranges here
-        → LeavesBy t starts p here (turn_in l here) e
-        → AreLocals ws n next (way_out l ranges next here e).locals
-        → Leaves (way_out l ranges next here e)
-    leaves_right t next p Nothing e h by are = absurd h
-    leaves_right t next p (Passes i) e h by are = jump_right next (Passes i) (next_in (Passes i) p.index) e by
-    leaves_right t next p (Does i op) e h by are =
-        op_leaves t next p (Does i op) op.code op.out op.inputs e refl h by are
+        → StandsLong here
+        → LeavesBy tables starts p here (turn_in l here) e
+        → (let m = made_in l ranges next here in
+        let out = way_out l ranges (next + length m.locals) here e in
+        AreLocals ws n next (m.locals ++ out.locals) → Ends m out)
+    last_right tables next p Nothing e h long by are = absurd h
+    last_right tables next p (Passes i) e h long by are =
+        jump_right (next + 0) (Passes i) (next_in (Passes i) p.index) e by
+    last_right tables next p (Does i op) e h long by are =
+        op_ends tables next p (Does i op) op.code op.out op.inputs e (λ k. refl) h long by are
 
     -- ---- blocks
 
     abbrev PlainIn : List Place → Type 0
-    PlainIn ps = (q : Place) → IsIn q ps → IsPlain l ranges (standing l q)
+    PlainIn ps = (q : Place) → IsIn q ps → IsPlain l ranges (standing l q) × StandsLong (standing l q)
 
     places_right : (t : List TableAt) (next : ℕ) (ps : List Place) (e : flow_exit.Exit)
         → PlainIn ps
         → RunsBlock l t starts ps e
         → AreLocals ws n next (places_made l ranges next ps e).locals
-        → P (places_made l ranges next ps e).block.body × Q (places_made l ranges next ps e).block.exit
+        → B (places_made l ranges next ps e).block.body (places_made l ranges next ps e).block.exit
     places_right t next [] e plain runs are = absurd runs
     places_right t next (p ∷ []) e plain runs are =
-        let here = place_made l ranges next p in
-        let out = way_out l ranges (next + length here.locals) (standing l p) e in
-        let made = made_right next (standing l p) (plain p (inl refl))
-        (locals_front ws n next here.locals out.locals are) in
-        let left = leaves_right t (next + length here.locals) p (standing l p) e (plain p (inl refl)) runs
-        (locals_back ws n next here.locals out.locals are) in
-        (kinds.append here.statements out.loads made left.0, left.1)
+        let h = plain p (inl refl) in
+        last_right t next p (standing l p) e h.0 h.1 runs are
     places_right t next (p ∷ q ∷ ps) e plain runs are =
         let here = place_made l ranges next p in
         let rest = places_made l ranges (next + length here.locals) (q ∷ ps) e in
-        let made = made_right next (standing l p) (plain p (inl refl))
-        (locals_front ws n next here.locals rest.locals are) in
+        let h = plain p (inl refl) in
+        let leads : (turn_at l p ≡ Stops → ⊥) =
+        λ f. let on : GoesOn ≡ Stops = sym runs.0.goes_on ∙ f in absurd (cc) in
+        let made = made_right next (standing l p) h.0 h.1 leads (locals_front ws n next here.locals rest.locals are) in
         let more = places_right t (next + length here.locals) (q ∷ ps) e (λ r h. plain r (inr h)) runs.1
         (locals_back ws n next here.locals rest.locals are) in
-        (kinds.append here.statements (rest.block).body made more.0, more.1)
+        kinds.before here.statements (rest.block).body (rest.block).exit made more
 
     -- Where a flow's blocks have places of the form, and the locals are variables: all blocks.
     pub blocks_right : (t : List TableAt) (next : ℕ) (blocks : List flow_block.Block)
         → PlainIn (places_of blocks)
         → AllRun l t starts blocks
         → AreLocals ws n next (blocks_made l ranges next blocks).locals
-        → AllHold P Q (blocks_made l ranges next blocks).blocks
+        → AllHold B (blocks_made l ranges next blocks).blocks
     blocks_right t next [] plain all are = tt
     blocks_right t next (b ∷ blocks) plain all are =
         let here = block_made l ranges next b in

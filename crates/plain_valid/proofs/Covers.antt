@@ -148,8 +148,8 @@ module _
     module _
         (blocks : ℕ)
         (P : List Stmt → Type 0)
-        (Q : Exit → Type 0)
-        (kinds : Kinds l ranges ws n blocks P Q)
+        (B : List Stmt → Exit → Type 0)
+        (kinds : Kinds l ranges ws n blocks P B)
         (big : Bool)
         (v : Varnode)
         (narrow : IsNarrow v)

@@ -1,8 +1,10 @@
 -- What is asked of each kind of statement and exit that the plain lowering makes, so that it holds of all blocks.
-use Rattle.std.proofs.Common.{◌≡◌, ℕ, ◌+◌, ◌<◌, ◌≤◌, List, [], ◌∷◌, ◌++◌, length, length-append, Option, Some, None, arith}
+use Rattle.std.proofs.Common.{◌≡◌, ℕ, ◌+◌, ◌<◌, ◌≤◌, ◌^◌, true, false, List, [], ◌∷◌, ◌++◌, length, length-append, map, Option, Some, None, arith}
+use Rattle.std.specs.List.{AllByRecursion}
 use Rattle.pcode_model.specs.declared.listing.Varnode.{Varnode}
 use Rattle.pcode_model.specs.declared.listing.Listing.{Listing}
-use Rattle.pcode_model.specs.Step.{proto_of}
+use Rattle.pcode_model.specs.Spaces.{register_space, size_of}
+use Rattle.pcode_model.specs.Step.{callee_at, proto_of, returns as does_return}
 use Rattle.cmeaning.specs.declared.tree.Expr.{Expr}
 use Rattle.cmeaning.specs.declared.tree.Stmt.{Stmt}
 use Rattle.cmeaning.specs.declared.tree.Stmt.TheVariants as S
@@ -11,8 +13,10 @@ use Rattle.blockcode.specs.declared.code.Block.{Block}
 use Rattle.blockcode.specs.declared.code.Exit.{Exit}
 use Rattle.blockcode.specs.declared.code.Exit.TheVariants as X
 use Rattle.blockcode.specs.declared.code.Variable.{Variable}
+use Rattle.op_code.specs.declared.left.Leftover.{Leftover}
+use Rattle.op_code.specs.Left.{argument_ranges, takes_left}
 use Rattle.op_code.specs.Made.{name_of, range_word}
-use Rattle.op_code.specs.Form.{IsMemory, IsNarrow}
+use Rattle.op_code.specs.Form.{IsMemory, IsNarrow, IsPassed}
 use Rattle.op_code.specs.Lowered.{result}
 use Rattle.op_code.proofs.Sees.{AreWide, wide_back, wide_front}
 use Rattle.plain_valid.proofs.Shapes.{Fits}
@@ -33,9 +37,47 @@ abbrev pub Gives : Listing → List Varnode → (ℕ → ℕ) → ℕ → Option
 Gives l ranges ws n None = Unit {0}
 Gives l ranges ws n (Some v) = IsNarrow v × Fits ws n (range_word l ranges v) v.size 16
 
+-- ---- calls
+
+-- expressions of any width
+abbrev pub AreRight : (ℕ → ℕ) → ℕ → List Expr → Type 0
+AreRight ws n [] = Unit {0}
+AreRight ws n (e ∷ es) = ((w : ℕ) × Fits ws n e w 16) × AreRight ws n es
+
+-- as many as these ranges, each as wide as its range
+abbrev pub HaveWidths : (ℕ → ℕ) → ℕ → List Expr → List Varnode → Type 0
+HaveWidths ws n [] [] = Unit {0}
+HaveWidths ws n [] (v ∷ vs) = ⊥
+HaveWidths ws n (e ∷ es) [] = ⊥
+HaveWidths ws n (e ∷ es) (v ∷ vs) = (IsNarrow v × Fits ws n e v.size 16) × HaveWidths ws n es vs
+
+pub are_right : (ws : ℕ → ℕ) (n : ℕ) (es : List Expr) (vs : List Varnode) → HaveWidths ws n es vs → AreRight ws n es
+are_right ws n [] [] h = tt
+are_right ws n [] (v ∷ vs) h = absurd h
+are_right ws n (e ∷ es) [] h = absurd h
+are_right ws n (e ∷ es) (v ∷ vs) h = ((v.size, h.0.1), are_right ws n es vs h.1)
+
+-- the variable that is assigned the word of a range, where there is one
+abbrev pub IsTarget : (ℕ → ℕ) → ℕ → Option ℕ → Option Varnode → Type 0
+IsTarget ws n None None = Unit {0}
+IsTarget ws n None (Some z) = ⊥
+IsTarget ws n (Some v) None = ⊥
+IsTarget ws n (Some v) (Some z) = IsNarrow z × IsVariable ws n v z.size
+
+-- a variable that takes bytes of the register space
+pub record IsLeft (l : Listing) (ws : ℕ → ℕ) (n : ℕ) (x : Leftover) : Type 0 where
+  pub width : ℕ
+  pub is : IsVariable ws n x.variable width
+  pub inside : x.offset + width ≤ size_of l (register_space l)
+  pub long : x.offset < 2 ^ 64
+
+-- ---- kinds
+
 -- Of statements and exits that name n variables with these widths, and blocks below a number: what holds of each kind.
+-- P: of statements that lead on. An EXTRAOUT stands behind a call, so a call and its EXTRAOUTs are one kind.
+-- B: of a block's statements and its exit. A call that never returns is the last statement of a block without exit.
 pub record Kinds (l : Listing) (ranges : List Varnode) (ws : ℕ → ℕ) (n blocks : ℕ) (P : List Stmt → Type 0)
-    (Q : Exit → Type 0) : Type 0 where
+    (B : List Stmt → Exit → Type 0) : Type 0 where
   pub none : P []
   pub append : (xs ys : List Stmt) → P xs → P ys → P (xs ++ ys)
   pub assign : (v w d : ℕ) (e : Expr) → IsVariable ws n v w → Fits ws n e w d → P (S.Assign v e ∷ [])
@@ -54,18 +96,44 @@ pub record Kinds (l : Listing) (ranges : List Varnode) (ws : ℕ → ℕ) (n blo
       → Fits ws n a w 16
       → Fits ws n b w 16
       → P (S.Divide v op a b ∷ [])
-  pub jump : (to : ℕ) → to < blocks → Q (X.Jump to)
+  pub call : (v : Option ℕ) (a : ℕ) (args : List Expr) (left : List Leftover)
+      → a < 2 ^ 64
+      → does_return (callee_at l a) ≡ true
+      → IsTarget ws n v (proto_of l (callee_at l a)).gives
+      → AllByRecursion (IsPassed l ranges) (proto_of l (callee_at l a)).args
+      → HaveWidths ws n args (argument_ranges (proto_of l (callee_at l a)).args)
+      → AllByRecursion (IsLeft l ws n) left
+      → P (S.Call v a args ∷ map takes_left left)
+  pub indirect : (v : Option ℕ) (out : Option Varnode) (w : ℕ) (to : Expr) (args : List Expr) (left : List Leftover)
+      → IsTarget ws n v out
+      → Fits ws n to w 16
+      → AreRight ws n args
+      → AllByRecursion (IsLeft l ws n) left
+      → P (S.CallInd v to args ∷ map takes_left left)
+  pub other : (v : Option ℕ) (out : Option Varnode) (index : ℕ) (args : List Expr)
+      → index < 2 ^ 64
+      → IsTarget ws n v out
+      → AreRight ws n args
+      → P (S.Other v index args ∷ [])
+  pub before : (xs ys : List Stmt) (e : Exit) → P xs → B ys e → B (xs ++ ys) e
+  pub jump : (to : ℕ) → to < blocks → B [] (X.Jump to)
   pub test : (c : Expr) (taken other : ℕ)
       → Fits ws n c 1 16
       → taken < blocks
       → other < blocks
-      → Q (X.Test c taken other)
-  pub returns : Gives l ranges ws n (proto_of l None).gives → Q (X.Return (result l ranges))
+      → B [] (X.Test c taken other)
+  pub returns : Gives l ranges ws n (proto_of l None).gives → B [] (X.Return (result l ranges))
+  pub stops : (a : ℕ) (args : List Expr)
+      → a < 2 ^ 64
+      → does_return (callee_at l a) ≡ false
+      → AllByRecursion (IsPassed l ranges) (proto_of l (callee_at l a)).args
+      → HaveWidths ws n args (argument_ranges (proto_of l (callee_at l a)).args)
+      → B (S.Call None a args ∷ []) X.Stop
 
 -- each block's statements and its exit
-abbrev pub AllHold : (List Stmt → Type 0) → (Exit → Type 0) → List Block → Type 0
-AllHold P Q [] = Unit {0}
-AllHold P Q (x ∷ xs) = (P x.body × Q x.exit) × AllHold P Q xs
+abbrev pub AllHold : (List Stmt → Exit → Type 0) → List Block → Type 0
+AllHold B [] = Unit {0}
+AllHold B (x ∷ xs) = B x.body x.exit × AllHold B xs
 
 -- ---- locals, one behind another
 

@@ -1,6 +1,6 @@
 -- The atoms of a listing without frame variables begin at numbers of 64 bits, where each access ends within them.
-use Rattle.std.proofs.Common.{◌≡◌, ℕ, ◌+◌, ◌<◌, ◌≤◌, ◌^◌, List, [], ◌∷◌, refl, arith, inl, inr}
-use Rattle.std.specs.Prelude.{pos, ◌+ℤ◌}
+use Rattle.std.proofs.Common.{◌≡◌, ℕ, zero, suc, ◌+◌, ◌<◌, ◌≤◌, ◌^◌, List, [], ◌∷◌, Some, refl, subst, arith, inl, inr}
+use Rattle.std.specs.Prelude.{pos, slice_get, ◌+ℤ◌}
 use Rattle.std.proofs.lemmas.Int.{ints}
 use Rattle.pcode_model.specs.declared.listing.Varnode.{Varnode}
 use Rattle.pcode_model.specs.declared.listing.Listing.{Listing}
@@ -11,6 +11,9 @@ use Rattle.pcode_model.specs.declared.atoms.Atom.{Atom}
 use Rattle.pcode_model.specs.Atoms.{Accesses, AreAtoms, IsAccessed, IsAtom, area_of, offset_of, range}
 use Rattle.pcode_model.specs.Flow.{IsIn}
 use Rattle.pcode_model.specs.Frame.{no_variables}
+use Rattle.op_code.specs.Form.{IsNarrow}
+use Rattle.op_code.specs.Lowered.{range_at, range_of, ranges_of}
+use Rattle.op_code.specs.Lowerable.{AreNarrow}
 use Rattle.plain_valid.specs.Long.{IsLong, AreLong}
 
 module _
@@ -48,3 +51,27 @@ module _
 pub atoms_long : (l : Listing) (t : List TableAt) (atoms : List Atom) → AreAtoms l t no_variables atoms
     → ((v : Varnode) → Accesses l t v → v.offset + v.size ≤ 2 ^ 64) → AreLong atoms
 atoms_long l t atoms are low = each_long l t low atoms (λ a. (are.each a).0)
+
+-- ---- their ranges
+
+module _ (l : Listing) where
+  abbrev IsLow : Varnode → Type 0
+  IsLow v = IsNarrow v × (v.offset < 2 ^ 64)
+
+  range_low : (s : ParamStorage) (size : ℕ) → (0 < size) × (size ≤ 16) → IsLong s → IsLow (range_at l s size)
+  range_low (P.Register o) size narrow long = (narrow, long)
+  range_low (P.Unique o) size narrow long = (narrow, long)
+  range_low (P.Stack o) size narrow long = absurd long
+
+  -- The range of each atom is narrow, and begins at a number of 64 bits.
+  pub ranges_low : (atoms : List Atom)
+      → AreNarrow atoms
+      → AreLong atoms
+      → (n : ℕ) (v : Varnode)
+      → slice_get (ranges_of l atoms) n ≡ Some v
+      → IsLow v
+  ranges_low [] narrow long n v e = absurd (cc)
+  ranges_low (a ∷ atoms) narrow long zero v e =
+      let same : range_of l a ≡ v = cc in
+      subst IsLow same (range_low a.storage a.size narrow.0.1 long.0)
+  ranges_low (a ∷ atoms) narrow long (suc n) v e = ranges_low atoms narrow.1 long.1 n v e

@@ -13,6 +13,8 @@ use Rattle.op_code.specs.Lowered.{lowered, range_of, ranges_of, variable_for}
 use Rattle.op_code.specs.Lowerable.{IsLowerable}
 use Rattle.op_code.proofs.Entering.{as_many}
 use Rattle.op_code.proofs.Variables.{locals_made, locals_wide, variables_set}
+use Rattle.plain_valid.specs.Long.{HasLong}
+use Rattle.plain_valid.proofs.Long.{ranges_low}
 use Rattle.plain_valid.proofs.EachKind.{AllHold, Kinds}
 use Rattle.plain_valid.proofs.Blocks.{blocks_right}
 
@@ -22,27 +24,29 @@ module _
     (blocks : List flow_block.Block)
     (atoms : List Atom)
     (form : IsLowerable l t blocks atoms)
+    (long : HasLong l t atoms)
     (few : length (lowered l blocks atoms).variables ≤ 2 ^ 32)
     (P : List Stmt → Type 0)
-    (Q : Exit → Type 0)
+    (B : List Stmt → Exit → Type 0)
   where
     -- All blocks of the code.
     pub each_block : (let vs = (lowered l blocks atoms).variables in
-        Kinds l (ranges_of l atoms) (widths vs) (length vs) (length blocks) P Q
-        → AllHold P Q (lowered l blocks atoms).blocks)
+        Kinds l (ranges_of l atoms) (widths vs) (length vs) (length blocks) P B
+        → AllHold B (lowered l blocks atoms).blocks)
     each_block kinds =
         let vs = (lowered l blocks atoms).variables in
         let ranges = ranges_of l atoms in
         let starts = starts_of blocks in
         let locals = locals_made l blocks atoms in
         let many : length starts ≡ length blocks = as_many l t starts blocks form.flow.run in
-        let long = length-append (map variable_for atoms) locals in
-        let K : ℕ → Type 0 = λ m. Kinds l ranges (widths vs) (length vs) m P Q in
-        blocks_right l ranges (widths vs) (length vs) starts P Q (subst K (sym many) kinds)
+        let all = length-append (map variable_for atoms) locals in
+        let K : ℕ → Type 0 = λ m. Kinds l ranges (widths vs) (length vs) m P B in
+        blocks_right l ranges (widths vs) (length vs) starts P B (subst K (sym many) kinds)
         (variables_set l blocks atoms t form) few
-        (omega (arith, length-map atoms (range_of l), length-map atoms variable_for, long)) t (length atoms) blocks
-        (λ q h. form.plain q ((form.flow.each q).0 h)) form.flow.run
+        (omega (arith, length-map atoms (range_of l), length-map atoms variable_for, all))
+        (ranges_low l atoms form.narrow long.storages) t (length atoms) blocks
+        (λ q h. let reached = (form.flow.each q).0 h in (form.plain q reached, long.places q reached)) form.flow.run
         (record {
           wide = locals_wide l blocks atoms;
-          within = omega (arith, length-map atoms variable_for, long);
+          within = omega (arith, length-map atoms variable_for, all);
         })

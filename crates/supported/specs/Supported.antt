@@ -6,7 +6,7 @@ use Rattle.pcode_model.specs.declared.listing.Op.{Op}
 use Rattle.pcode_model.specs.declared.listing.Instruction.{Instruction}
 use Rattle.pcode_model.specs.declared.listing.Listing.{Listing}
 
--- the operations of one input and of two inputs, divisions too, LOAD, STORE, BRANCH, CBRANCH and RETURN
+-- the operations of one input and of two inputs, divisions too, LOAD, STORE, calls, BRANCH, CBRANCH and RETURN
 abbrev pub is_supported_code : Opcode → Bool
 is_supported_code (O.Unary op) = true
 is_supported_code (O.Binary op) = true
@@ -15,6 +15,9 @@ is_supported_code O.Load = true
 is_supported_code O.Store = true
 is_supported_code O.Branch = true
 is_supported_code O.CBranch = true
+is_supported_code O.Call = true
+is_supported_code O.CallInd = true
+is_supported_code O.CallOther = true
 is_supported_code O.Return = true
 is_supported_code code = false
 
@@ -26,8 +29,7 @@ abbrev pub is_supported_code_of : List Instruction → Bool
 is_supported_code_of [] = true
 is_supported_code_of (i ∷ rest) = are_supported_ops i.ops && is_supported_code_of rest
 
--- A listing without `stack` and `callee` lines, whose ops are all built.
+-- A listing without a `stack` line, whose ops are all built.
 pub record IsSupported (l : Listing) : Type 0 where
   pub stack : l.stack ≡ None
-  pub callees : l.callees ≡ []
   pub ops : is_supported_code_of l.code ≡ true

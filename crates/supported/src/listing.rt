@@ -10,6 +10,7 @@ fn is_supported_code(code: &Opcode) -> bool
     match code {
         Opcode::Unary(_) | Opcode::Binary(_) | Opcode::Divide(_) => true,
         Opcode::Load | Opcode::Store => true,
+        Opcode::Call | Opcode::CallInd | Opcode::CallOther => true,
         Opcode::Branch | Opcode::CBranch | Opcode::Return => true,
         _ => false,
     }
@@ -41,7 +42,7 @@ fn is_supported_code_of(code: &[Instruction]) -> bool
 pub fn is_supported(listing: &Listing) -> bool
     ensures { IsTrue result ↔ IsSupported listing.now }
 {
-    if listing.stack.is_some() || !listing.callees.as_slice().is_empty() {
+    if listing.stack.is_some() {
         return false;
     }
     is_supported_code_of(listing.code.as_slice())

@@ -20,10 +20,12 @@ returns c =
     let blocks = c.args.accepted.now.flow in
     let atoms = c.args.accepted.now.atoms in
     let passed = c.requires in
-    let is = laid_is l blocks atoms c.in_ok-name.name c.result_width.result c.in_ok-head.head c.in_ok-code.code
-    c.in_ok-function.function c.in_ok-function.ensures
-    (c.in_ok-head.ensures ∙ ap (head_of c.in_ok-name.name c.result_width.result) c.as_slice-2.ensures)
-    (c.in_ok-name.ensures ∙ c.as_slice.ensures) c.result_width.ensures c.in_ok-code.ensures.code in
+    let is = laid_is l blocks atoms c.in_ok-name.name c.result_width.result c.in_ok-callees.callees c.in_ok-head.head
+    c.in_ok-code.code c.in_ok-function.function c.in_ok-function.ensures
+    (c.in_ok-head.ensures
+    ∙ ap (head_of c.in_ok-name.name c.result_width.result c.in_ok-callees.callees) c.as_slice-2.ensures)
+    (c.in_ok-name.ensures ∙ c.as_slice.ensures) c.result_width.ensures c.in_ok-callees.ensures
+    c.in_ok-code.ensures.code in
     lowers_to l c.in_ok-function.function _ is
     (lowers l passed.read passed.ops passed.built blocks passed.blocks passed.no_fault passed.few_blocks atoms
     passed.atoms (few_made l blocks atoms c.in_ok-code.code c.in_ok-code.ensures.code c.in_ok-code.ensures.few))
