@@ -389,8 +389,9 @@ module _
         let make : ℕ → Stmt = λ v. S.Other (Some v) index.offset r.words in
         let all = reads_right next vs operands
         (locals_front ws n next r.locals (sets l ranges (next + length r.locals) (Some z) make).locals are) in
+        let own = are_right ws n r.words vs all.words in
         computes_right next z r make all.loads h are
-        (λ v is. kinds.other (Some v) (Some z) index.offset r.words long (h.0, is) (are_right ws n r.words vs all.words))
+        (λ v is. kinds.other (Some v) (Some z) index.offset r.words long (h.0, is) own)
 
     -- ---- ops that lead on
 
@@ -419,8 +420,8 @@ module _
         let narrow : IsNarrow x = ((h.1.0).0).0 in
         computes_right next z r make all.loads h.1.1 are
         (λ v is. kinds.assign v z.size 18 (binary_node op x.size y.offset z.size d e) is
-        (binary_fits ws n x.size y.offset y.size z.size d e ((h.1.1).0).0 ((h.1.1).0).1 all.words.0.1 all.words.1.0.1 op narrow.0
-        narrow.1 h.0.1))
+        (binary_fits ws n x.size y.offset y.size z.size d e ((h.1.1).0).0 ((h.1.1).0).1 all.words.0.1 all.words.1.0.1
+        op narrow.0 narrow.1 h.0.1))
     op_right next (O.Divide op) (Some z) (x ∷ y ∷ []) h long leads are =
         let r = reads l ranges next (x ∷ y ∷ []) in
         let d = (read_one l ranges next x).word in
