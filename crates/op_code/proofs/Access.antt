@@ -1,8 +1,8 @@
 -- Loads and stores of the code are those of the listing.
 use Rattle.std.proofs.Common.{◌≡◌, ℕ, ◌%◌, ◌*◌, ◌<◌, ◌≤◌, Bool, true, false, List, length, Option, Some, None, refl, sym, ap, ◌∙◌, subst, arith}
-use Rattle.std.specs.Prelude.{Result, Ok}
+use Rattle.std.specs.Prelude.{Result, Ok, Err}
 use Rattle.std.proofs.Math.Nat.{mod-eq_of_lt}
-use Rattle.machine.specs.Trace.{End, ReadOnlyWrite, Store}
+use Rattle.machine.specs.Trace.{End, Event, ReadOnlyWrite, Store}
 use Rattle.bits_core.specs.Value.{limit}
 use Rattle.pcode_model.specs.declared.listing.Space.{Space}
 use Rattle.pcode_model.specs.declared.listing.SpaceKind.TheVariants.{Ram}
@@ -12,7 +12,7 @@ use Rattle.pcode_model.specs.declared.listing.Listing.{Listing}
 use Rattle.pcode_model.specs.Spaces.{each_at, kind_in, offset_bytes_in, size_in, size_of, word_size}
 use Rattle.std.specs.Prelude.{slice_get}
 use Rattle.pcode_model.specs.Memory.{Acts, Bytes, any_fixed, plain, poke, unless}
-use Rattle.pcode_model.specs.World.{World, store, stored_as}
+use Rattle.pcode_model.specs.World.{AllAnswers, World, store, stored_as}
 use Rattle.pcode_model.specs.Step.{State, as_word, byte_address, bytes_in, in_world, moved, word_in_bytes}
 use Rattle.pcode_laws.specs.AsBytes.{AsBytes, seen_over}
 use Rattle.pcode_laws.proofs.AsBytes.{store_over}
@@ -114,6 +114,13 @@ stored_bytes : (l : Listing) (s a k n : ℕ) (fixed : Bool) (w : World Bytes)
 stored_bytes l s a k n true w are = are
 stored_bytes l s a k n false w are = bytes_stored l s a k n w.memory are
 
+-- a store takes no answer
+stored_answers : {M : Type 0} (l : Listing) (x : Event) (r : Result M End) (w : World M)
+    → AllAnswers l w.answers
+    → AllAnswers l (stored_as x r w).answers
+stored_answers l x (Ok n) w are = are
+stored_answers l x (Err e) w are = are
+
 module _ {M : Type 0} (m : Acts M) (l : Listing) (look : M → Bytes) (is : AsBytes m l look) where
   -- a pointer's read has a value
   pub read_is : (s a k : ℕ) (w : M) → as_word l s (m.read s a k w) ≡ Ok (word_in_bytes l s a k (look w))
@@ -135,6 +142,7 @@ module _ {M : Type 0} (m : Acts M) (l : Listing) (look : M → Bytes) (is : AsBy
           holds = sees.holds;
           bytes = sees.bytes;
           memory = subst P (sym same) (stored_bytes l at a k n fixed (seen_over look s.world) sees.memory);
+          answers = stored_answers l (Store at a bs) (m.write at a bs s.world.memory) s.world sees.answers;
         };
         at = λ _. refl;
       }

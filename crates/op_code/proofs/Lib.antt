@@ -12,6 +12,13 @@ pub mod Numbers
 pub mod Operands
 pub mod Ops
 pub mod Sees
+pub mod Taken
+pub mod Kept
+pub mod Spared
+pub mod Extras
+pub mod Called
+pub mod Calling
+pub mod Computes
 pub mod Settled
 pub mod Sets
 pub mod Steps
@@ -21,3 +28,4 @@ pub mod Walks
 pub mod Worked
 pub mod WorkedBlocks
 pub mod WorkedSeveral
+pub mod WorkedCalls

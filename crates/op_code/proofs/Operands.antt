@@ -23,7 +23,7 @@ use Rattle.blockcode.proofs.Straight.{run_all}
 use Rattle.op_values.proofs.Means.{Means, constant_means, nearest_is}
 use Rattle.op_code.specs.Cover.{HasCover}
 use Rattle.op_code.specs.Made.{address_of, name_of, range_word, read_by, read_one, reads}
-use Rattle.op_code.specs.Form.{AllOperands, IsDirect, IsNarrow, IsOperand, IsOperandBy}
+use Rattle.op_code.specs.Form.{AllOperands, IsDirect, IsNarrow, IsOperandBy}
 use Rattle.op_code.proofs.Access.{direct_points, load_runs, read_is}
 use Rattle.op_code.proofs.Reading.{read_means}
 use Rattle.op_code.proofs.Sees.{AreWide, Sees, Setting, sees_local, wide_back, wide_front}

@@ -1,5 +1,5 @@
 -- What stands for an op does what the op does. A further operation adds its cases here.
-use Rattle.std.proofs.Common.{◌≡◌, ◌≢◌, ℕ, ◌+◌, ◌<◌, ◌≤◌, Bool, true, false, List, [], ◌∷◌, ◌++◌, length, Option, Some, None, refl, sym, ap, ◌∙◌, subst, arith, ◌⊎◌, inl, inr, ⊎_elim}
+use Rattle.std.proofs.Common.{◌≡◌, ◌≢◌, ℕ, ◌<◌, ◌≤◌, Bool, true, false, List, [], ◌∷◌, length, Option, Some, None, refl, sym, ap, ◌∙◌, subst, inl, inr, ⊎_elim}
 use Rattle.std.specs.Prelude.{cond, Ok}
 use Rattle.std.proofs.lemmas.Bool.{cases_eq}
 use Rattle.machine.specs.Trace.{DivZero}
@@ -19,12 +19,12 @@ use Rattle.pcode_model.specs.declared.listing.Listing.{Listing}
 use Rattle.pcode_model.specs.declared.opcode.Opcode.{Opcode}
 use Rattle.pcode_model.specs.declared.opcode.Opcode.TheVariants as O
 use Rattle.pcode_model.specs.declared.flow.Turn.TheVariants.{GoesOn}
-use Rattle.pcode_model.specs.Flow.{turn_of}
+use Rattle.pcode_model.specs.Flow.{call_turn, turn_of}
 use Rattle.pcode_model.specs.Places.{Does, next_place}
 use Rattle.pcode_model.specs.Spaces.{kind_of}
-use Rattle.pcode_model.specs.Memory.{Acts, Bytes, Frame, plain}
-use Rattle.pcode_model.specs.World.{ended, store}
-use Rattle.pcode_model.specs.Step.{State, all_read, byte_address, bytes_in, in_world, moved, read_all, step_at, word_in_bytes, write_varnode}
+use Rattle.pcode_model.specs.Memory.{Acts, Bytes, Frame}
+use Rattle.pcode_model.specs.Step.{State, all_read, byte_address, callee_at, moved, read_all, step_at, word_in_bytes, write_varnode}
+use Rattle.pcode_model.specs.Step.{returns as does_return}
 use Rattle.pcode_laws.specs.AsBytes.{AsBytes}
 use Rattle.range_words.proofs.Variables.{word_below}
 use Rattle.cmeaning.specs.declared.tree.Expr.{Expr}
@@ -39,59 +39,19 @@ use Rattle.op_values.specs.Nodes.{binary_node, divides_by, division_node, neares
 use Rattle.op_values.proofs.Means.{Means, nearest_is}
 use Rattle.op_values.proofs.Operations.{IsDropped, binary_means, unary_means}
 use Rattle.op_values.proofs.Divisions.{division_means, divides_some, statement_is}
-use Rattle.op_code.specs.Made.{address, computes, divides, divides_at, name_of, op_made, reads, sets, stores, word_at}
-use Rattle.op_code.specs.Form.{AllOperands, IsMemory, IsOutput, IsPlainOp, IsSecond}
-use Rattle.op_code.proofs.Access.{address_points, load_runs, store_meets, store_runs}
-use Rattle.op_code.proofs.Operands.{AllHave, Has, ReadsAll, goes, reads_all, run_append, run_one}
-use Rattle.op_code.proofs.Sees.{AreWide, Meets, Sees, Setting, wide_back, wide_front}
-use Rattle.op_code.proofs.Sets.{Fails, Makes, fail_meets, set_meets}
+use Rattle.op_code.specs.Made.{address, divides, divides_at, name_of, op_made, reads, word_at}
+use Rattle.op_code.specs.Form.{IsPlainOp, IsSecond}
+use Rattle.op_code.proofs.Access.{address_points, load_runs}
+use Rattle.op_code.proofs.Calling.{indirect_meets, other_meets, returning_meets}
+use Rattle.op_code.proofs.Computes.{computed, computes_meets, constant_has, one_of, stores_meet, two_of}
+use Rattle.op_code.proofs.Sees.{AreWide, Meets, Sees, Setting}
+use Rattle.op_code.proofs.Sets.{Fails, Makes, ended_meets}
 use Rattle.op_code.proofs.Steps.{op_of, binary_step, divide_ends, divide_step, load_step, store_step, unary_step}
-
--- ---- the words of one operand and of two
-
-module _ {M : Type 0} (m : Acts M) (l : Listing) (ws : ℕ → ℕ) (s : State M) (env : ℕ → Option ℕ) where
-  pub record One (v : Varnode) (d : Expr) (words : List ℕ) : Type 0 where
-    pub word : ℕ
-    pub are : words ≡ word ∷ []
-    pub has : Has m l ws s env (kind_of l v.space) v d word
-
-  one_of : (v : Varnode) (d : Expr) (words : List ℕ)
-      → AllHave m l ws s env (v ∷ []) (d ∷ []) words
-      → One v d words
-  one_of v d [] h = absurd h
-  one_of v d (a ∷ []) h = record { word = a; are = refl; has = h.0 }
-  one_of v d (a ∷ b ∷ rest) h = absurd h.1
-
-  pub record Two (v w : Varnode) (d e : Expr) (words : List ℕ) : Type 0 where
-    pub first : ℕ
-    pub second : ℕ
-    pub are : words ≡ first ∷ second ∷ []
-    pub has : Has m l ws s env (kind_of l v.space) v d first
-    pub also : Has m l ws s env (kind_of l w.space) w e second
-
-  two_of : (v w : Varnode) (d e : Expr) (words : List ℕ)
-      → AllHave m l ws s env (v ∷ w ∷ []) (d ∷ e ∷ []) words
-      → Two v w d e words
-  two_of v w d e [] h = absurd h
-  two_of v w d e (a ∷ []) h = absurd h.1
-  two_of v w d e (a ∷ b ∷ []) h =
-      record { first = a; second = b; are = refl; has = h.0; also = h.1.0 }
-  two_of v w d e (a ∷ b ∷ c ∷ rest) h = absurd h.1.1
-
-  -- a constant's word is the constant
-  constant_has : (k : SpaceKind) (v : Varnode) (e : Expr) (a : ℕ)
-      → k ≡ Constant
-      → Has m l ws s env k v e a
-      → v.offset ≡ a
-  constant_has Constant v e a is h = let r : Ok v.offset ≡ Ok a = h.read in cc
-  constant_has Ram v e a is h = absurd (cc)
-  constant_has Register v e a is h = absurd (cc)
-  constant_has Unique v e a is h = absurd (cc)
 
 -- ---- statements that assign a word
 
 module _ (l : Listing) (ws : ℕ → ℕ) (x : Local) where
-  assign_makes : (e : Expr) (k n : ℕ) → Means ws x.env e k n → Makes l ws (λ v. S.Assign v e) k n x
+  assign_makes : (e : Expr) (k n : ℕ) → Means ws x.env e k n → Makes l ws (λ v. S.Assign v e) k n x x
   assign_makes e k n means v returns wide =
       do_assign l ws returns v e x ∙ ap (λ o. code.with_word o x (λ n. assigned v n x)) means.value
 
@@ -130,112 +90,6 @@ dropped_by : (l : Listing) (op : Binary) (w : Varnode) (b : ℕ)
 dropped_by l B.Subpiece w b second h = h second
 dropped_by l op w b second h = tt
 
--- ---- ops
-
-module _
-    {M : Type 0}
-    (m : Acts M)
-    (l : Listing)
-    (f : Frame)
-    (look : M → Bytes)
-    (ranges : List Varnode)
-    (ws : ℕ → ℕ)
-    (is : AsBytes m l look)
-    (set : Setting l ranges ws)
-    (next : Place)
-    (s : State M)
-    (go : s.world.over ≡ None)
-    (n : ℕ)
-    (free : length ranges ≤ n)
-  where
-    -- The step to t writes a word to the output, and the statement assigns it.
-    record Computed (z : Varnode) (make : ℕ → Stmt) (y : Local) (t : State M) : Type 0 where
-      word : ℕ
-      below : word < limit z.size
-      makes : Makes l ws make z.size word y
-      step : t ≡ write_varnode m l (kind_of l z.space) z word (moved next s)
-
-    -- Both end.
-    record Failed (make : ℕ → Stmt) (y : Local) (t : State M) : Type 0 where
-      fails : Fails l ws make DivZero y
-      step : t ≡ in_world (ended DivZero s.world) s
-
-    sets_meet : (z : Varnode) (returns : List Stmt → Bool) (make : ℕ → Stmt) (k : ℕ) (y : Local) (t : State M)
-        → IsOutput l ranges z
-        → n ≤ k
-        → AreWide ws k (sets l ranges k (Some z) make).locals
-        → Sees l ranges look s y
-        → Computed z make y t ⊎ Failed make y t
-        → Meets l ranges look next t (run_all l ws returns (sets l ranges k (Some z) make).statements y)
-    sets_meet z returns make k y t out later wide sees made =
-        let on = goes m l f look ranges ws is set s go y sees in
-        let P : State M → Type 0 = λ u. Meets l ranges look next u
-        (run_all l ws returns (sets l ranges k (Some z) make).statements y) in
-        ⊎_elim
-        (λ (c : Computed z make y t). subst P (sym c.step)
-        (set_meets m l look ranges ws is set next s y on sees returns make (kind_of l z.space) k z c.word out.0 out.1
-        c.below (omega (arith, free, later)) wide c.makes))
-        (λ (c : Failed make y t). subst P (sym c.step)
-        (fail_meets m l look ranges ws is set next s y on sees returns make (kind_of l z.space) k z DivZero c.fails))
-        made
-
-    -- The operands are read, and an output is set to what is made of them.
-    computes_meets : (vs : List Varnode) (z : Varnode) (returns : List Stmt → Bool) (make : ℕ → Stmt) (x : Local)
-        (t : State M)
-        → IsOutput l ranges z
-        → AllOperands l ranges vs
-        → AreWide ws n (computes l ranges n (Some z) (reads l ranges n vs) make).locals
-        → Sees l ranges look s x
-        → ((y : Local) → ReadsAll m l f look ranges ws n vs s x y → Computed z make y t ⊎ Failed make y t)
-        → Meets l ranges look next t
-        (run_all l ws returns (computes l ranges n (Some z) (reads l ranges n vs) make).statements x)
-    computes_meets vs z returns make x t out ops wide sees made =
-        let reading = reads l ranges n vs in
-        let k = n + length reading.locals in
-        let setting = sets l ranges k (Some z) make in
-        let rest = λ (ss : List Stmt). returns (ss ++ setting.statements) in
-        let y : Local = run_all l ws rest reading.loads x in
-        let r = reads_all m l f look ranges ws is set s go vs rest n x ops free
-        (wide_front ws n reading.locals setting.locals wide) sees in
-        let P : Local → Type 0 = λ u. Meets l ranges look next t u in
-        subst P (sym (run_append l ws returns reading.loads setting.statements x))
-        (sets_meet z returns make k y t out (omega arith) (wide_back ws n reading.locals setting.locals wide) r.sees
-        (made y r))
-
-    -- Two operands are read, the address in a space and what is stored there.
-    stores_meet : (at : ℕ) (v w : Varnode) (returns : List Stmt → Bool) (x : Local) (t : State M)
-        → IsMemory l at
-        → AllOperands l ranges (v ∷ w ∷ [])
-        → AreWide ws n (stores l at v.size (reads l ranges n (v ∷ w ∷ []))).locals
-        → Sees l ranges look s x
-        → ((a b : ℕ)
-        → read_all m l f s (all_read (v ∷ w ∷ [])) ≡ Ok (a ∷ b ∷ [])
-        → t ≡ in_world (store m at (byte_address l at a) (bytes_in l at w.size b) s.world) (moved next s))
-        → Meets l ranges look next t
-        (run_all l ws returns (stores l at v.size (reads l ranges n (v ∷ w ∷ []))).statements x)
-    stores_meet at v w returns x t mem ops wide sees step =
-        let reading = reads l ranges n (v ∷ w ∷ []) in
-        let d = word_at reading 0 in
-        let e = word_at reading 1 in
-        let one = S.Store (name_of l at) (address l at v.size d) e in
-        let rest = λ (ss : List Stmt). returns (ss ++ one ∷ []) in
-        let y : Local = run_all l ws rest reading.loads x in
-        let r = reads_all m l f look ranges ws is set s go (v ∷ w ∷ []) rest n x ops free
-        (wide_front ws n reading.locals [] wide) sees in
-        let on = goes m l f look ranges ws is set s go y r.sees in
-        let o = two_of m l ws s y.env v w d e r.words r.have in
-        let bytes = bytes_in l at w.size o.second in
-        let to = byte_address l at o.first in
-        let u : Local = code.in_world (store (plain l) at to bytes y.world) y in
-        let ran = run_one l ws returns one [] y u on
-        (store_runs l ws (λ c. returns []) at mem w.size o.second to (address l at v.size d) e y
-        (address_points ws y.env l at v.size o.first d mem ops.0.0.0 ops.0.0.1 o.has.means) o.also.means) in
-        let P : Local → Type 0 = λ z. Meets l ranges look next t z in
-        let Q : State M → Type 0 = λ z. Meets l ranges look next z u in
-        subst P (sym (run_append l ws returns reading.loads (one ∷ []) x ∙ ran))
-        (subst Q (sym (step o.first o.second (r.read ∙ ap (λ q. Ok q) o.are)))
-        (store_meets m l look is ranges next at to w.size o.second s y r.sees))
-
 -- ---- divisions
 
 module _
@@ -265,7 +119,7 @@ module _
         → nearest w.size ≡ k
         → b ≢ 0
         → Makes l ws (λ v. cond t (S.Assign v (division_node op d e)) (S.Divide v (statement_of op) d e)) k
-        (quotient_or_rest op k a b) y
+        (quotient_or_rest op k a b) y y
     divides_some_by true is fixed wide some =
         assign_makes l ws y (division_node op d e) k (quotient_or_rest op k a b)
         (division_means ws y.env k a b d e means also op (known is fixed wide))
@@ -279,7 +133,7 @@ module _
         → nearest w.size ≡ k
         → divide_value op k a b ≡ None
         → b ≡ 0
-        → Fails l ws (λ v. cond t (S.Assign v (division_node op d e)) (S.Divide v (statement_of op) d e)) DivZero y
+        → Fails l ws (λ v. cond t (S.Assign v (division_node op d e)) (S.Divide v (statement_of op) d e)) y (ends DivZero y)
     divides_none_by true is fixed wide none zero = absurd (divides_some op k b (known is fixed wide) zero)
     divides_none_by false is fixed wide none zero =
         λ v returns. divided_is l ws y op v k a b d e returns means also ∙ ap (λ o. code.divided v o y) none
@@ -306,8 +160,15 @@ module _
     (free : length ranges ≤ n)
     (returns : List Stmt → Bool)
   where
+    abbrev at : Place
+    at = next_place i s.at.index
+
+    -- the state after an op
+    abbrev done : Opcode → Option Varnode → List Varnode → State M
+    done code out vs = step_at m l f (Does i (op_of code out vs)) s
+
     abbrev Meet : Opcode → Option Varnode → List Varnode → Type 0
-    Meet code out vs = Meets l ranges look (next_place i s.at.index) (step_at m l f (Does i (op_of code out vs)) s)
+    Meet code out vs = Meets l ranges look at (done code out vs)
         (run_all l ws returns (op_made l ranges n code out vs).statements x)
 
     unary_meets : (op : Unary) (z v : Varnode)
@@ -318,19 +179,19 @@ module _
         let d = word_at (reads l ranges n (v ∷ [])) 0 in
         let node = unary_node op z.size d in
         let small = h.1.1.0 in
-        computes_meets m l f look ranges ws is set (next_place i s.at.index) s go n free (v ∷ []) z returns
-        (λ u. S.Assign u node) x (step_at m l f (Does i (op_of (O.Unary op) (Some z) (v ∷ []))) s) h.1.1
+        let made = computed m l f look ranges ws is set at s go n free in
+        computes_meets m l f look ranges ws is set at s go n free (v ∷ []) z returns
+        (λ u. S.Assign u node) x (done (O.Unary op) (Some z) (v ∷ [])) h.1.1
         (h.1.0, tt) wide
         sees
         (λ y r.
         let o = one_of m l ws s y.env v d r.words r.have in
-        inl (record {
-          word = unary_value op v.size o.word z.size;
-          below = unary_word op v.size z.size o.word small.0 h.0 o.has.below;
-          makes = assign_makes l ws y node z.size (unary_value op v.size o.word z.size)
-              (unary_means ws y.env op v.size z.size o.word d h.0 small.0 small.1 h.1.0.0.1 o.has.below o.has.means);
-          step = unary_step m l f i s op z v o.word (r.read ∙ ap (λ q. Ok q) o.are);
-        }))
+        let word = unary_value op v.size o.word z.size in
+        inl (made z (λ u. S.Assign u node) y (done (O.Unary op) (Some z) (v ∷ [])) word r.sees
+        (unary_word op v.size z.size o.word small.0 h.0 o.has.below)
+        (assign_makes l ws y node z.size word
+        (unary_means ws y.env op v.size z.size o.word d h.0 small.0 small.1 h.1.0.0.1 o.has.below o.has.means))
+        (unary_step m l f i s op z v o.word (r.read ∙ ap (λ q. Ok q) o.are))))
 
     binary_meets : (op : Binary) (z v w : Varnode)
         → IsPlainOp l ranges (O.Binary op) (Some z) (v ∷ w ∷ [])
@@ -342,22 +203,21 @@ module _
         let e = word_at reading 1 in
         let node = binary_node op v.size w.offset z.size d e in
         let small = h.1.1.0 in
-        computes_meets m l f look ranges ws is set (next_place i s.at.index) s go n free (v ∷ w ∷ []) z returns
-        (λ u. S.Assign u node) x (step_at m l f (Does i (op_of (O.Binary op) (Some z) (v ∷ w ∷ []))) s) h.1.1
+        let made = computed m l f look ranges ws is set at s go n free in
+        computes_meets m l f look ranges ws is set at s go n free (v ∷ w ∷ []) z returns
+        (λ u. S.Assign u node) x (done (O.Binary op) (Some z) (v ∷ w ∷ [])) h.1.1
         (h.1.0.0, (h.1.0.1, tt)) wide sees
         (λ y r.
         let o = two_of m l ws s y.env v w d e r.words r.have in
         let word = binary_value op v.size o.first w.size o.second z.size in
         let drops = dropped_by l op w o.second h.0.0
         (λ c. constant_has m l ws s y.env (kind_of l w.space) w e o.second c o.also) in
-        inl (record {
-          word = word;
-          below = binary_word op v.size w.size z.size o.first o.second small.0 h.0.1 o.has.below o.also.below;
-          makes = assign_makes l ws y node z.size word
-              (binary_means ws y.env op v.size w.size z.size o.first o.second w.offset d e h.0.1 drops h.1.0.0.0 small
-              o.has.below o.has.means o.also.means);
-          step = binary_step m l f i s op z v w o.first o.second (r.read ∙ ap (λ q. Ok q) o.are);
-        }))
+        inl (made z (λ u. S.Assign u node) y (done (O.Binary op) (Some z) (v ∷ w ∷ [])) word r.sees
+        (binary_word op v.size w.size z.size o.first o.second small.0 h.0.1 o.has.below o.also.below)
+        (assign_makes l ws y node z.size word
+        (binary_means ws y.env op v.size w.size z.size o.first o.second w.offset d e h.0.1 drops h.1.0.0.0 small
+        o.has.below o.has.means o.also.means))
+        (binary_step m l f i s op z v w o.first o.second (r.read ∙ ap (λ q. Ok q) o.are))))
 
     divide_meets : (op : Divide) (z v w : Varnode)
         → IsPlainOp l ranges (O.Divide op) (Some z) (v ∷ w ∷ [])
@@ -369,8 +229,10 @@ module _
         let e = word_at reading 1 in
         let t = divides_at (kind_of l w.space) op w in
         let small = h.1.1.0 in
-        computes_meets m l f look ranges ws is set (next_place i s.at.index) s go n free (v ∷ w ∷ []) z returns
-        (divides l op w d e) x (step_at m l f (Does i (op_of (O.Divide op) (Some z) (v ∷ w ∷ []))) s) h.1.1
+        let there = done (O.Divide op) (Some z) (v ∷ w ∷ []) in
+        let made = computed m l f look ranges ws is set at s go n free in
+        computes_meets m l f look ranges ws is set at s go n free (v ∷ w ∷ []) z returns
+        (divides l op w d e) x (done (O.Divide op) (Some z) (v ∷ w ∷ [])) h.1.1
         (h.1.0.0, (h.1.0.1, tt)) wide sees
         (λ y r.
         let o = two_of m l ws s y.env v w d e r.words r.have in
@@ -388,82 +250,104 @@ module _
         ⊎_elim
         (λ (zero : b ≡ 0).
         let none : divide_value op z.size a b ≡ None = ap (divide_value op z.size a) zero ∙ divide_none op z.size a in
+        let P : State M → Type 0 = λ u. Meets l ranges look at u (ends DivZero y) in
         inr (record {
+          to = ends DivZero y;
+          end = DivZero;
+          over = refl;
           fails = divides_none_by l ws y op w z.size a b d e means also t refl fixed near none zero;
-          step = divide_ends m l f i s op z v w a b read none;
+          meets = subst P (sym (divide_ends m l f i s op z v w a b read none))
+              (ended_meets l ranges look at s y DivZero r.sees);
         }))
         (λ (some : b ≢ 0).
-        inl (record {
-          word = quotient_or_rest op z.size a b;
-          below = divide_word op z.size a b (quotient_or_rest op z.size a b) (subst R h.0.0 o.has.below)
-              (divide_some op z.size a b some);
-          makes = divides_some_by l ws y op w z.size a b d e means also t refl fixed near some;
-          step = divide_step m l f i s op z v w a b read some;
-        }))
+        inl (made z (divides l op w d e) y there (quotient_or_rest op z.size a b) r.sees
+        (divide_word op z.size a b (quotient_or_rest op z.size a b) (subst R h.0.0 o.has.below)
+        (divide_some op z.size a b some))
+        (divides_some_by l ws y op w z.size a b d e means also t refl fixed near some)
+        (divide_step m l f i s op z v w a b read some)))
         (cases_eq b 0))
 
-    load_meets : (z at v : Varnode)
-        → IsPlainOp l ranges O.Load (Some z) (at ∷ v ∷ [])
-        → AreWide ws n (op_made l ranges n O.Load (Some z) (at ∷ v ∷ [])).locals
-        → Meet O.Load (Some z) (at ∷ v ∷ [])
-    load_meets z at v h wide =
+    load_meets : (z from v : Varnode)
+        → IsPlainOp l ranges O.Load (Some z) (from ∷ v ∷ [])
+        → AreWide ws n (op_made l ranges n O.Load (Some z) (from ∷ v ∷ [])).locals
+        → Meet O.Load (Some z) (from ∷ v ∷ [])
+    load_meets z from v h wide =
         let d = word_at (reads l ranges n (v ∷ [])) 0 in
-        let e = address l at.offset v.size d in
-        let next = next_place i s.at.index in
-        computes_meets m l f look ranges ws is set next s go n free (v ∷ []) z returns
-        (λ u. S.Load u (name_of l at.offset) e) x (step_at m l f (Does i (op_of O.Load (Some z) (at ∷ v ∷ []))) s) h.1.1
-        (h.1.0, tt) wide sees
+        let e = address l from.offset v.size d in
+        let there = done O.Load (Some z) (from ∷ v ∷ []) in
+        let made = computed m l f look ranges ws is set at s go n free in
+        computes_meets m l f look ranges ws is set at s go n free (v ∷ []) z returns
+        (λ u. S.Load u (name_of l from.offset) e) x there h.1.1 (h.1.0, tt) wide sees
         (λ y r.
         let o = one_of m l ws s y.env v d r.words r.have in
-        let to = byte_address l at.offset o.word in
+        let to = byte_address l from.offset o.word in
         let mem : look s.world.memory ≡ y.world.memory = ap (λ w. w.memory) r.sees.world in
-        let P : Bytes → Type 0 = λ b. word_in_bytes l at.offset to z.size b < limit z.size in
-        inl (record {
-          word = word_in_bytes l at.offset to z.size y.world.memory;
-          below = subst P mem (word_below l at.offset to z.size (look s.world.memory) r.sees.memory);
-          makes = λ u returns wide. load_runs l ws returns at.offset h.0 u z.size to e y wide
-              (address_points ws y.env l at.offset v.size o.word d h.0 h.1.0.0.0 h.1.0.0.1 o.has.means);
-          step = load_step m l f i s look is at v z o.word (r.read ∙ ap (λ q. Ok q) o.are) unframed
-              ∙ ap (λ b. write_varnode m l (kind_of l z.space) z (word_in_bytes l at.offset to z.size b) (moved next s))
-              mem;
-        }))
+        let P : Bytes → Type 0 = λ b. word_in_bytes l from.offset to z.size b < limit z.size in
+        inl (made z (λ u. S.Load u (name_of l from.offset) e) y there
+        (word_in_bytes l from.offset to z.size y.world.memory) r.sees
+        (subst P mem (word_below l from.offset to z.size (look s.world.memory) r.sees.memory))
+        (λ u returns wide. load_runs l ws returns from.offset h.0 u z.size to e y wide
+        (address_points ws y.env l from.offset v.size o.word d h.0 h.1.0.0.0 h.1.0.0.1 o.has.means))
+        (load_step m l f i s look is from v z o.word (r.read ∙ ap (λ q. Ok q) o.are) unframed
+        ∙ ap (λ b. write_varnode m l (kind_of l z.space) z (word_in_bytes l from.offset to z.size b) (moved at s))
+        mem)))
 
-    -- An op that goes on.
+    -- A call that returns.
+    call_goes : (to : Varnode) (b : Bool) → does_return (callee_at l to.offset) ≡ b → call_turn b ≡ GoesOn → b ≡ true
+    call_goes to true e turn = refl
+    call_goes to false e turn = absurd (cc)
+
+    -- An op that goes on, where a call in front of any statements returns.
     pub op_meets : (code : Opcode) (out : Option Varnode) (vs : List Varnode)
         → IsPlainOp l ranges code out vs
         → turn_of l code vs ≡ GoesOn
         → AreWide ws n (op_made l ranges n code out vs).locals
+        → ((ss : List Stmt) → returns ss ≡ true)
         → Meets l ranges look (next_place i s.at.index) (step_at m l f (Does i (op_of code out vs)) s)
         (run_all l ws returns (op_made l ranges n code out vs).statements x)
-    op_meets (O.Unary op) (Some z) (v ∷ []) h turn wide = unary_meets op z v h wide
-    op_meets (O.Binary op) (Some z) (v ∷ w ∷ []) h turn wide = binary_meets op z v w h wide
-    op_meets (O.Divide op) (Some z) (v ∷ w ∷ []) h turn wide = divide_meets op z v w h wide
-    op_meets O.Load (Some z) (at ∷ v ∷ []) h turn wide = load_meets z at v h wide
-    op_meets O.Store None (at ∷ v ∷ w ∷ []) h turn wide =
-        stores_meet m l f look ranges ws is set (next_place i s.at.index) s go n free at.offset v w returns x
-        (step_at m l f (Does i (op_of O.Store None (at ∷ v ∷ w ∷ []))) s) h.0 (h.1.0, (h.1.1, tt)) wide sees
-        (λ a b read. store_step m l f i s at v w a b read unframed)
-    op_meets O.Branch out vs h turn wide = absurd (cc)
-    op_meets O.CBranch out vs h turn wide = absurd (cc)
-    op_meets O.Return out vs h turn wide = absurd (cc)
-    op_meets (O.Unary op) None vs h turn wide = absurd h
-    op_meets (O.Unary op) (Some z) [] h turn wide = absurd h
-    op_meets (O.Unary op) (Some z) (v ∷ w ∷ vs) h turn wide = absurd h
-    op_meets (O.Binary op) None vs h turn wide = absurd h
-    op_meets (O.Binary op) (Some z) [] h turn wide = absurd h
-    op_meets (O.Binary op) (Some z) (v ∷ []) h turn wide = absurd h
-    op_meets (O.Binary op) (Some z) (v ∷ w ∷ u ∷ vs) h turn wide = absurd h
-    op_meets (O.Divide op) None vs h turn wide = absurd h
-    op_meets (O.Divide op) (Some z) [] h turn wide = absurd h
-    op_meets (O.Divide op) (Some z) (v ∷ []) h turn wide = absurd h
-    op_meets (O.Divide op) (Some z) (v ∷ w ∷ u ∷ vs) h turn wide = absurd h
-    op_meets O.Load None vs h turn wide = absurd h
-    op_meets O.Load (Some z) [] h turn wide = absurd h
-    op_meets O.Load (Some z) (v ∷ []) h turn wide = absurd h
-    op_meets O.Load (Some z) (v ∷ w ∷ u ∷ vs) h turn wide = absurd h
-    op_meets O.Store (Some z) vs h turn wide = absurd h
-    op_meets O.Store None [] h turn wide = absurd h
-    op_meets O.Store None (v ∷ []) h turn wide = absurd h
-    op_meets O.Store None (v ∷ w ∷ []) h turn wide = absurd h
-    op_meets O.Store None (v ∷ w ∷ u ∷ t ∷ vs) h turn wide = absurd h
-    op_meets code out vs h turn wide = absurd h
+    op_meets (O.Unary op) (Some z) (v ∷ []) h turn wide all = unary_meets op z v h wide
+    op_meets (O.Binary op) (Some z) (v ∷ w ∷ []) h turn wide all = binary_meets op z v w h wide
+    op_meets (O.Divide op) (Some z) (v ∷ w ∷ []) h turn wide all = divide_meets op z v w h wide
+    op_meets O.Load (Some z) (from ∷ v ∷ []) h turn wide all = load_meets z from v h wide
+    op_meets O.Store None (to ∷ v ∷ w ∷ []) h turn wide all =
+        stores_meet m l f look ranges ws is set at s go n free to.offset v w returns x
+        (done O.Store None (to ∷ v ∷ w ∷ [])) h.0 (h.1.0, (h.1.1, tt)) wide sees
+        (λ a b read. store_step m l f i s to v w a b read unframed)
+    op_meets O.Call None (to ∷ []) h turn wide all =
+        let goes = call_goes to (does_return (callee_at l to.offset)) refl turn in
+        returning_meets m l f look ranges ws is set i s x go sees n free returns to h goes wide all
+    op_meets O.CallInd None (to ∷ []) h turn wide all =
+        indirect_meets m l f look ranges ws is set i s x go sees n free returns to h wide all
+    op_meets O.CallOther out (index ∷ vs) h turn wide all =
+        other_meets m l f look ranges ws is set i s x go sees n free returns out index vs h wide
+    op_meets O.Branch out vs h turn wide all = absurd (cc)
+    op_meets O.CBranch out vs h turn wide all = absurd (cc)
+    op_meets O.Return out vs h turn wide all = absurd (cc)
+    op_meets (O.Unary op) None vs h turn wide all = absurd h
+    op_meets (O.Unary op) (Some z) [] h turn wide all = absurd h
+    op_meets (O.Unary op) (Some z) (v ∷ w ∷ vs) h turn wide all = absurd h
+    op_meets (O.Binary op) None vs h turn wide all = absurd h
+    op_meets (O.Binary op) (Some z) [] h turn wide all = absurd h
+    op_meets (O.Binary op) (Some z) (v ∷ []) h turn wide all = absurd h
+    op_meets (O.Binary op) (Some z) (v ∷ w ∷ u ∷ vs) h turn wide all = absurd h
+    op_meets (O.Divide op) None vs h turn wide all = absurd h
+    op_meets (O.Divide op) (Some z) [] h turn wide all = absurd h
+    op_meets (O.Divide op) (Some z) (v ∷ []) h turn wide all = absurd h
+    op_meets (O.Divide op) (Some z) (v ∷ w ∷ u ∷ vs) h turn wide all = absurd h
+    op_meets O.Load None vs h turn wide all = absurd h
+    op_meets O.Load (Some z) [] h turn wide all = absurd h
+    op_meets O.Load (Some z) (v ∷ []) h turn wide all = absurd h
+    op_meets O.Load (Some z) (v ∷ w ∷ u ∷ vs) h turn wide all = absurd h
+    op_meets O.Store (Some z) vs h turn wide all = absurd h
+    op_meets O.Store None [] h turn wide all = absurd h
+    op_meets O.Store None (v ∷ []) h turn wide all = absurd h
+    op_meets O.Store None (v ∷ w ∷ []) h turn wide all = absurd h
+    op_meets O.Store None (v ∷ w ∷ u ∷ t ∷ vs) h turn wide all = absurd h
+    op_meets O.Call (Some z) vs h turn wide all = absurd h
+    op_meets O.Call None [] h turn wide all = absurd h
+    op_meets O.Call None (to ∷ v ∷ vs) h turn wide all = absurd h
+    op_meets O.CallInd (Some z) vs h turn wide all = absurd h
+    op_meets O.CallInd None [] h turn wide all = absurd h
+    op_meets O.CallInd None (to ∷ v ∷ vs) h turn wide all = absurd h
+    op_meets O.CallOther out [] h turn wide all = absurd h
+    op_meets code out vs h turn wide all = absurd h

@@ -6,6 +6,7 @@ use Rattle.pcode_model.specs.declared.listing.Varnode.{Varnode}
 use Rattle.pcode_model.specs.declared.listing.Place.{Place}
 use Rattle.pcode_model.specs.declared.listing.Listing.{Listing}
 use Rattle.pcode_model.specs.Memory.{Bytes}
+use Rattle.pcode_model.specs.World.{AllAnswers}
 use Rattle.pcode_model.specs.Step.{State}
 use Rattle.pcode_laws.specs.AsBytes.{seen_over}
 use Rattle.range_words.specs.Ranges.{IsTable, Holds, AreBytes}
@@ -14,13 +15,15 @@ use Rattle.cmeaning.specs.Do.{Local, assigned}
 use Rattle.blockcode.specs.declared.code.Variable.{Variable}
 use Rattle.op_code.specs.Form.{IsNarrow}
 
--- The worlds are the same over what is seen of memory, and the variables of ranges hold the ranges' words.
+-- The worlds are the same over what is seen of memory, and the variables of ranges hold the ranges' words. What there is
+-- are bytes, and what calls will leave are.
 pub record Sees {M : Type 0} (l : Listing) (ranges : List Varnode) (look : M → Bytes) (s : State M) (x : Local) : Type
     0 where
   pub world : seen_over look s.world ≡ x.world
   pub holds : Holds l ranges s.local x.env
   pub bytes : AreBytes s.local
   pub memory : AreBytes (look s.world.memory)
+  pub answers : AllAnswers l s.world.answers
 
 -- An op's state and the code's go together, and the op has gone on to this place.
 pub record Meets {M : Type 0} (l : Listing) (ranges : List Varnode) (look : M → Bytes) (next : Place) (s : State M)
@@ -28,9 +31,10 @@ pub record Meets {M : Type 0} (l : Listing) (ranges : List Varnode) (look : M �
   pub sees : Sees l ranges look s x
   pub at : s.world.over ≡ None → s.at ≡ next
 
--- the variables of the ranges have the ranges' widths
+-- each range has a width, which its variable has
 pub record Setting (l : Listing) (ranges : List Varnode) (ws : ℕ → ℕ) : Type 0 where
   pub table : IsTable l ranges
+  pub narrow : (n : ℕ) (v : Varnode) → slice_get ranges n ≡ Some v → IsNarrow v
   pub widths : (n : ℕ) (v : Varnode) → slice_get ranges n ≡ Some v → IsNarrow v → ws n ≡ v.size
 
 -- the variables from a number on have the widths of these
@@ -63,4 +67,5 @@ sees_local l ranges look s x v n behind sees = record {
   holds = holds_other l ranges v (slice_get_past ranges v behind) (Some n) s.local x.env sees.holds;
   bytes = sees.bytes;
   memory = sees.memory;
+  answers = sees.answers;
 }

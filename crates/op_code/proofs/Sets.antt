@@ -24,22 +24,66 @@ use Rattle.cmeaning.proofs.Value.{width_of_var, value_of_var}
 use Rattle.blockcode.proofs.Straight.{run_all, run_over}
 use Rattle.op_values.proofs.Means.{Means, nearest_is}
 use Rattle.op_code.specs.Cover.{HasCover, IsRow, Piece, cover}
-use Rattle.op_code.specs.Words.{target, target_by, write_range}
-use Rattle.op_code.specs.Made.{address_of, local_for, name_of, set_by}
+use Rattle.op_code.specs.Words.{target, write_range}
+use Rattle.op_code.specs.Words as words
+use Rattle.op_code.specs.Made.{address_of, local_for, name_of, set_by, settle_by, target_by}
 use Rattle.op_code.specs.Form.{IsDirect, IsNarrow, IsOutputBy}
 use Rattle.op_code.proofs.Access.{direct_points, store_meets, store_runs}
 use Rattle.op_code.proofs.Operands.{run_one}
 use Rattle.op_code.proofs.Sees.{AreWide, Meets, Sees, Setting, sees_local}
 use Rattle.op_code.proofs.Writing.{write_wrote}
 
--- The statement assigns this word to any variable of so many bytes.
-abbrev pub Makes : Listing → (ℕ → ℕ) → (ℕ → Stmt) → (k n : ℕ) → Local → Type 0
-Makes l ws make k n x = (v : ℕ) (returns : ℕ → Bool) → ws v ≡ k → do_simple l ws returns (make v) x ≡ assigned v n x
+-- The statement leads from the one state to the other, and assigns this word to any variable of so many bytes.
+abbrev pub Makes : Listing → (ℕ → ℕ) → (ℕ → Stmt) → (k n : ℕ) → Local → Local → Type 0
+Makes l ws make k n x y =
+    (v : ℕ) (returns : ℕ → Bool) → ws v ≡ k → do_simple l ws returns (make v) x ≡ assigned v n y
 
--- The statement ends the run.
-abbrev pub Fails : Listing → (ℕ → ℕ) → (ℕ → Stmt) → End → Local → Type 0
-Fails l ws make e x = (v : ℕ) (returns : ℕ → Bool) → do_simple l ws returns (make v) x ≡ ends e x
+-- The statement leads from the one state to the other, whichever variable it would assign.
+abbrev pub Fails : Listing → (ℕ → ℕ) → (ℕ → Stmt) → Local → Local → Type 0
+Fails l ws make x y = (v : ℕ) (returns : ℕ → Bool) → do_simple l ws returns (make v) x ≡ y
 
+-- Where it ends the run there, an output isn't written.
+pub fail_runs : (l : Listing) (ranges : List Varnode) (ws : ℕ → ℕ) (returns : List Stmt → Bool) (make : ℕ → Stmt)
+    (x y : Local) (e : End) (k : SpaceKind) (t : ℕ) (z : Varnode)
+    → x.world.over ≡ None
+    → y.world.over ≡ Some e
+    → Fails l ws make x y
+    → run_all l ws returns (set_by k l ranges t z make).statements x ≡ y
+fail_runs l ranges ws returns make x y e k t z go over fails =
+    let v = target_by k ranges t z in
+    let rest = settle_by k l ranges t z in
+    run_one l ws returns (make v) rest x y go (fails v (λ c. returns rest)) ∙ run_over l ws returns rest y e over
+
+-- Both have ended.
+pub ended_meets : {M : Type 0} (l : Listing) (ranges : List Varnode) (look : M → Bytes) (next : Place) (s : State M)
+    (x : Local) (e : End)
+    → Sees l ranges look s x
+    → Meets l ranges look next (in_world (ended e s.world) s) (ends e x)
+ended_meets l ranges look next s x e sees = record {
+  sees = record {
+    world = ap (ended e) sees.world;
+    holds = sees.holds;
+    bytes = sees.bytes;
+    memory = sees.memory;
+    answers = sees.answers;
+  };
+  at = λ g. absurd (cc);
+}
+
+-- The variable that is assigned for a range has the range's width.
+pub target_wide : (l : Listing) (ranges : List Varnode) (ws : ℕ → ℕ) (t : ℕ) (z : Varnode) (ps : List Piece)
+    → Setting l ranges ws
+    → IsNarrow z
+    → IsRow ranges z.space z.offset ps (z.offset + z.size)
+    → AreWide ws t (local_for ps z)
+    → ws (words.target_by t ps) ≡ z.size
+target_wide l ranges ws t z [] set narrow row wide = wide.0 ∙ nearest_is z.size narrow.0 narrow.1
+target_wide l ranges ws t z (p ∷ []) set narrow row wide =
+    let size : p.range.size ≡ z.size = omega (arith, row.1) in
+    set.widths p.variable p.range row.0.listed (row.0.some, omega (arith, size, narrow.1)) ∙ size
+target_wide l ranges ws t z (p ∷ q ∷ ps) set narrow row wide = wide.0 ∙ nearest_is z.size narrow.0 narrow.1
+
+-- The statement is carried out in x and leads to y, which sees what s does.
 module _
     {M : Type 0}
     (m : Acts M)
@@ -51,25 +95,13 @@ module _
     (set : Setting l ranges ws)
     (next : Place)
     (s : State M)
-    (x : Local)
+    (x y : Local)
     (go : x.world.over ≡ None)
-    (sees : Sees l ranges look s x)
+    (on : y.world.over ≡ None)
+    (sees : Sees l ranges look s y)
     (returns : List Stmt → Bool)
     (make : ℕ → Stmt)
   where
-    -- the variable that is assigned for a range has the range's width
-    target_wide : (t : ℕ) (z : Varnode)
-        → IsNarrow z
-        → (ps : List Piece)
-        → IsRow ranges z.space z.offset ps (z.offset + z.size)
-        → AreWide ws t (local_for ps z)
-        → ws (target_by t ps) ≡ z.size
-    target_wide t z narrow [] row wide = wide.0 ∙ nearest_is z.size narrow.0 narrow.1
-    target_wide t z narrow (p ∷ []) row wide =
-        let size : p.range.size ≡ z.size = omega (arith, row.1) in
-        set.widths p.variable p.range row.0.listed (row.0.some, omega (arith, size, narrow.1)) ∙ size
-    target_wide t z narrow (p ∷ q ∷ ps) row wide = wide.0 ∙ nearest_is z.size narrow.0 narrow.1
-
     -- a range of variables
     range_meets : (t : ℕ) (z : Varnode) (n : ℕ)
         → IsNarrow z
@@ -77,7 +109,7 @@ module _
         → n < limit z.size
         → length ranges ≤ t
         → AreWide ws t (local_for (cover ranges z) z)
-        → Makes l ws make z.size n x
+        → Makes l ws make z.size n x y
         → (let there : State M = record { at = next; local = with_word l z n s.local; world = s.world } in
         Meets l ranges look next there
         (run_all l ws returns (make (target ranges t z) ∷ write_range (is_big l z.space) ranges z t) x))
@@ -85,17 +117,18 @@ module _
         let v = target ranges t z in
         let parts = write_range (is_big l z.space) ranges z t in
         let there : State M = record { at = next; local = with_word l z n s.local; world = s.world } in
-        let width = target_wide t z narrow (cover ranges z) h wide in
-        let ran = run_one l ws returns (make v) parts x (assigned v n x) go (makes v (λ c. returns parts) width) in
-        let wrote = write_wrote l ranges set.table ws returns z narrow.0 narrow.1 n below t s.local x h
-        (slice_get_past ranges t behind) width sees.holds go in
-        let P : Local → Type 0 = λ y. Meets l ranges look next there y in
+        let width = target_wide l ranges ws t z (cover ranges z) set narrow h wide in
+        let ran = run_one l ws returns (make v) parts x (assigned v n y) go (makes v (λ c. returns parts) width) in
+        let wrote = write_wrote l ranges set.table ws returns z narrow.0 narrow.1 n below t s.local y h
+        (slice_get_past ranges t behind) width sees.holds on in
+        let P : Local → Type 0 = λ u. Meets l ranges look next there u in
         subst P (sym ran) (record {
           sees = record {
             world = sees.world ∙ sym wrote.world;
             holds = wrote.holds;
             bytes = bytes_written l z n s.local sees.bytes;
             memory = sees.memory;
+            answers = sees.answers;
           };
           at = λ _. refl;
         })
@@ -106,27 +139,27 @@ module _
         → IsDirect l z
         → length ranges ≤ t
         → ws t ≡ z.size
-        → Makes l ws make z.size n x
+        → Makes l ws make z.size n x y
         → Meets l ranges look next
         (in_world (store m z.space z.offset (bytes_in l z.space z.size n) s.world) (moved next s))
         (run_all l ws returns (make t ∷ S.Store (name_of l z.space) (address_of l z) (E.Var t) ∷ []) x)
     memory_meets t z n narrow h behind wide makes =
         let to = S.Store (name_of l z.space) (address_of l z) (E.Var t) in
-        let y : Local = assigned t n x in
-        let w : Local = code.in_world (store (plain l) z.space z.offset (bytes_in l z.space z.size n) y.world) y in
-        let held : Means ws y.env (E.Var t) z.size n = record {
+        let u : Local = assigned t n y in
+        let w : Local = code.in_world (store (plain l) z.space z.offset (bytes_in l z.space z.size n) u.world) u in
+        let held : Means ws u.env (E.Var t) z.size n = record {
           width = width_of_var ws t ∙ wide;
-          value = value_of_var ws y.env t ∙ put_at x.env t (Some n);
+          value = value_of_var ws u.env t ∙ put_at y.env t (Some n);
         } in
-        let first = run_one l ws returns (make t) (to ∷ []) x y go (makes t (λ c. returns (to ∷ [])) wide) in
-        let second = run_one l ws returns to [] y w go
-        (store_runs l ws (λ c. returns []) z.space h.0 z.size n z.offset (address_of l z) (E.Var t) y
-        (direct_points ws y.env l z h) held) in
+        let first = run_one l ws returns (make t) (to ∷ []) x u go (makes t (λ c. returns (to ∷ [])) wide) in
+        let second = run_one l ws returns to [] u w on
+        (store_runs l ws (λ c. returns []) z.space h.0 z.size n z.offset (address_of l z) (E.Var t) u
+        (direct_points ws u.env l z h) held) in
         let P : Local → Type 0 = λ u. Meets l ranges look next
         (in_world (store m z.space z.offset (bytes_in l z.space z.size n) s.world) (moved next s)) u in
         subst P (sym (first ∙ second))
-        (store_meets m l look is ranges next z.space z.offset z.size n s y
-        (sees_local l ranges look s x t n behind sees))
+        (store_meets m l look is ranges next z.space z.offset z.size n s u
+        (sees_local l ranges look s y t n behind sees))
 
     -- A word is written to an output.
     pub set_meets : (k : SpaceKind) (t : ℕ) (z : Varnode) (n : ℕ)
@@ -135,7 +168,7 @@ module _
         → n < limit z.size
         → length ranges ≤ t
         → AreWide ws t (set_by k l ranges t z make).locals
-        → Makes l ws make z.size n x
+        → Makes l ws make z.size n x y
         → Meets l ranges look next (write_varnode m l k z n (moved next s))
         (run_all l ws returns (set_by k l ranges t z make).statements x)
     set_meets Constant t z n narrow h below behind wide makes = absurd h
@@ -143,41 +176,3 @@ module _
         memory_meets t z n narrow h behind (wide.0 ∙ nearest_is z.size narrow.0 narrow.1) makes
     set_meets Register t z n narrow h below behind wide makes = range_meets t z n narrow h below behind wide makes
     set_meets Unique t z n narrow h below behind wide makes = range_meets t z n narrow h below behind wide makes
-
-    ended_meets : (e : End) → Meets l ranges look next (in_world (ended e s.world) s) (ends e x)
-    ended_meets e = record {
-      sees = record {
-        world = ap (ended e) sees.world;
-        holds = sees.holds;
-        bytes = sees.bytes;
-        memory = sees.memory;
-      };
-      at = λ g. absurd (cc);
-    }
-
-    fails_first : (e : End) (v : ℕ) (rest : List Stmt)
-        → Fails l ws make e x
-        → Meets l ranges look next (in_world (ended e s.world) s) (run_all l ws returns (make v ∷ rest) x)
-    fails_first e v rest fails =
-        let ran = run_one l ws returns (make v) rest x (ends e x) go (fails v (λ c. returns rest))
-        ∙ run_over l ws returns rest (ends e x) e refl in
-        let P : Local → Type 0 = λ y. Meets l ranges look next (in_world (ended e s.world) s) y in
-        subst P (sym ran) (ended_meets e)
-
-    range_fails : (t : ℕ) (z : Varnode) (e : End)
-        → Fails l ws make e x
-        → Meets l ranges look next (in_world (ended e s.world) s)
-        (run_all l ws returns (make (target ranges t z) ∷ write_range (is_big l z.space) ranges z t) x)
-    range_fails t z e fails =
-        fails_first e (target ranges t z) (write_range (is_big l z.space) ranges z t) fails
-
-    -- Both end before an output is written.
-    pub fail_meets : (k : SpaceKind) (t : ℕ) (z : Varnode) (e : End)
-        → Fails l ws make e x
-        → Meets l ranges look next (in_world (ended e s.world) s)
-        (run_all l ws returns (set_by k l ranges t z make).statements x)
-    fail_meets Constant t z e fails = range_fails t z e fails
-    fail_meets Ram t z e fails =
-        fails_first e t (S.Store (name_of l z.space) (address_of l z) (E.Var t) ∷ []) fails
-    fail_meets Register t z e fails = range_fails t z e fails
-    fail_meets Unique t z e fails = range_fails t z e fails

@@ -1,7 +1,7 @@
 -- What a step of the listing does, by the words that its op reads.
-use Rattle.std.proofs.Common.{◌≡◌, ◌≢◌, ℕ, List, [], ◌∷◌, Option, Some, None, ap, ◌∙◌}
+use Rattle.std.proofs.Common.{◌≡◌, ◌≢◌, ℕ, true, List, [], ◌∷◌, Option, Some, None, ap, ◌∙◌}
 use Rattle.std.specs.Prelude.{Ok}
-use Rattle.machine.specs.Trace.{DivZero}
+use Rattle.machine.specs.Trace.{DivZero, Call, Other}
 use Rattle.bits_core.specs.declared.ops.Unary.{Unary}
 use Rattle.bits_core.specs.declared.ops.Binary.{Binary}
 use Rattle.bits_core.specs.declared.ops.Divide.{Divide}
@@ -16,8 +16,8 @@ use Rattle.pcode_model.specs.declared.opcode.Opcode.TheVariants as O
 use Rattle.pcode_model.specs.Places.{Does, next_place}
 use Rattle.pcode_model.specs.Spaces.{kind_of}
 use Rattle.pcode_model.specs.Memory.{Acts, Bytes, Frame}
-use Rattle.pcode_model.specs.World.{ended, store}
-use Rattle.pcode_model.specs.Step.{State, all_read, apply, as_word, byte_address, bytes_in, divided, effect_at, fetched, in_world, moved, put_at, read_all, read_at, step_at, word_in_bytes, write_varnode}
+use Rattle.pcode_model.specs.World.{ended, recorded, store, take_answer}
+use Rattle.pcode_model.specs.Step.{State, all_read, apply, as_word, asked, byte_address, bytes_in, callee_at, called, divided, effect_at, fetched, in_world, moved, operands, proto_of, put_at, read_all, read_at, returns, step_at, word_in_bytes, write_varnode}
 use Rattle.pcode_laws.specs.AsBytes.{AsBytes}
 use Rattle.op_code.proofs.Access.{read_is}
 
@@ -90,3 +90,28 @@ module _ {M : Type 0} (m : Acts M) (l : Listing) (f : Frame) (i : Instruction) (
       ∙ ap (λ own. fetched m l (Some z) (as_word l t.offset (read_at m own t.offset at z.size s.world.memory))
       (moved next s)) free
       ∙ ap (λ r. fetched m l (Some z) r (moved next s)) (read_is m l look is t.offset at z.size s.world.memory)
+
+  -- a call of an address
+  pub call_step : (to : Varnode) (ns : List ℕ)
+      → read_all m l f s (operands l O.Call (to ∷ [])) ≡ Ok ns
+      → step_at m l f (Does i (op_of O.Call None (to ∷ []))) s
+      ≡ called m l (proto_of l (callee_at l to.offset)) (returns (callee_at l to.offset))
+      (in_world (recorded (Call to.offset ns) s.world) (moved (next_place i s.at.index) s))
+  call_step to ns read =
+      ap (λ r. apply m l (next_place i s.at.index) (effect_at l f i (op_of O.Call None (to ∷ [])) r s) s) read
+
+  -- and of a word
+  pub indirect_step : (to : Varnode) (a : ℕ) (ns : List ℕ)
+      → read_all m l f s (operands l O.CallInd (to ∷ [])) ≡ Ok (a ∷ ns)
+      → step_at m l f (Does i (op_of O.CallInd None (to ∷ []))) s
+      ≡ called m l (proto_of l None) true
+      (in_world (recorded (Call a ns) s.world) (moved (next_place i s.at.index) s))
+  indirect_step to a ns read =
+      ap (λ r. apply m l (next_place i s.at.index) (effect_at l f i (op_of O.CallInd None (to ∷ [])) r s) s) read
+
+  pub other_step : (out : Option Varnode) (index : Varnode) (vs : List Varnode) (ns : List ℕ)
+      → read_all m l f s (all_read vs) ≡ Ok ns
+      → step_at m l f (Does i (op_of O.CallOther out (index ∷ vs))) s
+      ≡ asked m l out (take_answer m (recorded (Other index.offset ns) s.world)) (moved (next_place i s.at.index) s)
+  other_step out index vs ns read =
+      ap (λ r. apply m l (next_place i s.at.index) (effect_at l f i (op_of O.CallOther out (index ∷ vs)) r s) s) read

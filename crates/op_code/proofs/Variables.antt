@@ -1,5 +1,5 @@
 -- The variables of the plain lowering: those of the atoms, and the locals that stand behind them.
-use Rattle.std.proofs.Common.{◌≡◌, ℕ, zero, suc, ◌<◌, ◌≤◌, List, [], ◌∷◌, ◌++◌, length, drop, map, Some, refl, sym, ap, ◌∙◌}
+use Rattle.std.proofs.Common.{◌≡◌, ℕ, zero, suc, ◌<◌, ◌≤◌, List, [], ◌∷◌, ◌++◌, length, drop, map, Some, refl, sym, ap, ◌∙◌, subst}
 use Rattle.std.specs.Prelude.{slice_get}
 use Rattle.std.specs.Option.{option_map}
 use Rattle.std.proofs.Math.Seq.{drop-append_seam}
@@ -63,6 +63,18 @@ widths_are l atoms locals all n v e narrow =
     ap width_in (variable_get atoms locals n r.atom r.get) ∙ nearest_is (r.atom).size r.narrow.0 r.narrow.1
     ∙ sym (range_size l (r.atom).storage (r.atom).size) ∙ ap (λ (w : Varnode). w.size) r.range
 
+ranges_narrow : (l : Listing) (atoms : List Atom)
+    → AreNarrow atoms
+    → (n : ℕ) (v : Varnode)
+    → slice_get (ranges_of l atoms) n ≡ Some v
+    → IsNarrow v
+ranges_narrow l atoms all n v e =
+    let r = atom_at l atoms n v all e in
+    let size : (r.atom).size ≡ v.size = sym (range_size l (r.atom).storage (r.atom).size)
+    ∙ ap (λ (w : Varnode). w.size) r.range in
+    let P : ℕ → Type 0 = λ k. (0 < k) × (k ≤ 16) in
+    subst P size r.narrow
+
 -- the variables that stand from a number on have their widths
 wide_from : (vs ys : List Variable) (n : ℕ) → drop n vs ≡ ys → AreWide (widths vs) n ys
 wide_from vs [] n e = tt
@@ -84,4 +96,8 @@ module _ (l : Listing) (blocks : List flow_block.Block) (atoms : List Atom) wher
   pub variables_set : (t : List TableAt)
       → IsLowerable l t blocks atoms
       → Setting l (ranges_of l atoms) (widths (lowered l blocks atoms).variables)
-  variables_set t form = record { table = form.table; widths = widths_are l atoms locals_made form.narrow }
+  variables_set t form = record {
+    table = form.table;
+    narrow = ranges_narrow l atoms form.narrow;
+    widths = widths_are l atoms locals_made form.narrow;
+  }

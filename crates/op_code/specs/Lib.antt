@@ -12,3 +12,4 @@ pub mod Lowerable
 pub mod Worked
 pub mod WorkedBlocks
 pub mod WorkedSeveral
+pub mod WorkedCalls

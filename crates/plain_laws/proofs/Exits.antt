@@ -2,7 +2,7 @@
 use Rattle.std.proofs.Common.{◌≡◌, ℕ, zero, suc, ◌≤◌, Bool, true, false, List, [], ◌∷◌, ◌++◌, length, Option, Some, None, refl, sym, ap, ◌∙◌, subst, append-nil, arith}
 use Rattle.std.specs.Prelude.{Ok, slice_get, ◌==◌, cond, if◌then◌else◌}
 use Rattle.std.proofs.lemmas.Bool.Decides.{nat_tests}
-use Rattle.machine.specs.Trace.{End, Returned}
+use Rattle.machine.specs.Trace.{End, NoReturn, Returned}
 use Rattle.pcode_model.specs.declared.listing.SpaceKind.{SpaceKind}
 use Rattle.pcode_model.specs.declared.listing.SpaceKind.TheVariants.{Constant, Ram, Register, Unique}
 use Rattle.pcode_model.specs.declared.listing.Varnode.{Varnode}
@@ -19,8 +19,9 @@ use Rattle.pcode_model.specs.Spaces.{kind_of}
 use Rattle.pcode_model.specs.Places.{Standing, Nothing, Passes, Does, next_place, branch_place}
 use Rattle.pcode_model.specs.Memory.{Acts, Frame, Bytes}
 use Rattle.pcode_model.specs.World.{ended}
-use Rattle.pcode_model.specs.Step.{State, moved, in_world, local_word, with_first, effect_at, apply, gone, read_varnode, step_at, proto_of, result_of, word_in_bytes}
-use Rattle.pcode_model.specs.Flow.{turn_of, turn_in, next_in, IsStart, JumpsTo, TestsTo, LeavesBy}
+use Rattle.pcode_model.specs.Step.{State, moved, in_world, local_word, with_first, effect_at, apply, callee_at, gone, read_varnode, step_at, proto_of, result_of, word_in_bytes}
+use Rattle.pcode_model.specs.Step.{returns as does_return}
+use Rattle.pcode_model.specs.Flow.{call_turn, turn_of, turn_in, next_in, IsStart, JumpsTo, TestsTo, LeavesBy}
 use Rattle.pcode_laws.specs.AsBytes.{AsBytes}
 use Rattle.cmeaning.specs.declared.tree.Expr.{Expr}
 use Rattle.cmeaning.specs.declared.tree.Stmt.{Stmt}
@@ -29,13 +30,14 @@ use Rattle.cmeaning.specs.Step.{tested}
 use Rattle.cmeaning.specs.Value.{value_of}
 use Rattle.blockcode.specs.declared.code.Exit.{Exit}
 use Rattle.blockcode.specs.declared.code.Exit.TheVariants as X
-use Rattle.blockcode.specs.Run.{CodeState, at, enters, enters_by, returns_with, leave}
+use Rattle.blockcode.specs.Run.{CodeState, call_returns, at, enters, enters_by, returns_with, leave}
 use Rattle.blockcode.proofs.Straight.{run_all}
 use Rattle.op_code.specs.Cover.{HasCover}
 use Rattle.op_code.specs.Made.{read_one}
 use Rattle.op_code.specs.Form.{IsLocalBy, IsOperand, IsPlainOp, IsResult}
 use Rattle.op_code.proofs.Access.{read_is}
 use Rattle.op_code.proofs.Operands.{range_has, reads_by}
+use Rattle.op_code.proofs.Calling.{never_meets}
 use Rattle.op_code.proofs.Ops.{op_meets}
 use Rattle.op_code.proofs.Sees.{AreWide, Meets, Sees, Setting}
 use Rattle.op_code.proofs.Steps.{op_of}
@@ -67,7 +69,7 @@ module _
     (set : Setting l ranges ws)
     (starts : List Place)
   where
-    -- what stands at a place from which the run goes on to the next one
+    -- what stands at a place from which the run goes on to the next one, where a call in front of any statements returns
     pub goes_to : (here : Standing) (q : Place) (s : State M) (x : Local) (n : ℕ)
         → IsPlain l ranges here
         → turn_in l here ≡ GoesOn
@@ -76,18 +78,28 @@ module _
         → Sees l ranges look s x
         → length ranges ≤ n
         → AreWide ws n (made_in l ranges n here).locals
+        → ((ss : List Stmt) → returns ss ≡ true)
         → Meets l ranges look q (step_at m l f here s) (run_all l ws returns (made_in l ranges n here).statements x)
-    goes_to Nothing q s x n h turn next go sees free wide = absurd h
-    goes_to (Passes i) q s x n h turn next go sees free wide = record {
-      sees = record { world = sees.world; holds = sees.holds; bytes = sees.bytes; memory = sees.memory };
+    goes_to Nothing q s x n h turn next go sees free wide all = absurd h
+    goes_to (Passes i) q s x n h turn next go sees free wide all = record {
+      sees = record {
+        world = sees.world;
+        holds = sees.holds;
+        bytes = sees.bytes;
+        memory = sees.memory;
+        answers = sees.answers;
+      };
       at = λ _. cc;
     }
-    goes_to (Does i op) q s x n h turn next go sees free wide =
+    goes_to (Does i op) q s x n h turn next go sees free wide all =
         let met = op_meets m l f look ranges ws is set i s x go (unframed s.at 0) sees n free returns op.code op.out
-        op.inputs h turn wide in
+        op.inputs h turn wide all in
         record { sees = met.sees; at = λ g. let e = met.at g in cc }
 
     -- ---- the ways to leave
+
+    sees_at : (s : State M) (x y : Local) → y ≡ x → Sees l ranges look s x → Sees l ranges look s y
+    sees_at s x y e sees = let P : Local → Type 0 = λ z. Sees l ranges look s z in subst P (sym e) sees
 
     jump_left : (q : Place) (n : ℕ) (s : State M) (u : CodeState)
         → Meets l ranges look q s u.local
@@ -112,6 +124,14 @@ module _
         subst P (sym (leaving.off h (ap (λ w. w.over) (sym met.sees.world) ∙ go)))
         (record { sees = met.sees; at = λ g. absurd (cc) })
 
+    -- a call in front of these statements and this exit returns or doesn't
+    abbrev IsBefore : Exit → Type 0
+    IsBefore e = (ss : List Stmt) → returns ss ≡ call_returns ss e
+
+    jump_returns : (n : ℕ) (ss : List Stmt) → call_returns ss (X.Jump n) ≡ true
+    jump_returns n [] = refl
+    jump_returns n (a ∷ ss) = refl
+
     leaves_on : (here : Standing) (e : flow_exit.Exit) (s : State M) (x : Local) (u v : CodeState) (n k : ℕ)
         → IsPlain l ranges here
         → turn_in l here ≡ GoesOn
@@ -120,27 +140,90 @@ module _
         → Sees l ranges look s x
         → length ranges ≤ n
         → AreWide ws n (made_in l ranges n here).locals
+        → IsBefore (way_out l ranges k here e).exit
         → u.local ≡ run_all l ws returns ((made_in l ranges n here).statements ++ (way_out l ranges k here e).loads) x
         → Leaving ws (way_out l ranges k here e).exit u v
         → Left l ranges look starts (step_at m l f here s) v
-    leaves_on here F.Return s x u v n k h turn jump go sees free wide ran leaving = absurd jump
-    leaves_on here (F.Jump b) s x u v n k h turn jump go sees free wide ran leaving =
+    leaves_on here F.Return s x u v n k h turn jump go sees free wide before ran leaving = absurd jump
+    leaves_on here (F.Jump b) s x u v n k h turn jump go sees free wide before ran leaving =
         let ss = (made_in l ranges n here).statements in
-        let met = goes_to here jump.0 s x n h turn jump.1.0 go sees free wide in
+        let met = goes_to here jump.0 s x n h turn jump.1.0 go sees free wide
+        (λ rest. before rest ∙ jump_returns b rest) in
         let same : u.local ≡ run_all l ws returns ss x = ran ∙ ap (λ xs. run_all l ws returns xs x) (append-nil ss) in
         let P : Local → Type 0 = λ y. Meets l ranges look jump.0 (step_at m l f here s) y in
         jump_by jump.0 b (step_at m l f here s) u v (step_at m l f here s).world.over refl (subst P (sym same) met)
         jump.1.1 leaving
-    leaves_on here (F.Test a b) s x u v n k h turn jump go sees free wide ran leaving = absurd jump
-    leaves_on here (F.Switch t ns) s x u v n k h turn jump go sees free wide ran leaving = absurd jump
-    leaves_on here F.Stop s x u v n k h turn jump go sees free wide ran leaving = absurd jump
+    leaves_on here (F.Test a b) s x u v n k h turn jump go sees free wide before ran leaving = absurd jump
+    leaves_on here (F.Switch t ns) s x u v n k h turn jump go sees free wide before ran leaving = absurd jump
+    leaves_on here F.Stop s x u v n k h turn jump go sees free wide before ran leaving = absurd jump
 
-    sees_at : (s : State M) (x y : Local) → y ≡ x → Sees l ranges look s x → Sees l ranges look s y
-    sees_at s x y e sees = let P : Local → Type 0 = λ z. Sees l ranges look s z in subst P (sym e) sees
+    -- ---- calls
+
+    -- a call of a callee that never returns has ended both runs
+    stop_left : (i : Instruction) (to : Varnode) (e : flow_exit.Exit) (s : State M) (x : Local) (u v : CodeState)
+        (n k : ℕ)
+        → (let here = Does i (op_of O.Call None (to ∷ [])) in
+        let way = way_out l ranges k here e in
+        IsPlainOp l ranges O.Call None (to ∷ [])
+        → does_return (callee_at l to.offset) ≡ false
+        → e ≡ F.Stop
+        → s.world.over ≡ None
+        → Sees l ranges look s x
+        → length ranges ≤ n
+        → AreWide ws n (made_in l ranges n here).locals
+        → IsBefore way.exit
+        → u.local ≡ run_all l ws returns ((made_in l ranges n here).statements ++ way.loads) x
+        → Leaving ws way.exit u v
+        → Left l ranges look starts (step_at m l f here s) v)
+    stop_left i to e s x u v n k h never is_stop go sees free wide before ran leaving =
+        let here = Does i (op_of O.Call None (to ∷ [])) in
+        let t : State M = step_at m l f here s in
+        let ss = (made_in l ranges n here).statements in
+        let B : flow_exit.Exit → Type 0 = λ e. IsBefore (way_out l ranges k here e).exit in
+        let R : flow_exit.Exit → Type 0 =
+        λ e. u.local ≡ run_all l ws returns (ss ++ (way_out l ranges k here e).loads) x in
+        let Q : flow_exit.Exit → Type 0 = λ e. Leaving ws (way_out l ranges k here e).exit u v in
+        let leave' : Leaving ws X.Stop u v = subst Q is_stop leaving in
+        let both = never_meets m l f look ranges ws is set i s x go sees n free returns to h never wide
+        (subst B is_stop before []) in
+        let same : u.local ≡ run_all l ws returns ss x =
+        subst R is_stop ran ∙ ap (λ xs. run_all l ws returns xs x) (append-nil ss) in
+        let there = sees_at t (run_all l ws returns ss x) u.local same both.1.sees in
+        let over : u.local.world.over ≡ Some NoReturn = ap (λ w. w.over) (sym there.world) ∙ both.0 in
+        let P : CodeState → Type 0 = λ w. Left l ranges look starts t w in
+        let ended = both.0 in
+        subst P (sym (leave'.off NoReturn over)) (record { sees = there; at = λ g. absurd (cc) })
+
+    call_left : (i : Instruction) (to : Varnode) (b : Bool) (t : List TableAt) (e : flow_exit.Exit) (s : State M)
+        (x : Local) (u v : CodeState) (n k : ℕ)
+        → (let here = Does i (op_of O.Call None (to ∷ [])) in
+        let way = way_out l ranges k here e in
+        IsPlainOp l ranges O.Call None (to ∷ [])
+        → does_return (callee_at l to.offset) ≡ b
+        → LeavesBy t starts s.at here (call_turn b) e
+        → s.world.over ≡ None
+        → Sees l ranges look s x
+        → length ranges ≤ n
+        → AreWide ws n (made_in l ranges n here).locals
+        → IsBefore way.exit
+        → u.local ≡ run_all l ws returns ((made_in l ranges n here).statements ++ way.loads) x
+        → Leaving ws way.exit u v
+        → Left l ranges look starts (step_at m l f here s) v)
+    call_left i to true t e s x u v n k h returning by go sees free wide before ran leaving =
+        leaves_on (Does i (op_of O.Call None (to ∷ []))) e s x u v n k h (ap call_turn returning) by go sees free wide
+        before ran leaving
+    call_left i to false t e s x u v n k h never by go sees free wide before ran leaving =
+        stop_left i to e s x u v n k h never by go sees free wide before ran leaving
 
     sees_moved : (p : Place) (s : State M) (x : Local) → Sees l ranges look s x → Sees l ranges look (moved p s) x
     sees_moved p s x sees =
-        record { world = sees.world; holds = sees.holds; bytes = sees.bytes; memory = sees.memory }
+        record {
+          world = sees.world;
+          holds = sees.holds;
+          bytes = sees.bytes;
+          memory = sees.memory;
+          answers = sees.answers;
+        }
 
     -- to a place where a block begins
     gone_left : (to : Option Place) (n : ℕ) (s : State M) (u : CodeState)
@@ -310,6 +393,7 @@ module _
             holds = sees.holds;
             bytes = sees.bytes;
             memory = sees.memory;
+            answers = sees.answers;
           };
           at = λ g. absurd (cc);
         })
@@ -370,26 +454,37 @@ module _
         let way = way_out l ranges k here e in
         AreWide ws n (made_in l ranges n here).locals
         → AreWide ws k way.locals
+        → IsBefore way.exit
         → u.local ≡ run_all l ws returns ((made_in l ranges n here).statements ++ way.loads) x
         → Leaving ws way.exit u v
         → Left l ranges look starts (step_at m l f here s) v)
-    leaves_op t i (O.Unary op) out vs e s x u v n k h by go sees free later wide more ran leaving =
-        leaves_on (Does i (op_of (O.Unary op) out vs)) e s x u v n k h refl by go sees free wide ran leaving
-    leaves_op t i (O.Binary op) out vs e s x u v n k h by go sees free later wide more ran leaving =
-        leaves_on (Does i (op_of (O.Binary op) out vs)) e s x u v n k h refl by go sees free wide ran leaving
-    leaves_op t i (O.Divide op) out vs e s x u v n k h by go sees free later wide more ran leaving =
-        leaves_on (Does i (op_of (O.Divide op) out vs)) e s x u v n k h refl by go sees free wide ran leaving
-    leaves_op t i O.Load out vs e s x u v n k h by go sees free later wide more ran leaving =
-        leaves_on (Does i (op_of O.Load out vs)) e s x u v n k h refl by go sees free wide ran leaving
-    leaves_op t i O.Store out vs e s x u v n k h by go sees free later wide more ran leaving =
-        leaves_on (Does i (op_of O.Store out vs)) e s x u v n k h refl by go sees free wide ran leaving
-    leaves_op t i O.Branch None (to ∷ []) e s x u v n k h by go sees free later wide more ran leaving =
+    leaves_op t i (O.Unary op) out vs e s x u v n k h by go sees free later wide more before ran leaving =
+        leaves_on (Does i (op_of (O.Unary op) out vs)) e s x u v n k h refl by go sees free wide before ran leaving
+    leaves_op t i (O.Binary op) out vs e s x u v n k h by go sees free later wide more before ran leaving =
+        leaves_on (Does i (op_of (O.Binary op) out vs)) e s x u v n k h refl by go sees free wide before ran leaving
+    leaves_op t i (O.Divide op) out vs e s x u v n k h by go sees free later wide more before ran leaving =
+        leaves_on (Does i (op_of (O.Divide op) out vs)) e s x u v n k h refl by go sees free wide before ran leaving
+    leaves_op t i O.Load out vs e s x u v n k h by go sees free later wide more before ran leaving =
+        leaves_on (Does i (op_of O.Load out vs)) e s x u v n k h refl by go sees free wide before ran leaving
+    leaves_op t i O.Store out vs e s x u v n k h by go sees free later wide more before ran leaving =
+        leaves_on (Does i (op_of O.Store out vs)) e s x u v n k h refl by go sees free wide before ran leaving
+    leaves_op t i O.Call None (to ∷ []) e s x u v n k h by go sees free later wide more before ran leaving =
+        call_left i to (does_return (callee_at l to.offset)) t e s x u v n k h refl by go sees free wide before ran
+        leaving
+    leaves_op t i O.CallInd out vs e s x u v n k h by go sees free later wide more before ran leaving =
+        leaves_on (Does i (op_of O.CallInd out vs)) e s x u v n k h refl by go sees free wide before ran leaving
+    leaves_op t i O.CallOther out vs e s x u v n k h by go sees free later wide more before ran leaving =
+        leaves_on (Does i (op_of O.CallOther out vs)) e s x u v n k h refl by go sees free wide before ran leaving
+    leaves_op t i O.Branch None (to ∷ []) e s x u v n k h by go sees free later wide more before ran leaving =
         branch_left i to e s x u v (Does i (op_of O.Branch None (to ∷ []))) k by go sees ran leaving
-    leaves_op t i O.CBranch None (to ∷ c ∷ []) e s x u v n k h by go sees free later wide more ran leaving =
+    leaves_op t i O.CBranch None (to ∷ c ∷ []) e s x u v n k h by go sees free later wide more before ran leaving =
         test_left i to c e s x u v k h by go sees later more ran leaving
-    leaves_op t i O.Return None (to ∷ []) e s x u v n k h by go sees free later wide more ran leaving =
+    leaves_op t i O.Return None (to ∷ []) e s x u v n k h by go sees free later wide more before ran leaving =
         return_left i to e s x u v k (Does i (op_of O.Return None (to ∷ []))) h by go sees ran leaving
-    leaves_op t i code out vs e s x u v n k h by go sees free later wide more ran leaving = absurd h
+    leaves_op t i O.Call (Some z) vs e s x u v n k h by go sees free later wide more before ran leaving = absurd h
+    leaves_op t i O.Call None [] e s x u v n k h by go sees free later wide more before ran leaving = absurd h
+    leaves_op t i O.Call None (to ∷ a ∷ vs) e s x u v n k h by go sees free later wide more before ran leaving = absurd h
+    leaves_op t i code out vs e s x u v n k h by go sees free later wide more before ran leaving = absurd h
 
     pub leaves : (t : List TableAt) (here : Standing) (e : flow_exit.Exit) (s : State M) (x : Local)
         (u v : CodeState) (n k : ℕ)
@@ -402,11 +497,12 @@ module _
         → (let way = way_out l ranges k here e in
         AreWide ws n (made_in l ranges n here).locals
         → AreWide ws k way.locals
+        → IsBefore way.exit
         → u.local ≡ run_all l ws returns ((made_in l ranges n here).statements ++ way.loads) x
         → Leaving ws way.exit u v
         → Left l ranges look starts (step_at m l f here s) v)
-    leaves t Nothing e s x u v n k h by go sees free later wide more ran leaving = absurd h
-    leaves t (Passes i) e s x u v n k h by go sees free later wide more ran leaving =
-        leaves_on (Passes i) e s x u v n k h refl by go sees free wide ran leaving
-    leaves t (Does i op) e s x u v n k h by go sees free later wide more ran leaving =
-        leaves_op t i op.code op.out op.inputs e s x u v n k h by go sees free later wide more ran leaving
+    leaves t Nothing e s x u v n k h by go sees free later wide more before ran leaving = absurd h
+    leaves t (Passes i) e s x u v n k h by go sees free later wide more before ran leaving =
+        leaves_on (Passes i) e s x u v n k h refl by go sees free wide before ran leaving
+    leaves t (Does i op) e s x u v n k h by go sees free later wide more before ran leaving =
+        leaves_op t i op.code op.out op.inputs e s x u v n k h by go sees free later wide more before ran leaving

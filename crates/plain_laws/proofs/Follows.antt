@@ -1,32 +1,47 @@
 -- The run of the lowered code shows what the run of the listing shows, place by place.
-use Rattle.std.proofs.Common.{◌≡◌, ℕ, zero, suc, ◌+◌, ◌<◌, ◌≤◌, List, [], ◌∷◌, ◌++◌, length, drop, Option, Some, None, refl, sym, ap, ◌∙◌, subst, append-nil, arith, ◌⊎◌, inl, inr}
-use Rattle.std.specs.Prelude.{slice_get}
+use Rattle.std.proofs.Common.{◌≡◌, ℕ, zero, suc, ◌+◌, ◌<◌, ◌≤◌, Bool, true, false, List, [], ◌∷◌, ◌++◌, length, drop, Option, Some, None, refl, sym, ap, ◌∙◌, subst, append-nil, append_assoc, arith, ◌⊎◌, inl, inr}
+use Rattle.std.specs.Prelude.{◌==◌, cond, slice_get}
 use Rattle.machine.specs.Trace.{End}
 use Rattle.machine.specs.Machine.{after, seen, GoesRanked, RankedSimulates}
 use Rattle.machine.specs.TwoWay.{TwoWay}
 use Rattle.machine.proofs.Machine.{after_more}
 use Rattle.machine.proofs.Ranked.{two_way_ranked}
 use Rattle.pcode_model.specs.declared.listing.Varnode.{Varnode}
+use Rattle.pcode_model.specs.declared.listing.Instruction.{Instruction}
+use Rattle.pcode_model.specs.declared.listing.Op.{Op}
 use Rattle.pcode_model.specs.declared.listing.Place.{Place}
+use Rattle.pcode_model.specs.declared.listing.Proto.{Proto}
 use Rattle.pcode_model.specs.declared.listing.Listing.{Listing}
+use Rattle.pcode_model.specs.declared.opcode.Opcode.{Opcode}
+use Rattle.pcode_model.specs.declared.opcode.Opcode.TheVariants as O
+use Rattle.pcode_model.specs.declared.flow.Turn.{Turn}
+use Rattle.pcode_model.specs.declared.flow.Turn.TheVariants.{GoesOn, Returns, Stops, Branches, Tests, Switches}
 use Rattle.pcode_model.specs.declared.tables.TableAt.{TableAt}
 use Rattle.pcode_model.specs.declared.flow.Exit as flow_exit
+use Rattle.pcode_model.specs.declared.flow.Exit.TheVariants as F
 use Rattle.pcode_model.specs.declared.flow.Block as flow_block
-use Rattle.pcode_model.specs.Places.{standing}
+use Rattle.pcode_model.specs.Places.{Standing, Nothing, Passes, Does, next_instruction, standing}
 use Rattle.pcode_model.specs.Memory.{Acts, Frame, Bytes}
 use Rattle.pcode_model.specs.World.{shown, unless_over}
-use Rattle.pcode_model.specs.Step.{State, step_at, step, machine}
-use Rattle.pcode_model.specs.Flow.{IsIn, IsFlow, Reached, RunsBlock, AllRun, starts_of, places_of, first_in}
+use Rattle.pcode_model.specs.Step.{State, callee_at, machine, proto_of, returns, step, step_at, varnode_at}
+use Rattle.pcode_model.specs.Flow.{IsIn, IsFlow, JumpsTo, LeavesBy, Reached, RunsBlock, call_turn, turn_in, turn_of, AllRun, starts_of, places_of, first_in}
 use Rattle.pcode_laws.specs.AsBytes.{AsBytes}
 use Rattle.pcode_laws.proofs.Grows.{pcode_grows}
+use Rattle.cmeaning.specs.declared.tree.Expr.{Expr}
+use Rattle.cmeaning.specs.declared.tree.Stmt.{Stmt}
+use Rattle.cmeaning.specs.declared.tree.Stmt.TheVariants as S
 use Rattle.cmeaning.specs.Do.{Local}
+use Rattle.blockcode.specs.declared.code.Exit.{Exit}
+use Rattle.blockcode.specs.declared.code.Exit.TheVariants as X
 use Rattle.blockcode.specs.declared.code.Block.{Block}
 use Rattle.blockcode.specs.declared.code.Code.{Code}
-use Rattle.blockcode.specs.Run.{CodeState, widths, leave, code_step, code_machine}
+use Rattle.blockcode.specs.Run.{CodeState, call_returns, widths, leave, code_step, code_machine}
 use Rattle.blockcode.proofs.Grows.{code_grows}
 use Rattle.blockcode.proofs.Straight.{step_in, still, Stands, arrives, returns_in}
 use Rattle.op_code.proofs.Sees.{AreWide, Sees, Setting, wide_back, wide_front}
-use Rattle.op_code.specs.Lowered.{block_made, blocks_made, place_made, places_made, way_out}
+use Rattle.op_code.specs.Form.{IsPlainOp}
+use Rattle.op_code.specs.Made.{ReadOne, call_made, op_made, passed}
+use Rattle.op_code.specs.Lowered.{block_made, blocks_made, condition_in, directly, made_in, place_made, places_made, result, tests, way_out}
 use Rattle.op_code.specs.Lowerable.{IsPlain, IsUnframed}
 use Rattle.plain_laws.proofs.Exits.{Left, Leaving, goes_to, leaves}
 use Rattle.pcode_model.proofs.Members.{in_front, behind}
@@ -116,6 +131,136 @@ made_at l ranges ws (x ∷ blocks) first (suc n) b e wide =
     let rest = (blocks_made l ranges (first + length locals) blocks).locals in
     let r = made_at l ranges ws blocks (first + length locals) n b e (wide_back ws first locals rest wide) in
     record { next = r.next; later = omega (arith, r.later); get = r.get; wide = r.wide }
+
+-- ---- calls
+
+-- In front of a statement, or of another exit than Stop, a call returns.
+some_returns : (zs : List Stmt) (e : Exit) → (zs ≡ [] → ⊥) → call_returns zs e ≡ true
+some_returns [] e some = absurd (some refl)
+some_returns (a ∷ zs) e some = refl
+
+-- It isn't the last thing of its block.
+abbrev GoesBehind : List Stmt → Exit → Type 0
+GoesBehind body e = (ss : List Stmt) → call_returns (ss ++ body) e ≡ true
+
+in_it : (xs ys : List Stmt) (a : Stmt) (ss : List Stmt) → ss ++ (xs ++ a ∷ ys) ≡ [] → ⊥
+in_it [] ys a [] e = absurd (cc)
+in_it (x ∷ xs) ys a [] e = absurd (cc)
+in_it xs ys a (s ∷ ss) e = absurd (cc)
+
+return_behind : (o : Option Expr) (zs : List Stmt) → call_returns zs (X.Return o) ≡ true
+return_behind o [] = refl
+return_behind o (a ∷ zs) = refl
+
+jump_behind : (n : ℕ) (zs : List Stmt) → call_returns zs (X.Jump n) ≡ true
+jump_behind n [] = refl
+jump_behind n (a ∷ zs) = refl
+
+test_behind : (c : ReadOne) (m n : ℕ) (same : Bool) (zs : List Stmt)
+    → call_returns zs (cond same (directly (X.Jump m)) (tests c m n)).exit ≡ true
+test_behind c m n true [] = refl
+test_behind c m n true (a ∷ zs) = refl
+test_behind c m n false [] = refl
+test_behind c m n false (a ∷ zs) = refl
+
+module _ (l : Listing) (ranges : List Varnode) where
+  switches_none : (code : Opcode) (out : Option Varnode) (vs : List Varnode)
+      → IsPlainOp l ranges code out vs
+      → turn_of l code vs ≡ Switches
+      → ⊥
+  switches_none O.BranchInd out vs h turn = absurd h
+  switches_none O.Call out vs h turn = by (returns (callee_at l (varnode_at vs 0).offset)) turn
+    where
+      by : (b : Bool) → call_turn b ≡ Switches → ⊥
+      by true e = absurd (cc)
+      by false e = absurd (cc)
+  switches_none code out vs h turn = absurd (cc)
+
+  -- a call of a callee that never returns is a statement
+  call_some : (b : Bool) (next address : ℕ) (p : Proto) (way : List Stmt) (ss : List Stmt)
+      → call_turn b ≡ Stops
+      → ss ++ ((call_made b l ranges next address p).statements ++ way) ≡ []
+      → ⊥
+  call_some true next address p way ss turn e = absurd (cc)
+  call_some false next address p way ss turn e =
+      let r = passed l ranges next p in
+      in_it r.loads way (S.Call None address r.words) ss
+      (ap (λ zs. ss ++ zs) (sym (append_assoc r.loads (S.Call None address r.words ∷ []) way)) ∙ e)
+
+  stops_some : (next : ℕ) (code : Opcode) (out : Option Varnode) (vs : List Varnode) (way : List Stmt) (ss : List Stmt)
+      → IsPlainOp l ranges code out vs
+      → turn_of l code vs ≡ Stops
+      → ss ++ ((op_made l ranges next code out vs).statements ++ way) ≡ []
+      → ⊥
+  stops_some next O.Call out vs way ss h turn e =
+      let a = (varnode_at vs 0).offset in
+      call_some (returns (callee_at l a)) next a (proto_of l (callee_at l a)) way ss turn e
+  stops_some next O.BranchInd out vs way ss h turn e = absurd h
+  stops_some next code out vs way ss h turn e = absurd (cc)
+
+  -- what stands for the last place
+  last_by : (t : List TableAt) (starts : List Place) (p : Place) (next k : ℕ) (i : Instruction) (op : Op) (turn : Turn)
+      (e : flow_exit.Exit)
+      → IsPlainOp l ranges op.code op.out op.inputs
+      → turn_of l op.code op.inputs ≡ turn
+      → LeavesBy t starts p (Does i op) turn e
+      → (let way = way_out l ranges k (Does i op) e in
+      GoesBehind ((op_made l ranges next op.code op.out op.inputs).statements ++ way.loads) way.exit)
+  last_by t starts p next k i op turn F.Return h is by ss = return_behind (result l ranges) (ss ++ _)
+  last_by t starts p next k i op turn (F.Jump n) h is by ss = jump_behind n (ss ++ _)
+  last_by t starts p next k i op turn (F.Test m n) h is by ss =
+      test_behind (condition_in l ranges k (Does i op)) m n (m == n) (ss ++ _)
+  last_by t starts p next k i op Switches (F.Switch table ns) h is by ss =
+      absurd (switches_none op.code op.out op.inputs h is)
+  last_by t starts p next k i op GoesOn (F.Switch table ns) h is by ss = absurd by
+  last_by t starts p next k i op Returns (F.Switch table ns) h is by ss = absurd (cc)
+  last_by t starts p next k i op Stops (F.Switch table ns) h is by ss = absurd (cc)
+  last_by t starts p next k i op (Branches to) (F.Switch table ns) h is by ss = absurd by
+  last_by t starts p next k i op (Tests to) (F.Switch table ns) h is by ss = absurd by
+  last_by t starts p next k i op Switches F.Stop h is by ss = absurd (switches_none op.code op.out op.inputs h is)
+  last_by t starts p next k i op GoesOn F.Stop h is by ss = absurd by
+  last_by t starts p next k i op Returns F.Stop h is by ss = absurd (cc)
+  last_by t starts p next k i op Stops F.Stop h is by ss =
+      some_returns (ss ++ ((op_made l ranges next op.code op.out op.inputs).statements ++ [])) X.Stop
+      (stops_some next op.code op.out op.inputs [] ss h is)
+  last_by t starts p next k i op (Branches to) F.Stop h is by ss = absurd by
+  last_by t starts p next k i op (Tests to) F.Stop h is by ss = absurd by
+
+  passes_by : (to : Option Place) (starts : List Place) (k : ℕ) (i : Instruction) (e : flow_exit.Exit)
+      → JumpsTo starts to e
+      → (let way = way_out l ranges k (Passes i) e in GoesBehind ([] ++ way.loads) way.exit)
+  passes_by to starts k i F.Return jump ss = absurd jump
+  passes_by to starts k i (F.Jump n) jump ss = jump_behind n (ss ++ [])
+  passes_by to starts k i (F.Test m n) jump ss = absurd jump
+  passes_by to starts k i (F.Switch table ns) jump ss = absurd jump
+  passes_by to starts k i F.Stop jump ss = absurd jump
+
+  last_behind : (t : List TableAt) (starts : List Place) (p : Place) (next k : ℕ) (here : Standing)
+      (e : flow_exit.Exit)
+      → IsPlain l ranges here
+      → LeavesBy t starts p here (turn_in l here) e
+      → (let way = way_out l ranges k here e in
+      GoesBehind ((made_in l ranges next here).statements ++ way.loads) way.exit)
+  last_behind t starts p next k Nothing e h by = absurd h
+  last_behind t starts p next k (Passes i) e h by = passes_by (Some (next_instruction i)) starts k i e by
+  last_behind t starts p next k (Does i op) e h by =
+      last_by t starts p next k i op (turn_of l op.code op.inputs) e h refl by
+
+  -- In front of further places of its block a call returns.
+  places_behind : (t : List TableAt) (starts : List Place) (next : ℕ) (q : Place) (others : List Place)
+      (e : flow_exit.Exit)
+      → RunsBlock l t starts (q ∷ others) e
+      → ((p : Place) → IsIn p (q ∷ others) → IsPlain l ranges (standing l p))
+      → (let made = places_made l ranges next (q ∷ others) e in GoesBehind made.block.body made.block.exit)
+  places_behind t starts next q [] e runs plain ss =
+      let k = next + length (place_made l ranges next q).locals in
+      last_behind t starts q next k (standing l q) e (plain q (inl refl)) runs ss
+  places_behind t starts next q (r ∷ others) e runs plain ss =
+      let here = place_made l ranges next q in
+      let rest = places_made l ranges (next + length here.locals) (r ∷ others) e in
+      ap (λ zs. call_returns zs rest.block.exit) (sym (append_assoc ss here.statements rest.block.body))
+      ∙ places_behind t starts (next + length here.locals) r others e runs.1 (λ p is. plain p (inr is))
+      (ss ++ here.statements)
 
 -- ---- what is related
 
@@ -239,7 +384,9 @@ module _
         let there = arrives l k b rest.block.body ss u here in
         let met = goes_to m l f look ranges ws (returns_in b rest.block.body) is unframed given.setting
         (starts_of blocks) (standing l s.at) q s u.local next (plain s.at (inl refl)) runs.0.goes_on runs.0.next go
-        sees free (wide_front ws next made.locals rest.locals wide) in
+        sees free (wide_front ws next made.locals rest.locals wide)
+        (λ zs. ap (call_returns (zs ++ rest.block.body)) exit_is
+        ∙ places_behind l ranges t (starts_of blocks) next' q others exit runs.1 (λ p h. plain p (inr h)) zs) in
         let P : Local → Type 0 = λ x. Sees l ranges look s' x in
         let sees' : Sees l ranges look s' u'.local = subst P (sym there.local) met.sees in
         let rel : Related (length others) s' u' = record {
@@ -298,8 +445,8 @@ module _
         } in
         let left = leaves m l f look ranges ws (returns_in b []) is unframed given.setting (starts_of blocks) t
         (standing l s.at) exit s u.local u1 u' next next' plain runs go sees free (omega (arith, free))
-        (wide_front ws next made.locals way.locals wide) (wide_back ws next made.locals way.locals wide) there.local
-        leaving in
+        (wide_front ws next made.locals way.locals wide) (wide_back ws next made.locals way.locals wide)
+        (λ zs. ap (λ xs. call_returns xs b.exit) (append-nil zs) ∙ ap (call_returns zs) exit_is) there.local leaving in
         let rel = relates s' u' s'.world.over refl left in
         goes_on n s s' u u' (length ss + 1) rel.0 (stepped s go) (sym (after_more (code_step l k) u (length ss) 1))
         (inl (omega arith)) rel.1

@@ -79,6 +79,7 @@ keeps m look l f t blocks atoms e w form entry as_bytes unframed is =
         holds = starts_held l e atoms (locals_made l blocks atoms) form.narrow;
         bytes = entry.bytes;
         memory = subst P (sym is) entry.bytes;
+        answers = entry.answers;
       };
       at = λ g. (refl, entry_found l t blocks form.flow);
     } in

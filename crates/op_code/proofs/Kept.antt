@@ -1,0 +1,154 @@
+-- The bytes of registers after a call, range by range.
+use Rattle.std.proofs.Common.{◌≡◌, ◌≢◌, ℕ, zero, suc, ◌+◌, ◌<◌, ◌≤◌, Bool, true, false, List, [], ◌∷◌, length, None, refl, sym, ap, ◌∙◌, ◌⊎◌, inl, inr, ⊎_elim, arith}
+use Rattle.std.specs.Prelude.{◌==◌, cond, if◌then◌else◌}
+use Rattle.std.proofs.Math.Path.{fun_ext}
+use Rattle.std.proofs.lemmas.Bool.{cases_eq, cases_lt}
+use Rattle.std.proofs.lemmas.Bool.Decides.{nat_tests}
+use Rattle.bits_core.specs.Bytes.{word_of}
+use Rattle.laws.proofs.Bytes.{length-word_bytes}
+use Rattle.pcode_model.specs.declared.listing.Varnode.{Varnode}
+use Rattle.pcode_model.specs.declared.listing.Proto.{Proto}
+use Rattle.pcode_model.specs.declared.listing.Listing.{Listing}
+use Rattle.pcode_model.specs.Spaces.{bytes_at, each_at, is_big, next, put_in, register_space, size_of}
+use Rattle.pcode_model.specs.Memory.{Bytes}
+use Rattle.pcode_model.specs.World.{Answer}
+use Rattle.pcode_model.specs.Step.{after_call, after_callee, bytes_in, in_option, in_some, local_word, with_pop, with_result, with_word}
+use Rattle.pcode_laws.proofs.Puts.{IsOther, next_within, put_in_at, put_in_else}
+use Rattle.range_words.specs.Ranges.{AreBytes, IsInside}
+use Rattle.range_words.proofs.Written.{IsOff}
+
+-- ---- bytes that are the same in a range
+
+-- the same at so many offsets from one on
+pub same_bytes : (size : ℕ) (f g : ℕ → ℕ) (o k : ℕ)
+    → o + k ≤ size
+    → ((p : ℕ) → o ≤ p → p < o + k → f p ≡ g p)
+    → bytes_at size f o k ≡ bytes_at size g o k
+same_bytes size f g o zero within same = refl
+same_bytes size f g o (suc zero) within same = ap (λ b. b ∷ []) (same o (omega arith) (omega arith))
+same_bytes size f g o (suc (suc k)) within same =
+    let n : next size o ≡ suc o = next_within size o (omega (arith, within)) in
+    ap (λ b. b ∷ bytes_at size f (next size o) (suc k)) (same o (omega arith) (omega arith))
+    ∙ ap (λ x. g o ∷ bytes_at size f x (suc k)) n
+    ∙ ap (λ bs. g o ∷ bs) (same_bytes size f g (suc o) (suc k) (omega (arith, within))
+    (λ p from to. same p (omega (arith, from)) (omega (arith, to))))
+    ∙ ap (λ x. g o ∷ bytes_at size g x (suc k)) (sym n)
+
+-- the bytes of a range have its word
+pub same_word : (l : Listing) (v : Varnode) (m n : Bytes)
+    → IsInside l v
+    → ((p : ℕ) → v.offset ≤ p → p < v.offset + v.size → m v.space p ≡ n v.space p)
+    → local_word l v m ≡ local_word l v n
+same_word l v m n inside same =
+    ap (word_of (is_big l v.space)) (same_bytes (size_of l v.space) (m v.space) (n v.space) v.offset v.size inside same)
+
+-- Where bytes are the same but in a range, they are the same once it is written.
+module _ (size s : ℕ) where
+  one_written : (o b : ℕ) (m n : Bytes) (t p : ℕ)
+      → (IsOther s o t p → m t p ≡ n t p)
+      → put_in s o b m t p ≡ put_in s o b n t p
+  one_written o b m n t p same = ⊎_elim
+      (λ (at : t ≡ s). ⊎_elim
+      (λ (here : p ≡ o).
+      ap (λ x. put_in s o b m x p) at ∙ ap (λ x. put_in s o b m s x) here ∙ put_in_at s o b m
+      ∙ sym (put_in_at s o b n) ∙ ap (λ x. put_in s o b n s x) (sym here) ∙ ap (λ x. put_in s o b n x p) (sym at))
+      (λ (ne : p ≢ o). put_in_else s o b m t p (inr ne) ∙ same (inr ne) ∙ sym (put_in_else s o b n t p (inr ne)))
+      (cases_eq p o))
+      (λ (ne : t ≢ s). put_in_else s o b m t p (inl ne) ∙ same (inl ne) ∙ sym (put_in_else s o b n t p (inl ne)))
+      (cases_eq t s)
+
+  all_written : (o : ℕ) (bs : List ℕ) (m n : Bytes)
+      → o + length bs ≤ size
+      → ((t p : ℕ) → IsOff s o (length bs) t p → m t p ≡ n t p)
+      → (t p : ℕ)
+      → each_at size (put_in s) o bs m t p ≡ each_at size (put_in s) o bs n t p
+  all_written o [] m n within same t p =
+      same t p (⊎_elim (λ (lt : p < o). inr (inl lt)) (λ (ge : o ≤ p). inr (inr (omega (arith, ge)))) (cases_lt p o))
+  all_written o (b ∷ []) m n within same t p =
+      one_written o b m n t p (λ other. same t p (⊎_elim (λ (ne : t ≢ s). inl ne)
+      (λ (ne : p ≢ o). ⊎_elim (λ (lt : p < o). inr (inl lt)) (λ (ge : o ≤ p). inr (inr (omega (arith, ge, ne))))
+      (cases_lt p o)) other))
+  all_written o (b ∷ c ∷ bs) m n within same t p =
+      let j : next size o ≡ suc o = next_within size o (omega (arith, within)) in
+      ap (λ x. each_at size (put_in s) x (c ∷ bs) (put_in s o b m) t p) j
+      ∙ all_written (suc o) (c ∷ bs) (put_in s o b m) (put_in s o b n) (omega (arith, within))
+      (λ u q off. one_written o b m n u q (λ other. same u q (further u q off other))) t p
+      ∙ ap (λ x. each_at size (put_in s) x (c ∷ bs) (put_in s o b n) t p) (sym j)
+    where
+      further : (u q : ℕ) → IsOff s (suc o) (length (c ∷ bs)) u q → IsOther s o u q → IsOff s o (length (b ∷ c ∷ bs)) u q
+      further u q off other = ⊎_elim
+          (λ (ne : u ≢ s). inl ne)
+          (λ side. ⊎_elim
+          (λ (lt : q < suc o). ⊎_elim
+          (λ (ne : u ≢ s). inl ne)
+          (λ (ne : q ≢ o). inr (inl (omega (arith, lt, ne))))
+          other)
+          (λ (ge : suc o + length (c ∷ bs) ≤ q). inr (inr (omega (arith, ge))))
+          side)
+          off
+
+-- ---- after a call
+
+-- The bytes with others at the register offsets that lie in none of these ranges.
+abbrev pub replaced : Listing → List Varnode → (ℕ → ℕ) → Bytes → Bytes
+replaced l spared r m s o = if s == register_space l then (if in_some spared o then m s o else r o) else m s o
+
+module _ (l : Listing) (spared : List Varnode) (r : ℕ → ℕ) (m : Bytes) where
+  pub replaced_here : (o : ℕ) → in_some spared o ≡ false → replaced l spared r m (register_space l) o ≡ r o
+  replaced_here o out =
+      let s = register_space l in
+      let at : (s == s) ≡ true = grind (arith, nat_tests) in
+      ap (λ b. cond b (cond (in_some spared o) (m s o) (r o)) (m s o)) at
+      ∙ ap (λ b. cond b (m s o) (r o)) out
+
+  pub replaced_in : (s o : ℕ) → in_some spared o ≡ true → replaced l spared r m s o ≡ m s o
+  replaced_in s o within = ap (λ b. cond (s == register_space l) (cond b (m s o) (r o)) (m s o)) within
+      ∙ same_both (s == register_space l)
+    where
+      same_both : (b : Bool) → cond b (m s o) (m s o) ≡ m s o
+      same_both true = refl
+      same_both false = refl
+
+  pub replaced_else : (s o : ℕ) → s ≢ register_space l → replaced l spared r m s o ≡ m s o
+  replaced_else s o ne =
+      let at : (s == register_space l) ≡ false = grind (arith, nat_tests) in
+      ap (λ b. cond b (cond (in_some spared o) (m s o) (r o)) (m s o)) at
+
+  -- they stay bytes
+  pub replaced_bytes : ((o : ℕ) → r o < 256) → AreBytes m → AreBytes (replaced l spared r m)
+  replaced_bytes small are s o = one (s == register_space l) (in_some spared o)
+    where
+      one : (b c : Bool) → cond b (cond c (m s o) (r o)) (m s o) < 256
+      one true true = are s o
+      one true false = small o
+      one false c = are s o
+
+-- Without a stack pointer a call leaves the answer's bytes but for what its prototype keeps, and then its result.
+pub after_is : (l : Listing) (p : Proto) (a : Answer) (m : Bytes)
+    → l.stack ≡ None
+    → after_call l p a m ≡ with_result l p.gives a.word (replaced l p.keep a.registers m)
+after_is l p a m none =
+    ap (λ st. with_pop l st p.pop (with_result l p.gives a.word (after_callee l p a m))) none
+    ∙ ap (λ st. with_result l p.gives a.word (λ s o. if s == register_space l then (if in_some p.keep o then m s o
+    else (if in_option st o then m s o else a.registers o)) else m s o)) none
+
+-- The range of a result may keep its bytes until the result is written to it.
+pub result_over : (l : Listing) (spared more : List Varnode) (r : ℕ → ℕ) (z : Varnode) (n : ℕ) (m : Bytes)
+    → z.space ≡ register_space l
+    → IsInside l z
+    → ((o : ℕ) → (o < z.offset) ⊎ (z.offset + z.size ≤ o) → in_some more o ≡ in_some spared o)
+    → with_word l z n (replaced l more r m) ≡ with_word l z n (replaced l spared r m)
+result_over l spared more r z n m at inside same = fun_ext (λ t. fun_ext (λ p.
+    let bs = bytes_in l z.space z.size n in
+    let long : length bs ≡ z.size = length-word_bytes (is_big l z.space) z.size n in
+    all_written (size_of l z.space) z.space z.offset bs (replaced l more r m) (replaced l spared r m)
+    (omega (arith, inside, long)) (λ u q off. ⊎_elim
+    (λ (ne : u ≢ z.space).
+    let other : u ≢ register_space l = λ e. ne (e ∙ sym at) in
+    replaced_else l more r m u q other ∙ sym (replaced_else l spared r m u q other))
+    (λ side. let out : (q < z.offset) ⊎ (z.offset + z.size ≤ q) = ⊎_elim
+    (λ (lt : q < z.offset). inl lt)
+    (λ (ge : z.offset + length bs ≤ q). inr (omega (arith, ge, long)))
+    side in
+    ap (λ b. cond (u == register_space l) (cond b (m u q) (r q)) (m u q)) (same q out))
+    off) t p))
