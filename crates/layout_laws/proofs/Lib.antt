@@ -10,6 +10,4 @@ pub mod Covered
 mod Cases
 pub mod Obeys
 pub mod Fits
-pub mod Callees
 mod Worked
-mod WorkedCallees

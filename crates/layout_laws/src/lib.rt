@@ -13,6 +13,4 @@
 //!
 //! What is mentioned, the rules and the spaces that are named go line by line (`proofs/Covered.antt`, `proofs/Obeys.antt`,
 //! `proofs/Fits.antt`): labels, gotos and exits are looked at here, once, and a lowering shows its statements alone.
-//! The declarations that are made of a listing's callees are right, and each address that is called has one
-//! (`proofs/Callees.antt`).
 #![tactic(auto)]

@@ -33,7 +33,7 @@ use Rattle.blockcode.specs.CanLay.{AllSimple, AreSimple, CanLay, CanLeave, EndsI
 use Rattle.blockcode.specs.Numbers.{ExitBelow, ExitsBelow}
 use Rattle.blockcode.specs.Run.{call_returns}
 use Rattle.layout.specs.Callees.{callees_of}
-use Rattle.layout_laws.proofs.Callees.{AllCalled, EachCalled, IsDeclared, all_declared, called_append, called_back, called_front, called_map, callee_layer, callee_of_call, callees_right, calls_none, calls_one, declared_returns}
+use Rattle.plain_valid.proofs.Callees.{AllCalled, EachCalled, IsDeclared, all_declared, called_append, called_back, called_front, called_map, callee_layer, callee_of_call, callees_right, calls_none, calls_one, declared_returns}
 use Rattle.op_code.specs.declared.left.Leftover.{Leftover}
 use Rattle.op_code.specs.Left.{takes_left}
 use Rattle.op_code.specs.Made.{ReadOne, name_of}

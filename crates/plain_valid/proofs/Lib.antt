@@ -4,6 +4,7 @@ pub mod EachKind
 pub mod Covers
 pub mod Blocks
 pub mod Whole
+pub mod Callees
 pub mod Laying
 pub mod Statements
 pub mod Valid
@@ -11,3 +12,4 @@ pub mod Suits
 pub mod Fit
 pub mod Signature
 pub mod Long
+mod WorkedCallees

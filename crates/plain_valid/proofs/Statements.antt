@@ -33,7 +33,7 @@ use Rattle.blockcode.specs.declared.code.Exit.TheVariants as X
 use Rattle.layout.specs.Callees.{callee_decl, gives_by, width_passed}
 use Rattle.layout.specs.Suits.{BodySuits, ExitSuits, Knows}
 use Rattle.layout.proofs.Suiting.{knows_append, knows_in, knows_one, obey_one, suits_append, suits_none}
-use Rattle.layout_laws.proofs.Callees.{EachCalled, IsDeclared, called_back, called_front, callee_of_call}
+use Rattle.plain_valid.proofs.Callees.{EachCalled, IsDeclared, called_back, called_front, callee_of_call}
 use Rattle.op_values.specs.Nodes.{nearest, width_of_range}
 use Rattle.op_values.proofs.Means.{nearest_is}
 use Rattle.op_code.specs.declared.left.Leftover.{Leftover}

@@ -12,7 +12,7 @@ use Rattle.naming.specs.Run.{widths_of}
 use Rattle.blockcode.specs.declared.code.Block.{Block}
 use Rattle.blockcode.specs.declared.code.Exit.{Exit}
 use Rattle.layout.specs.Suits.{AllSuit}
-use Rattle.layout_laws.proofs.Callees.{AllCalled, IsDeclared, all_declared}
+use Rattle.plain_valid.proofs.Callees.{AllCalled, IsDeclared, all_declared}
 use Rattle.op_code.specs.Lowered.{lowered, ranges_of}
 use Rattle.op_code.specs.Lowerable.{IsLowerable}
 use Rattle.plain_valid.specs.Function.{plain_head}

@@ -13,7 +13,7 @@ use Rattle.cmeaning.specs.declared.tree.Stmt.TheVariants as S
 use Rattle.naming.specs.Listed.{with_one}
 use Rattle.layout.specs.Callees.{called_by, callee_decl, with_called}
 use Rattle.op_values.specs.Nodes.{width_by}
-use Rattle.layout_laws.proofs.Callees.{callee_of_call}
+use Rattle.plain_valid.proofs.Callees.{callee_of_call}
 
 abbrev register : ℕ → ℕ → Varnode
 register offset size = record { space = 2; offset = offset; size = size }
