@@ -9,7 +9,7 @@ ghost use Rattle.flow.specs.Slots.{ArePlaces};
 ghost use Rattle.flow.specs.Edges.{Means, AllMean};
 
 use crate::places::find;
-use instructions::{instruction, relative_index};
+use instructions::{instruction, relative_index, returns};
 use pcode_model::{FlowWhy, Instruction, Listing, Op, Opcode, Place, Turn, Varnode};
 
 /// An edge: to the place of a number, or by a fault nowhere.
@@ -47,16 +47,6 @@ pub(crate) enum Leaving {
     Ends,
     One(Edge),
     Two(Edge, Edge),
-}
-
-// Whether a CALL of this address returns.
-fn returns(listing: &Listing, address: u64) -> bool
-    ensures { result ≡ returns_of (callee_at listing.now address) }
-{
-    match listing.callee_at(address) {
-        Some(callee) => callee.returns,
-        None => true,
-    }
 }
 
 fn call_turn(listing: &Listing, to: Varnode) -> Turn

@@ -1,16 +1,17 @@
-//! What stands at an address and at a place of a listing, and where a relative branch leads.
+//! What stands at an address and at a place of a listing, where a relative branch leads, and how functions are called.
 #![tactic(auto)]
 
+mod protos;
 mod relative;
 
-ghost use Rattle.std.specs.Prelude.{◌≡◌, None};
+ghost use Rattle.std.specs.Prelude.{◌≡◌};
 ghost use Rattle.std.specs.Option.{option_copied};
 ghost use Rattle.pcode_model.specs.Places.{instruction_at, standing};
-ghost use Rattle.pcode_model.specs.Step.{proto_of};
 ghost use Rattle.pcode_model.specs.Flow.{AreApart};
 ghost use Rattle.instructions.specs.Standing.{op_of};
 
-use pcode_model::{Instruction, Listing, Op, Place, Varnode};
+use pcode_model::{Instruction, Listing, Op, Place};
+pub use protos::{arguments, given, proto_called, result_range, returns};
 pub use relative::relative_index;
 
 /// The instruction that stands at the address, which may be past the end of every space.
@@ -42,16 +43,6 @@ pub fn op_at(listing: &Listing, place: Place) -> Option<&Op>
 {
     match instruction(listing, u128::from(place.address)) {
         Some(instruction) => instruction.ops.get(place.index as usize),
-        None => None,
-    }
-}
-
-/// The range of the function's result, where its prototype is there and has one.
-pub fn result_range(listing: &Listing) -> Option<Varnode>
-    ensures { result ≡ (proto_of listing.now None).gives }
-{
-    match listing.protos.get(listing.func.proto as usize) {
-        Some(proto) => proto.gives,
         None => None,
     }
 }

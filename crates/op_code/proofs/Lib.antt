@@ -6,6 +6,7 @@ pub mod Writing
 pub mod Apart
 pub mod Atoms
 pub mod WorkedCovers
+pub mod Each
 pub mod Entering
 pub mod Joined
 pub mod Numbers

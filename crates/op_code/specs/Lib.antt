@@ -4,8 +4,10 @@ pub mod Words
 pub mod Ranges
 pub mod WorkedCovers
 pub mod Left
+pub mod LeftTable
 pub mod Made
 pub mod Sources
+pub mod Calling
 pub mod Numbers
 pub mod Lowered
 pub mod Lowerable

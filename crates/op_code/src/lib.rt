@@ -5,6 +5,8 @@
 //! over the words that were read, and assigns its output's variable; where the output is a direct range of memory it is
 //! a local that is stored then, and where it is a range of several variables a local whose parts these are assigned. A
 //! division is an expression by a constant that lets it have a value, and else the statement that ends the run at 0.
+//! A call reads the ranges of its prototype's arguments. Behind it each variable of registers that it didn't spare takes
+//! what the callee left there, and then the result's variables are assigned their parts.
 //! The statements of an op and its locals are made by one definition (`specs/Made.antt`), so that there are as many
 //! locals as statements name.
 //!
@@ -30,6 +32,7 @@
 //! a case of `op_made`, of the form in `specs/Form.antt`, of `proofs/Ops.antt` and of `src/statements.rt`.
 #![tactic(auto)]
 
+mod calls;
 mod covers;
 mod left;
 mod locals;
@@ -41,7 +44,7 @@ mod table;
 mod words;
 
 pub use covers::Piece;
-pub use left::Leftover;
+pub use left::{LeftTable, Leftover};
 pub use reads::read;
 pub use statements::add_op;
 pub use table::Table;

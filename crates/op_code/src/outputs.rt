@@ -13,7 +13,7 @@ use crate::table::Table;
 use crate::words::assign_parts;
 use bits_core::Memory;
 use blockcode::Variables;
-use cmeaning::{Body, Expr, StatementDivision, Stmt};
+use cmeaning::{Body, Expr, Exprs, StatementDivision, Stmt};
 use pcode_model::{Listing, Name, SpaceKind, Varnode};
 use std::alloc::Global;
 
@@ -29,6 +29,10 @@ pub(crate) enum Source {
         op: StatementDivision,
         left: Expr,
         right: Expr,
+    },
+    Other {
+        index: u64,
+        args: Exprs,
     },
 }
 
@@ -48,6 +52,11 @@ fn statement(source: Source, target: u32) -> Stmt
             op,
             left,
             right,
+        },
+        Source::Other { index, args } => Stmt::Other {
+            target: Some(target),
+            index,
+            args,
         },
     }
 }
@@ -76,7 +85,11 @@ fn set_memory(
 }
 
 /// The variable that a word is assigned to for these variables: the only one, or a local of so many bytes.
-fn target(variables: &mut Variables, pieces: &[Piece], range: Varnode) -> Result<u32, Memory>
+pub(crate) fn target(
+    variables: &mut Variables,
+    pieces: &[Piece],
+    range: Varnode,
+) -> Result<u32, Memory>
     requires few { length variables.old ≤ 2 ^ 32 }
     ensures number { IfOk result (λ n. n ≡ target_by (length variables.old) pieces.now) }
     ensures locals { OnOk result (variables.new ≡ variables.old ++ local_for pieces.now range) }

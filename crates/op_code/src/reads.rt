@@ -2,7 +2,7 @@
 
 ghost use Rattle.std.specs.Prelude.{◌≡◌, ◌<◌, ◌≤◌, ◌^◌, ◌++◌, [], length, IfOk, OnOk};
 ghost use Rattle.pcode_model.specs.declared.listing.SpaceKind.TheVariants.{Ram};
-ghost use Rattle.op_code.specs.Made.{both_read, one_read, read_by, read_one, word_at};
+ghost use Rattle.op_code.specs.Made.{both_read, one_read, read_by, read_one, reads, word_at};
 
 use crate::locals::new_local;
 use crate::memory::{direct_address, space_name};
@@ -10,7 +10,7 @@ use crate::table::Table;
 use crate::words::range_word;
 use bits_core::Memory;
 use blockcode::Variables;
-use cmeaning::{Body, Expr, Stmt};
+use cmeaning::{Body, Expr, Exprs, Stmt};
 use op_values::constant;
 use pcode_model::{Listing, Op, SpaceKind, Varnode};
 use std::alloc::Global;
@@ -100,4 +100,27 @@ pub(crate) fn read_both(
     let first = read(alloc, listing, table, variables, body, op.input(number))?;
     let second = read(alloc, listing, table, variables, body, op.input(number + 1))?;
     Ok((first, second))
+}
+
+/// The words of operands, in their order.
+#[tactic(auto, using(crate::proofs::Each::reads_from))]
+pub(crate) fn read_each(
+    alloc: Global,
+    listing: &Listing,
+    table: &Table,
+    variables: &mut Variables,
+    body: &mut Body,
+    ranges: &[Varnode],
+) -> Result<Exprs, Memory>
+    requires few { length variables.old ≤ 2 ^ 32 }
+    ensures words { IfOk result (λ es. es ≡ (reads listing.now table.now (length variables.old) ranges.now).words) }
+    ensures loads { OnOk result (body.new ≡ body.old ++ (reads listing.now table.now (length variables.old) ranges.now).loads) }
+    ensures locals { OnOk result (variables.new ≡ variables.old ++ (reads listing.now table.now (length variables.old) ranges.now).locals) }
+    ensures few { OnOk result (length variables.new ≤ 2 ^ 32) }
+{
+    let mut words = Exprs::new(alloc);
+    for range in ranges {
+        words.push(read(alloc, listing, table, variables, body, *range)?)?;
+    }
+    Ok(words)
 }

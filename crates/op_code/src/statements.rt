@@ -3,8 +3,11 @@
 ghost use Rattle.std.specs.Prelude.{◌≡◌, ◌≤◌, ◌^◌, ◌++◌, length, IfOk, OnOk};
 ghost use Rattle.pcode_model.specs.Spaces.{kind_of};
 ghost use Rattle.op_code.specs.Made.{divides, divides_at, op_made};
+ghost use Rattle.op_code.specs.LeftTable.{IsLeft};
 ghost use Rattle.op_code.specs.Sources.{set_to};
 
+use crate::calls::{add_call, add_indirect_call, add_other};
+use crate::left::LeftTable;
 use crate::memory::{address, space_name};
 use crate::outputs::{Source, set};
 use crate::reads::{read_both, read_input};
@@ -159,10 +162,12 @@ pub fn add_op(
     alloc: Global,
     listing: &Listing,
     table: &Table,
+    left: &LeftTable,
     variables: &mut Variables,
     body: &mut Body,
     op: &Op,
 ) -> Result<(), Memory>
+    requires left { IsLeft listing.now table.now left.now }
     requires few { length variables.old ≤ 2 ^ 32 }
     ensures statements { OnOk result (body.new ≡ body.old ++ (op_made listing.now table.now (length variables.old) op.now.code op.now.out op.now.inputs).statements) }
     ensures locals { OnOk result (variables.new ≡ variables.old ++ (op_made listing.now table.now (length variables.old) op.now.code op.now.out op.now.inputs).locals) }
@@ -174,6 +179,9 @@ pub fn add_op(
         Opcode::Divide(code) => add_divide(alloc, listing, table, variables, body, *code, op),
         Opcode::Load => add_load(alloc, listing, table, variables, body, op),
         Opcode::Store => add_store(alloc, listing, table, variables, body, op),
+        Opcode::Call => add_call(alloc, listing, table, left, variables, body, op),
+        Opcode::CallInd => add_indirect_call(alloc, listing, table, left, variables, body, op),
+        Opcode::CallOther => add_other(alloc, listing, table, variables, body, op),
         _ => Ok(()),
     }
 }

@@ -12,8 +12,8 @@ use Rattle.cmeaning.specs.declared.tree.Stmt.{Stmt}
 use Rattle.blockcode.specs.declared.code.Variable.{Variable}
 use Rattle.op_code.specs.Made.{Made, nothing}
 use Rattle.op_code.specs.Lowered.{BlockMade, WayOut, in_front, last_made, place_made, places_made, way_out}
+use Rattle.op_code.proofs.Each.{grown_length}
 use Rattle.plaincode.specs.Body.{body_made, followed}
-use Rattle.plaincode.proofs.Walks.{grown_length}
 
 abbrev made_by : WayOut → List Stmt → List Variable → BlockMade
 made_by w body locals = record { block = record { body = body; exit = w.exit }; locals = locals }

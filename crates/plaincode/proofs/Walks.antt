@@ -7,12 +7,8 @@ use Rattle.pcode_model.specs.declared.listing.Listing.{Listing}
 use Rattle.pcode_model.specs.declared.flow.Block as flow_block
 use Rattle.blockcode.specs.declared.code.Variable.{Variable}
 use Rattle.op_code.specs.Lowered.{BlocksMade, block_made, blocks_made, place_made}
+use Rattle.op_code.proofs.Each.{grown_length}
 use Rattle.plaincode.specs.Body.{body_made, followed}
-
-pub grown_length : (variables then locals : List Variable)
-    → then ≡ variables ++ locals
-    → length variables + length locals ≡ length then
-grown_length variables then locals grown = sym (length-append variables locals) ∙ ap length (sym grown)
 
 module _ (l : Listing) (ranges : List Varnode) (variables then : List Variable) where
   pub body_from : (p : Place) (ps : List Place)

@@ -2,6 +2,7 @@
 
 ghost use Rattle.std.specs.Prelude.{◌≡◌, ◌≤◌, ◌^◌, ◌++◌, length, IfOk, OnOk};
 ghost use Rattle.pcode_model.specs.Flow.{AreApart};
+ghost use Rattle.op_code.specs.LeftTable.{IsLeft};
 ghost use Rattle.op_code.specs.Lowered.{block_made, blocks_made, place_made};
 ghost use Rattle.plaincode.specs.Body.{body_made};
 
@@ -10,7 +11,7 @@ use bits_core::Memory;
 use blockcode::{Block, Blocks, Exit, Variables};
 use cmeaning::Body;
 use instructions::op_at;
-use op_code::{Table, add_op};
+use op_code::{LeftTable, Table, add_op};
 use pcode_model::{Block as FlowBlock, Listing, Place};
 use std::alloc::Global;
 
@@ -19,18 +20,20 @@ fn add_place(
     alloc: Global,
     listing: &Listing,
     table: &Table,
+    left: &LeftTable,
     variables: &mut Variables,
     body: &mut Body,
     place: Place,
 ) -> Result<(), Memory>
     requires code { AreApart listing.now.code }
+    requires left { IsLeft listing.now table.now left.now }
     requires few { length variables.old ≤ 2 ^ 32 }
     ensures statements { OnOk result (body.new ≡ body.old ++ (place_made listing.now table.now (length variables.old) place).statements) }
     ensures locals { OnOk result (variables.new ≡ variables.old ++ (place_made listing.now table.now (length variables.old) place).locals) }
     ensures few { OnOk result (length variables.new ≤ 2 ^ 32) }
 {
     match op_at(listing, place) {
-        Some(op) => add_op(alloc, listing, table, variables, body, op),
+        Some(op) => add_op(alloc, listing, table, left, variables, body, op),
         None => Ok(()),
     }
 }
@@ -41,10 +44,12 @@ fn body(
     alloc: Global,
     listing: &Listing,
     table: &Table,
+    left: &LeftTable,
     variables: &mut Variables,
     places: &[Place],
 ) -> Result<Body, Memory>
     requires code { AreApart listing.now.code }
+    requires left { IsLeft listing.now table.now left.now }
     requires few { length variables.old ≤ 2 ^ 32 }
     ensures statements { IfOk result (λ b. b ≡ (body_made listing.now table.now (length variables.old) places.now).statements) }
     ensures locals { OnOk result (variables.new ≡ variables.old ++ (body_made listing.now table.now (length variables.old) places.now).locals) }
@@ -52,7 +57,7 @@ fn body(
 {
     let mut body = Body::new(alloc);
     for place in places {
-        add_place(alloc, listing, table, variables, &mut body, *place)?;
+        add_place(alloc, listing, table, left, variables, &mut body, *place)?;
     }
     Ok(body)
 }
@@ -63,10 +68,12 @@ fn block(
     alloc: Global,
     listing: &Listing,
     table: &Table,
+    left: &LeftTable,
     variables: &mut Variables,
     block: &FlowBlock,
 ) -> Result<Block, Memory>
     requires code { AreApart listing.now.code }
+    requires left { IsLeft listing.now table.now left.now }
     requires few { length variables.old ≤ 2 ^ 32 }
     ensures block { IfOk result (λ b. b ≡ (block_made listing.now table.now (length variables.old) block.now).block) }
     ensures locals { OnOk result (variables.new ≡ variables.old ++ (block_made listing.now table.now (length variables.old) block.now).locals) }
@@ -75,7 +82,7 @@ fn block(
     let places = block.places.as_slice();
     match places.last() {
         Some(last) => {
-            let mut body = body(alloc, listing, table, variables, places)?;
+            let mut body = body(alloc, listing, table, left, variables, places)?;
             let exit = way_out(
                 alloc,
                 listing,
@@ -100,10 +107,12 @@ pub(crate) fn blocks(
     alloc: Global,
     listing: &Listing,
     table: &Table,
+    left: &LeftTable,
     variables: &mut Variables,
     flow: &[FlowBlock],
 ) -> Result<Blocks, Memory>
     requires code { AreApart listing.now.code }
+    requires left { IsLeft listing.now table.now left.now }
     requires few { length variables.old ≤ 2 ^ 32 }
     ensures blocks { IfOk result (λ bs. bs ≡ (blocks_made listing.now table.now (length variables.old) flow.now).blocks) }
     ensures locals { OnOk result (variables.new ≡ variables.old ++ (blocks_made listing.now table.now (length variables.old) flow.now).locals) }
@@ -111,7 +120,7 @@ pub(crate) fn blocks(
 {
     let mut blocks = Blocks::new(alloc);
     for from in flow {
-        blocks.push(block(alloc, listing, table, variables, from)?)?;
+        blocks.push(block(alloc, listing, table, left, variables, from)?)?;
     }
     Ok(blocks)
 }

@@ -9,7 +9,7 @@ use crate::variables::{ranges, variables};
 use bits_core::{Memory, Width};
 use blockcode::Code;
 use instructions::result_range;
-use op_code::Table;
+use op_code::{LeftTable, Table};
 use op_values::width_by;
 use pcode_model::{Atoms, Block as FlowBlock, Flow, Listing, Place};
 use std::alloc::Global;
@@ -48,9 +48,18 @@ pub fn plain(alloc: Global, listing: &Listing, flow: &Flow, atoms: &Atoms) -> Re
     ensures code { IfOk result (λ k. k ≡ lowered listing.now flow.now atoms.now) }
     ensures few { IfOk result (λ k. length k.variables ≤ 2 ^ 32) }
 {
-    let table = Table::new(alloc, &ranges(alloc, listing, atoms.as_slice())?)?;
+    let ranges = ranges(alloc, listing, atoms.as_slice())?;
+    let table = Table::new(alloc, &ranges)?;
+    let left = LeftTable::new(alloc, listing, &ranges)?;
     let mut variables = variables(alloc, atoms.as_slice())?;
-    let blocks = blocks(alloc, listing, &table, &mut variables, flow.as_slice())?;
+    let blocks = blocks(
+        alloc,
+        listing,
+        &table,
+        &left,
+        &mut variables,
+        flow.as_slice(),
+    )?;
     let start = Place {
         address: listing.func.address,
         index: 0,

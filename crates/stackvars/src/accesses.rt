@@ -9,19 +9,9 @@ ghost use Rattle.stackvars.specs.Collected.{atoms_at, atoms_in, atoms_of};
 
 use crate::ranges::{push_optional, push_range, push_ranges};
 use bits_core::Memory;
-use instructions::op_at;
+use instructions::{arguments, given, op_at, proto_called};
 use pcode_model::{Atom, Block, Listing, Op, Opcode, Place, Storage, Varnode};
 use std::alloc::Global;
-
-/// The number of the prototype of what a CALL calls at an address.
-fn proto_called(listing: &Listing, address: u64) -> u32
-    ensures { proto_at listing.now result ≡ proto_of listing.now (callee_at listing.now address) }
-{
-    match listing.callee_at(address) {
-        Some(callee) => callee.proto,
-        None => listing.func.proto,
-    }
-}
 
 fn push_argument(out: &mut Vec<Atom>, listing: &Listing, argument: &Storage) -> Result<(), Memory>
     ensures { OnOk result (out.new.items ≡ out.old.items ++ atoms_of listing.now (passed_in argument.now)) }
@@ -51,20 +41,14 @@ fn push_passed(out: &mut Vec<Atom>, listing: &Listing, proto: u32) -> Result<(),
     ensures { OnOk result (out.new.items
         ≡ out.old.items ++ atoms_of listing.now (passed (proto_at listing.now proto).args)) }
 {
-    match listing.protos.get(proto as usize) {
-        Some(proto) => push_arguments(out, listing, proto.args.as_slice()),
-        None => Ok(()),
-    }
+    push_arguments(out, listing, arguments(listing, proto))
 }
 
 fn push_given(out: &mut Vec<Atom>, listing: &Listing, proto: u32) -> Result<(), Memory>
     ensures { OnOk result (out.new.items
         ≡ out.old.items ++ atoms_of listing.now (one_range (proto_at listing.now proto).gives)) }
 {
-    match listing.protos.get(proto as usize) {
-        Some(proto) => push_optional(out, listing, proto.gives),
-        None => Ok(()),
-    }
+    push_optional(out, listing, given(listing, proto))
 }
 
 #[tactic(auto, using(crate::proofs::Passed::reads_passed))]
