@@ -69,7 +69,10 @@ module _ (l : Listing) (ranges : List Varnode) where
       (output_unstored (kind_of l z.space) z)
 
   -- behind what is read
-  behind_unstored : (r : Read) (m : Made) → AreUnstored r.locals → AreUnstored m.locals → AreUnstored (behind r m).locals
+  behind_unstored : (r : Read) (m : Made)
+      → AreUnstored r.locals
+      → AreUnstored m.locals
+      → AreUnstored (behind r m).locals
   behind_unstored r m h g = unstored_append r.locals m.locals h g
 
   answered_unstored : (next : ℕ) (p : Proto) (gives : Option Varnode) (make : Asking)

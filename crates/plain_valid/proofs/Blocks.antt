@@ -12,8 +12,6 @@ use Rattle.pcode_model.specs.declared.listing.Varnode.{Varnode}
 use Rattle.pcode_model.specs.declared.listing.Place.{Place}
 use Rattle.pcode_model.specs.declared.listing.Listing.{Listing}
 use Rattle.pcode_model.specs.declared.listing.Proto.{Proto}
-use Rattle.pcode_model.specs.declared.listing.Storage.{Storage}
-use Rattle.pcode_model.specs.declared.listing.Storage.TheVariants.{At, Stack}
 use Rattle.pcode_model.specs.declared.opcode.Opcode.{Opcode}
 use Rattle.pcode_model.specs.declared.opcode.Opcode.TheVariants as O
 use Rattle.pcode_model.specs.declared.tables.TableAt.{TableAt}
@@ -40,9 +38,10 @@ use Rattle.op_code.specs.Cover.{HasCover, IsRow, cover}
 use Rattle.op_code.specs.Words.{parts_by, target_by}
 use Rattle.op_code.specs.Left.{argument_ranges, extras, is_left, left_from, leftovers, meets_some, spared}
 use Rattle.op_code.specs.Made.{Made, Read, ReadOne, address, address_of, answered, call_made, calls, computes, divides, divides_at, indirect_read, local_for, local_of, name_of, offset_bytes, op_made, passed, range_word, read_by, read_one, reads, set_by, sets}
-use Rattle.op_code.specs.Form.{AllOperands, IsCallable, IsDirect, IsGiven, IsLocalBy, IsMemory, IsNarrow, IsOperand, IsOperandBy, IsOutput, IsOutputBy, IsPassed, IsPlainOp, IsResult}
+use Rattle.op_code.specs.Form.{AllOperands, IsCallable, IsDirect, IsGiven, IsLocalBy, IsMemory, IsNarrow, IsOperand, IsOperandBy, IsOutput, IsOutputBy, IsPlainOp, IsResult}
 use Rattle.op_code.specs.Lowered.{WayOut, block_made, blocks_made, condition_in, directly, made_in, place_made, places_made, tests, way_out}
 use Rattle.op_code.specs.Lowerable.{IsPlain}
+use Rattle.op_code.proofs.Called.{all_passed}
 use Rattle.op_code.proofs.Sees.{Setting}
 use Rattle.plain_valid.proofs.Shapes.{Fits, as_wide, constant_fits, deeper, variable_fits}
 use Rattle.plain_valid.proofs.Expressions.{IsAddress, address_fits, binary_fits, division_node_fits, unary_fits}
@@ -62,7 +61,7 @@ module _
     (set : Setting l ranges ws)
     (few : n ≤ 2 ^ 32)
     (known : length ranges ≤ n)
-    (each : (k : ℕ) (v : Varnode) → slice_get ranges k ≡ Some v → IsNarrow v × (v.offset < 2 ^ 64))
+    (low : (k : ℕ) (v : Varnode) → slice_get ranges k ≡ Some v → v.offset < 2 ^ 64)
   where
     -- ---- variables
 
@@ -261,19 +260,12 @@ module _
 
     -- ---- calls
 
-    passed_operands : (args : List Storage)
-        → AllByRecursion (IsPassed l ranges) args
-        → AllOperands l ranges (argument_ranges args)
-    passed_operands [] h = tt
-    passed_operands (At v ∷ args) h = (h.0, passed_operands args h.1)
-    passed_operands (Stack offset size ∷ args) h = absurd h.0
-
     -- the arguments of a call
     passed_right : (next : ℕ) (p : Proto)
         → IsCallable l ranges p
         → AreLocals ws n next (passed l ranges next p).locals
         → AllRead (passed l ranges next p) (argument_ranges p.args)
-    passed_right next p h are = reads_right next (argument_ranges p.args) (passed_operands p.args h.args) are
+    passed_right next p h are = reads_right next (argument_ranges p.args) (all_passed l ranges p.args h.args) are
 
     -- a variable of a range of registers can take what a call left there
     left_at : (k : ℕ) (v : Varnode)
@@ -281,7 +273,7 @@ module _
         → v.space ≡ register_space l
         → IsLeft l ws n (record { variable = k; offset = v.offset })
     left_at k v get is =
-        let narrow = (each k v get).0 in
+        let narrow = set.narrow k v get in
         let R : ℕ → Type 0 = λ s. v.offset + v.size ≤ size_of l s in
         record {
           width = v.size;
@@ -291,7 +283,7 @@ module _
             some = narrow.0;
           };
           inside = subst R is (set.table.inside k v get);
-          long = (each k v get).1;
+          long = low k v get;
         }
 
     left_right : (p : Proto) (k : ℕ) (vs : List Varnode)
@@ -367,7 +359,7 @@ module _
         let words = (reads l ranges (behind_one next to) vs).words in
         let make : Option ℕ → Stmt = λ v. S.CallInd v e words in
         let made = answered l ranges (next + length r.locals) p p.gives make in
-        let all = reads_right next (to ∷ vs) (operand, passed_operands p.args h.args)
+        let all = reads_right next (to ∷ vs) (operand, all_passed l ranges p.args h.args)
         (locals_front ws n next r.locals made.locals are) in
         calls_right next p r make h all.loads are
         (λ v target. kinds.indirect v p.gives to.size e words (leftovers l p ranges) target all.words.0.1
@@ -389,8 +381,9 @@ module _
         let make : ℕ → Stmt = λ v. S.Other (Some v) index.offset r.words in
         let all = reads_right next vs operands
         (locals_front ws n next r.locals (sets l ranges (next + length r.locals) (Some z) make).locals are) in
+        let own = are_right ws n r.words vs all.words in
         computes_right next z r make all.loads h are
-        (λ v is. kinds.other (Some v) (Some z) index.offset r.words long (h.0, is) (are_right ws n r.words vs all.words))
+        (λ v is. kinds.other (Some v) (Some z) index.offset r.words long (h.0, is) own)
 
     -- ---- ops that lead on
 
@@ -419,8 +412,8 @@ module _
         let narrow : IsNarrow x = ((h.1.0).0).0 in
         computes_right next z r make all.loads h.1.1 are
         (λ v is. kinds.assign v z.size 18 (binary_node op x.size y.offset z.size d e) is
-        (binary_fits ws n x.size y.offset y.size z.size d e ((h.1.1).0).0 ((h.1.1).0).1 all.words.0.1 all.words.1.0.1 op narrow.0
-        narrow.1 h.0.1))
+        (binary_fits ws n x.size y.offset y.size z.size d e ((h.1.1).0).0 ((h.1.1).0).1 all.words.0.1 all.words.1.0.1
+        op narrow.0 narrow.1 h.0.1))
     op_right next (O.Divide op) (Some z) (x ∷ y ∷ []) h long leads are =
         let r = reads l ranges next (x ∷ y ∷ []) in
         let d = (read_one l ranges next x).word in

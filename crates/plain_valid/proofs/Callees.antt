@@ -1,5 +1,5 @@
--- The declarations of the callees of a code: each address that the code calls has the listing's, and they are declarations
--- as a function has them.
+-- The declarations of the callees of a code: each address that the code calls has the listing's, and they are
+-- declarations as a function has them.
 use Rattle.std.proofs.Common.{◌≡◌, ℕ, ◌<◌, ◌^◌, ◌&&◌, ◌==◌, not, Bool, true, false, cond, List, [], ◌∷◌, ◌++◌, map, refl, sym, ap, ap₂, ◌∙◌, subst, Option, Some, None, arith, inl, inr}
 use Rattle.std.proofs.lemmas.Bool.{and_from, and_parts, eqb-true}
 use Rattle.std.proofs.lemmas.Option.{none-some}
@@ -286,8 +286,8 @@ module _ (l : Listing) (named : AreNamed l) (distinct : AreApartByName l) where
   apart_all a [] new = refl
   apart_all a (n ∷ ns) new =
       let parts = neither (n == a) (is_listed a ns) new in
-      and_from (are_apart (callee_decl l a) (callee_decl l n)) (is_apart_from (callee_decl l a) (map (callee_decl l) ns))
-      (two_apart a n parts.0) (apart_all a ns parts.1)
+      let rest = is_apart_from (callee_decl l a) (map (callee_decl l) ns) in
+      and_from (are_apart (callee_decl l a) (callee_decl l n)) rest (two_apart a n parts.0) (apart_all a ns parts.1)
 
   all_right : (ns : List ℕ)
       → Found.AreDistinct ns
@@ -297,7 +297,8 @@ module _ (l : Listing) (named : AreNamed l) (distinct : AreApartByName l) where
   all_right (n ∷ ns) once low =
       let cs = map (callee_decl l) ns in
       and_from (is_callee (callee_decl l n)) (is_apart_from (callee_decl l n) cs && are_callees cs) (one_right n low.0)
-      (and_from (is_apart_from (callee_decl l n) cs) (are_callees cs) (apart_all n ns once.0) (all_right ns once.1 low.1))
+      (and_from (is_apart_from (callee_decl l n) cs) (are_callees cs) (apart_all n ns once.0)
+      (all_right ns once.1 low.1))
 
   -- The callees of a code whose addresses are numbers of 64 bits, where the listing's names have their form and differ.
   pub callees_right : (k : Code)

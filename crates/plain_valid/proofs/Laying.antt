@@ -52,7 +52,10 @@ abbrev LeadOn : (ℕ → Bool) → List Stmt → Type 0
 LeadOn returns [] = Unit {0}
 LeadOn returns (s ∷ ss) = (IsSimple returns s × ((a : ℕ) → callee_of s ≡ Some a → returns a ≡ true)) × LeadOn returns ss
 
-lead_append : (returns : ℕ → Bool) (xs ys : List Stmt) → LeadOn returns xs → LeadOn returns ys → LeadOn returns (xs ++ ys)
+lead_append : (returns : ℕ → Bool) (xs ys : List Stmt)
+    → LeadOn returns xs
+    → LeadOn returns ys
+    → LeadOn returns (xs ++ ys)
 lead_append returns [] ys h g = g
 lead_append returns (x ∷ xs) ys h g = (h.0, lead_append returns xs ys h.1 g)
 

@@ -11,9 +11,7 @@ use Rattle.pcode_model.specs.declared.atoms.Atom.{Atom}
 use Rattle.pcode_model.specs.Atoms.{Accesses, AreAtoms, IsAccessed, IsAtom, area_of, offset_of, range}
 use Rattle.pcode_model.specs.Flow.{IsIn}
 use Rattle.pcode_model.specs.Frame.{no_variables}
-use Rattle.op_code.specs.Form.{IsNarrow}
 use Rattle.op_code.specs.Lowered.{range_at, range_of, ranges_of}
-use Rattle.op_code.specs.Lowerable.{AreNarrow}
 use Rattle.plain_valid.specs.Long.{IsLong, AreLong}
 
 module _
@@ -54,24 +52,20 @@ atoms_long l t atoms are low = each_long l t low atoms (λ a. (are.each a).0)
 
 -- ---- their ranges
 
-module _ (l : Listing) where
-  abbrev IsLow : Varnode → Type 0
-  IsLow v = IsNarrow v × (v.offset < 2 ^ 64)
+range_low : (l : Listing) (s : ParamStorage) (size : ℕ) → IsLong s → (range_at l s size).offset < 2 ^ 64
+range_low l (P.Register o) size long = long
+range_low l (P.Unique o) size long = long
+range_low l (P.Stack o) size long = absurd long
 
-  range_low : (s : ParamStorage) (size : ℕ) → (0 < size) × (size ≤ 16) → IsLong s → IsLow (range_at l s size)
-  range_low (P.Register o) size narrow long = (narrow, long)
-  range_low (P.Unique o) size narrow long = (narrow, long)
-  range_low (P.Stack o) size narrow long = absurd long
-
-  -- The range of each atom is narrow, and begins at a number of 64 bits.
-  pub ranges_low : (atoms : List Atom)
-      → AreNarrow atoms
-      → AreLong atoms
-      → (n : ℕ) (v : Varnode)
-      → slice_get (ranges_of l atoms) n ≡ Some v
-      → IsLow v
-  ranges_low [] narrow long n v e = absurd (cc)
-  ranges_low (a ∷ atoms) narrow long zero v e =
-      let same : range_of l a ≡ v = cc in
-      subst IsLow same (range_low a.storage a.size narrow.0.1 long.0)
-  ranges_low (a ∷ atoms) narrow long (suc n) v e = ranges_low atoms narrow.1 long.1 n v e
+-- The range of each atom begins at a number of 64 bits.
+pub ranges_low : (l : Listing) (atoms : List Atom)
+    → AreLong atoms
+    → (n : ℕ) (v : Varnode)
+    → slice_get (ranges_of l atoms) n ≡ Some v
+    → v.offset < 2 ^ 64
+ranges_low l [] long n v e = absurd (cc)
+ranges_low l (a ∷ atoms) long zero v e =
+    let same : range_of l a ≡ v = cc in
+    let R : Varnode → Type 0 = λ x. x.offset < 2 ^ 64 in
+    subst R same (range_low l a.storage a.size long.0)
+ranges_low l (a ∷ atoms) long (suc n) v e = ranges_low l atoms long.1 n v e

@@ -20,7 +20,6 @@ use Rattle.cmeaning.specs.declared.tree.Stmt.{Stmt, map-Stmt, roll-Stmt}
 use Rattle.cmeaning.specs.declared.tree.Stmt.TheOpen.{Stmt-F}
 use Rattle.cmeaning.specs.declared.tree.Stmt.TheVariants as S
 use Rattle.cmeaning.specs.Callees.{declared_in}
-use Rattle.cmeaning.specs.Do.{callee_of}
 use Rattle.cmeaning.specs.Shape.{has_width, is_condition, is_right, shape_of}
 use Rattle.cmeaning.specs.Mentions.{Mention, Variable, Callee, LabelLine, in_body, in_expr, in_exprs, in_option, in_stmt, in_target}
 use Rattle.cmeaning.specs.Valid.{Cased, Rule, all_hold, are_right, calling, have_widths, is_assigned, is_call, is_long, is_name, is_returned, is_space, is_target, is_variable, plainly, takes}
@@ -246,7 +245,8 @@ module _ (h : Head) where
     knows = knows_in h (s ∷ []) (map takes_left left) (knows_one h s xs mentions knows) (extras_know l left all);
     obey = λ leads after.
         let rest = map (own_rule h leads) (map takes_left left) in
-        ap (λ (r : Rule). r.holds after false 255 && all_hold r.calls rest false 256) (rule_is h leads s y is ∙ step leads)
+        ap (λ (r : Rule). r.holds after false 255 && all_hold r.calls rest false 256)
+        (rule_is h leads s y is ∙ step leads)
         ∙ ap (λ t. t && all_hold true rest false 256) holds
         ∙ extras_obey l leads left few all;
   }

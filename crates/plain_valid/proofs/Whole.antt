@@ -44,7 +44,7 @@ module _
         blocks_right l ranges (widths vs) (length vs) starts P B (subst K (sym many) kinds)
         (variables_set l blocks atoms t form) few
         (omega (arith, length-map atoms (range_of l), length-map atoms variable_for, all))
-        (ranges_low l atoms form.narrow long.storages) t (length atoms) blocks
+        (ranges_low l atoms long.storages) t (length atoms) blocks
         (λ q h. let reached = (form.flow.each q).0 h in (form.plain q reached, long.places q reached)) form.flow.run
         (record {
           wide = locals_wide l blocks atoms;
