@@ -43,15 +43,17 @@ fn locals(alloc: Global, variables: &[Variable]) -> Result<Locals, Memory>
     Ok(locals)
 }
 
-/// The head of a function of this name, with a result of the width `gives` or none, that calls nothing. The variables with
-/// a storage are its parameters, none of them an argument of the prototype, and the others are locals; all are unsigned.
+/// The head of a function of this name, with a result of the width `gives` or none, that may call these. The variables
+/// with a storage are its parameters, none of them an argument of the prototype, and the others are locals; all are
+/// unsigned.
 pub fn plain_head(
     alloc: Global,
     name: Name,
     gives: Option<Width>,
+    callees: CalleeDecls,
     variables: &[Variable],
 ) -> Result<Head, Memory>
-    ensures { IfOk result (λ h. h ≡ head_of name gives variables.now) }
+    ensures { IfOk result (λ h. h ≡ head_of name gives callees variables.now) }
 {
     let params = params(alloc, variables)?;
     let locals = locals(alloc, variables)?;
@@ -60,7 +62,7 @@ pub fn plain_head(
         gives,
         params,
         locals,
-        callees: CalleeDecls::new(alloc),
+        callees,
     })
 }
 

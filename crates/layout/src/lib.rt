@@ -5,12 +5,17 @@
 //! the blocks, which are taken apart from the first to the last, moves each statement into the body: nothing is copied.
 //! The body has the code's own numbers for variables, and a block's number for its label; a last step, which all that
 //! makes bodies shares, numbers them along the text.
+//!
+//! The head declares the functions that the code calls, each address once and in the order of the first calls, with the
+//! widths that the listing's prototypes say.
 #![tactic(auto)]
 
 mod branches;
+mod callees;
 mod function;
 mod head;
 mod lines;
 mod named;
 
+pub use callees::callees;
 pub use head::{laid_out, plain_head};

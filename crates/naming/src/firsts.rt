@@ -151,7 +151,7 @@ impl Addresses {
     }
 
     /// With one more behind the others, unless it is listed.
-    pub(crate) fn with(self, x: u64) -> Result<Addresses, Memory>
+    pub fn with(self, x: u64) -> Result<Addresses, Memory>
         ensures { IfOk result (λ more. more ≡ with_one self x) }
     {
         let Addresses {
