@@ -11,9 +11,9 @@
 //! 16 deep; and where such a range is written, each of its variables is assigned a part (`proofs/Covers.antt`).
 //!
 //! So each statement and each exit obeys its rule, mentions what the head has (`proofs/Suits.antt`) and fits the listing
-//! (`proofs/Fit.antt`). The head declares what is called by the listing's prototypes: so the arguments and the target
-//! have the widths that are declared, and a call goes on where its callee is declared to return, as the layout asks
-//! (`proofs/Laying.antt`). That lines and numbers are right then follows from the layout and the naming of any code.
-//! Atoms that stand in their order are parameters in theirs, and the variables behind them the locals
-//! (`proofs/Valid.antt`). The numbers that a text has in 64 bits are a premise (`specs/Long.antt`).
+//! (`proofs/Fit.antt`). The head declares what is called, by the prototypes of the listing (`proofs/Callees.antt`): so
+//! the arguments and the target have the widths that are declared, and a call goes on where its callee is declared to
+//! return, as the layout asks (`proofs/Laying.antt`). That lines and numbers are right then follows from the layout and
+//! the naming of any code. Atoms that stand in their order are parameters in theirs, and the variables behind them the
+//! locals (`proofs/Valid.antt`). The numbers that a text has in 64 bits are a premise (`specs/Long.antt`).
 #![tactic(auto)]
