@@ -1,4 +1,9 @@
 -- What stands for a call does what the call does: it is recorded, takes an answer, and leaves what the answer has.
+-- The range of each variable of a register lies in a range that the call spares, or meets none (Spared.antt). The
+-- result's variables have their old words until its parts are assigned, so before that the variables hold the words of
+-- bytes that spare the result too (Kept.antt). What takes what is left assigns no variable of the result, so that the
+-- call's own assignment may be thought of behind it (Extras.antt), where it and the parts are one write of the result
+-- (Writing.antt).
 use Rattle.std.proofs.Common.{◌≡◌, ℕ, suc, ◌%◌, ◌<◌, ◌≤◌, Bool, true, List, [], ◌∷◌, ◌++◌, length, Option, Some, None, refl, sym, ap, ◌∙◌, subst}
 use Rattle.std.specs.Prelude.{IfSome}
 use Rattle.std.specs.List.{AllByRecursion}
