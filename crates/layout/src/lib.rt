@@ -11,11 +11,11 @@
 #![tactic(auto)]
 
 mod branches;
-mod callees;
+mod declarations;
 mod function;
 mod head;
 mod lines;
 mod named;
 
-pub use callees::callees;
+pub use declarations::callees;
 pub use head::{laid_out, plain_head};

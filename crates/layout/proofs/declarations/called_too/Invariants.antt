@@ -1,6 +1,6 @@
 use Rattle.std.proofs.Common.{◌≡◌, drop}
 use Rattle.layout.specs.Callees.{called_by}
-use Rattle.layout.proofs.callees.called_too.Given as goal
+use Rattle.layout.proofs.declarations.called_too.Given as goal
 
 abbrev pub invariant-loop-statement : goal.invariant-loop-statement
 invariant-loop-statement l =

@@ -1,6 +1,6 @@
 use Rattle.std.proofs.Common.{◌≡◌, ◌++◌, map, drop}
 use Rattle.layout.specs.Callees.{width_passed}
-use Rattle.layout.proofs.callees.widths_passed.Given as goal
+use Rattle.layout.proofs.declarations.widths_passed.Given as goal
 
 abbrev pub invariant-loop-argument : goal.invariant-loop-argument
 invariant-loop-argument l =
