@@ -1,4 +1,4 @@
--- Where the values of a switch rise, they differ, and its arms rise.
+-- Values that rise differ; and the arms of a switch whose values differ rise.
 use Rattle.std.proofs.Common.{◌≡◌, ℕ, ◌<◌, ◌≤◌, Bool, true, false, not, List, [], ◌∷◌, map, refl, sym, ap, ◌∙◌, subst, arith}
 use Rattle.std.specs.Prelude.{◌==◌, ◌&&◌, cond}
 use Rattle.std.specs.List.{AllByRecursion}
@@ -9,8 +9,9 @@ use Rattle.cmeaning.specs.declared.tree.Arm.{Arm as Branch}
 use Rattle.cmeaning.specs.Valid.{is_in, are_distinct}
 use Rattle.blockcode.specs.declared.code.Arm.{Arm}
 use Rattle.blockcode.specs.CanLay.{values_of}
-use Rattle.blockcode.specs.Laid.{branch_to, branches, targets, values_to, without}
+use Rattle.blockcode.specs.Laid.{branch_to, branches, by_value, switch_arms, targets, values_to, without}
 use Rattle.blockcode.specs.Rising.{AreRising, ArmsRise, IsBefore, IsLeast, StandByLeast}
+use Rattle.blockcode.proofs.ByValue.{values_rise}
 use Rattle.blockcode.proofs.Targets.{out}
 
 abbrev AllAbove : ℕ → List ℕ → Type 0
@@ -143,9 +144,12 @@ stand_by_least (a ∷ rest) rise = (
   still_stand a rest (targets rest) (stand_by_least rest rise.1),
 )
 
--- The arms of a switch whose values rise: the values of each rise, and the arms stand by the least value of each.
-pub arms_rise : (arms : List Arm) → AreRising (values_of arms) → ArmsRise (branches arms)
-arms_rise arms rise = record {
+rising_arms : (arms : List Arm) → AreRising (values_of arms) → ArmsRise (branches arms)
+rising_arms arms rise = record {
   within = within_rise arms (targets arms) rise;
   by_least = stand_by_least arms rise;
 }
+
+-- The arms of a switch whose values differ: the values of each rise, and the arms stand by the least value of each.
+pub arms_rise : (arms : List Arm) → are_distinct (values_of arms) ≡ true → ArmsRise (switch_arms arms)
+arms_rise arms each = rising_arms (by_value arms) (values_rise arms each)

@@ -4,13 +4,13 @@ use Rattle.pcode_model.specs.Spaces.{or}
 use Rattle.cmeaning.specs.declared.tree.Stmt.{Stmt}
 use Rattle.cmeaning.specs.Do.{callee_of}
 use Rattle.cmeaning.specs.Flat.{Do, piece_of, single}
+use Rattle.cmeaning.specs.Valid.{are_distinct}
 use Rattle.blockcode.specs.declared.code.Arm.{Arm}
 use Rattle.blockcode.specs.declared.code.Exit.{Exit}
 use Rattle.blockcode.specs.declared.code.Exit.TheVariants as X
 use Rattle.blockcode.specs.declared.code.Block.{Block}
 use Rattle.blockcode.specs.declared.code.Code.{Code}
 use Rattle.blockcode.specs.Numbers.{AreNumbered}
-use Rattle.blockcode.specs.Rising.{AreRising}
 use Rattle.blockcode.specs.Run.{call_returns}
 
 -- ---- statements, by whether the callee at an address is declared to return
@@ -44,12 +44,12 @@ EndsInCall (s ∷ t ∷ ss) = EndsInCall (t ∷ ss)
 abbrev pub values_of : List Arm → List ℕ
 values_of arms = map (λ (a : Arm). a.value) arms
 
--- The values of a switch rise, and before a Stop stands a call, which so doesn't return.
+-- The values of a switch differ, and before a Stop stands a call, which so doesn't return.
 abbrev pub CanLeave : List Stmt → Exit → Type 0
 CanLeave ss (X.Return e) = Unit {0}
 CanLeave ss (X.Jump to) = Unit {0}
 CanLeave ss (X.Test c taken other) = Unit {0}
-CanLeave ss (X.Switch e arms) = AreRising (values_of arms)
+CanLeave ss (X.Switch e arms) = are_distinct (values_of arms) ≡ true
 CanLeave ss X.Stop = EndsInCall ss
 
 -- ---- the whole

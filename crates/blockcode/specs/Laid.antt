@@ -1,7 +1,7 @@
 -- Code of blocks as the body of a C function, by the code's own numbers: its variables are the code's, and a label has
 -- the number of its block. A block has a label where a goto leads to it, and a goto stands where the next block isn't the
 -- one that follows. This project's own.
-use Rattle.std.specs.Prelude.{ℕ, suc, ◌==◌, Bool, true, false, if◌then◌else◌, List, [], ◌∷◌, ◌++◌, map}
+use Rattle.std.specs.Prelude.{ℕ, suc, ◌==◌, nat_lt, Bool, true, false, if◌then◌else◌, List, [], ◌∷◌, ◌++◌, map}
 use Rattle.pcode_model.specs.Spaces.{or}
 use Rattle.cmeaning.specs.declared.tree.Arm.{Arm as Branch}
 use Rattle.cmeaning.specs.declared.tree.Stmt.{Stmt}
@@ -38,8 +38,19 @@ blocks_name n (x ∷ xs) b = or (exit_names (suc n) x.exit b) (blocks_name (suc 
 abbrev pub is_named : Code → ℕ → Bool
 is_named k b = or (jump_names 0 k.entry b) (blocks_name 0 k.blocks b)
 
--- ---- the arms of a switch: one for each block that it leads to, in the order of their first cases, with all values that
--- lead there. Where the values rise, the arms rise: ArmsRise in specs/Rising.antt, arms_rise in proofs/Arms.antt.
+-- ---- the arms of a switch: one for each block that it leads to, by the least value that leads there, and each with all
+-- such values as they rise (ArmsRise in specs/Rising.antt, arms_rise in proofs/Arms.antt). The cases are put in the order
+-- of their values, and then a block's arm stands where its first case does.
+
+-- in front of the cases whose values aren't below its own
+abbrev pub placed : Arm → List Arm → List Arm
+placed a [] = a ∷ []
+placed a (x ∷ xs) = if nat_lt x.value a.value then x ∷ placed a xs else a ∷ x ∷ xs
+
+-- by their values, and cases of one value in their order
+abbrev pub by_value : List Arm → List Arm
+by_value [] = []
+by_value (a ∷ rest) = placed a (by_value rest)
 
 abbrev pub values_to : ℕ → List Arm → List ℕ
 values_to to [] = []
@@ -58,8 +69,12 @@ targets (a ∷ rest) = a.to ∷ without a.to (targets rest)
 abbrev pub branch_to : List Arm → ℕ → Branch
 branch_to arms to = record { cases = values_to to arms; body = S.Goto to ∷ [] }
 
+-- by where their first cases stand
 abbrev pub branches : List Arm → List Branch
 branches arms = map (branch_to arms) (targets arms)
+
+abbrev pub switch_arms : List Arm → List Branch
+switch_arms arms = branches (by_value arms)
 
 -- ---- statements
 
@@ -76,7 +91,7 @@ abbrev pub exit_lines : ℕ → Exit → List Stmt
 exit_lines next (X.Return e) = S.Return e ∷ []
 exit_lines next (X.Jump to) = goto next to
 exit_lines next (X.Test c taken other) = S.If c (S.Goto taken ∷ []) ∷ goto next other
-exit_lines next (X.Switch e arms) = S.Switch e (branches arms) ∷ []
+exit_lines next (X.Switch e arms) = S.Switch e (switch_arms arms) ∷ []
 exit_lines next X.Stop = []
 
 -- the blocks from a number on, by which ones have a label

@@ -38,7 +38,7 @@ pub enum Exit {
         taken: u32,
         other: u32,
     },
-    /// By the value of an expression, which is that of an arm. The arms' values rise, so they differ.
+    /// By the value of an expression, which is that of an arm. The arms' values differ.
     Switch {
         value: Expr,
         arms: Arms,

@@ -1,9 +1,9 @@
-//! The arms of a switch: one for each block that it leads to.
+//! The arms of a switch: one for each block that it leads to, by the least value that leads there.
 
 ghost use Rattle.std.specs.Prelude.{◌≡◌, ◌<◌, [], Some, length, map, IfOk, OnOk};
 ghost use Rattle.std.specs.Ordering.{nat_cmp};
 ghost use Rattle.std.specs.BTreeMap.{get, Updates};
-ghost use Rattle.blockcode.specs.Laid.{branches as branches_of};
+ghost use Rattle.blockcode.specs.Laid.{by_value as by_value_of, switch_arms};
 ghost use Rattle.layout.specs.Collected.{first_of, with_value, with_case, with_cases, branch_arm};
 
 use bits_core::Memory;
@@ -136,11 +136,21 @@ fn made(alloc: Global, listed: Vec<Led>) -> Result<Branches, Memory>
     Ok(branches)
 }
 
+/// The cases by their values.
+fn by_value(alloc: Global, arms: &[Arm]) -> Result<Vec<Arm>, Memory>
+    ensures { IfOk result (λ cases. cases.items ≡ by_value_of arms.now) }
+{
+    let mut cases = Vec::from_slice(alloc, arms)?;
+    cases.sort_by_key(|arm| arm.value)?;
+    Ok(cases)
+}
+
 /// The arms of a switch of these cases.
 #[tactic(auto, using(crate::proofs::Collected::branches_are))]
 pub(crate) fn branches(alloc: Global, arms: &[Arm]) -> Result<Branches, Memory>
-    ensures { IfOk result (λ bs. bs ≡ branches_of arms.now) }
+    ensures { IfOk result (λ bs. bs ≡ switch_arms arms.now) }
 {
-    let AllLed { listed, .. } = collected(alloc, arms)?;
+    let cases = by_value(alloc, arms)?;
+    let AllLed { listed, .. } = collected(alloc, &cases)?;
     made(alloc, listed)
 }

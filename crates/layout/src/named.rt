@@ -11,7 +11,9 @@ use std::alloc::Global;
 
 fn mark(named: &mut Vec<bool>, block: u32)
     ensures length { length named.new.items ≡ length named.old.items }
-    ensures flags { (b : ℕ) → b < length named.new.items → slice_index_or named.new.items b false ≡ either (block == b) (slice_index_or named.old.items b false) }
+    ensures flags { (b : ℕ)
+        → b < length named.new.items
+        → slice_index_or named.new.items b false ≡ either (block == b) (slice_index_or named.old.items b false) }
 {
     let block = block as usize;
     if block < named.len() {
@@ -21,7 +23,9 @@ fn mark(named: &mut Vec<bool>, block: u32)
 
 fn mark_jump(named: &mut Vec<bool>, next: u32, to: u32)
     ensures length { length named.new.items ≡ length named.old.items }
-    ensures flags { (b : ℕ) → b < length named.new.items → slice_index_or named.new.items b false ≡ either (jump_names next to b) (slice_index_or named.old.items b false) }
+    ensures flags { (b : ℕ)
+        → b < length named.new.items
+        → slice_index_or named.new.items b false ≡ either (jump_names next to b) (slice_index_or named.old.items b false) }
 {
     if to != next {
         mark(named, to);
@@ -30,7 +34,9 @@ fn mark_jump(named: &mut Vec<bool>, next: u32, to: u32)
 
 fn mark_arms(named: &mut Vec<bool>, arms: &[Arm])
     ensures length { length named.new.items ≡ length named.old.items }
-    ensures flags { (b : ℕ) → b < length named.new.items → slice_index_or named.new.items b false ≡ either (arms_name arms.now b) (slice_index_or named.old.items b false) }
+    ensures flags { (b : ℕ)
+        → b < length named.new.items
+        → slice_index_or named.new.items b false ≡ either (arms_name arms.now b) (slice_index_or named.old.items b false) }
 {
     for arm in arms {
         mark(named, arm.to);
@@ -39,7 +45,9 @@ fn mark_arms(named: &mut Vec<bool>, arms: &[Arm])
 
 fn mark_exit(named: &mut Vec<bool>, next: u32, exit: &Exit)
     ensures length { length named.new.items ≡ length named.old.items }
-    ensures flags { (b : ℕ) → b < length named.new.items → slice_index_or named.new.items b false ≡ either (exit_names next exit.now b) (slice_index_or named.old.items b false) }
+    ensures flags { (b : ℕ)
+        → b < length named.new.items
+        → slice_index_or named.new.items b false ≡ either (exit_names next exit.now b) (slice_index_or named.old.items b false) }
 {
     match exit {
         Exit::Jump(to) => mark_jump(named, next, *to),

@@ -8,10 +8,12 @@ use Rattle.pcode_model.specs.Spaces.{or}
 use Rattle.cmeaning.specs.declared.shape.Shape.{Shape}
 use Rattle.cmeaning.specs.Valid.{is_in, are_cases_of, are_distinct, are_words}
 use Rattle.blockcode.specs.declared.code.Arm.{Arm}
-use Rattle.blockcode.specs.Laid.{targets, values_to, without}
+use Rattle.blockcode.specs.Laid.{by_value, placed, targets, values_to, without}
 use Rattle.blockcode.specs.CanLay.{values_of}
 use Rattle.layout_laws.proofs.Laid.{same_number}
 use Rattle.pcode_laws.proofs.Rules.{neither}
+use Rattle.blockcode.proofs.Arms.{rising_distinct}
+use Rattle.blockcode.proofs.ByValue.{values_rise}
 use Rattle.blockcode.proofs.Targets.{AreOnce, once, out, values_none}
 
 -- the values that lead to these blocks
@@ -165,6 +167,37 @@ words_led : (w : ℕ) (arms : List Arm) (ts : List ℕ)
 words_led w arms [] h = refl
 words_led w arms (t ∷ ts) h =
     words_append w (values_to t arms) (led_values arms ts) (words_to w t arms h) (words_led w arms ts h)
+
+words_placed : (w : ℕ) (a : Arm) (xs : List Arm)
+    → nat_lt a.value (limit w) ≡ true
+    → are_words w (values_of xs) ≡ true
+    → are_words w (values_of (placed a xs)) ≡ true
+words_placed w a [] here h = ap (λ b. b && true) here
+words_placed w a (x ∷ xs) here h =
+    let parts = and_parts (nat_lt x.value (limit w)) (are_words w (values_of xs)) h in
+    by (nat_lt x.value a.value) parts.0 (words_placed w a xs here parts.1) where
+      by : (b : Bool)
+          → nat_lt x.value (limit w) ≡ true
+          → are_words w (values_of (placed a xs)) ≡ true
+          → are_words w (values_of (cond b (x ∷ placed a xs) (a ∷ x ∷ xs))) ≡ true
+      by true first next = ap (λ b. b && are_words w (values_of (placed a xs))) first ∙ next
+      by false first next = ap (λ b. b && are_words w (values_of (x ∷ xs))) here ∙ h
+
+words_kept : (w : ℕ) (arms : List Arm) → are_words w (values_of arms) ≡ true → are_words w (values_of (by_value arms)) ≡ true
+words_kept w [] h = refl
+words_kept w (a ∷ rest) h = let parts = and_parts (nat_lt a.value (limit w)) (are_words w (values_of rest)) h in
+    words_placed w a (by_value rest) parts.0 (words_kept w rest parts.1)
+
+-- Values that may be the cases of a switch may be so in their order.
+pub cases_kept : (arms : List Arm) (o : Option Shape)
+    → are_cases_of (values_of arms) o ≡ true
+    → are_cases_of (values_of (by_value arms)) o ≡ true
+cases_kept arms None h = absurd (cc)
+cases_kept arms (Some s) h =
+    let parts = and_parts (are_distinct (values_of arms)) (are_words s.width (values_of arms)) h in
+    let sorted = values_of (by_value arms) in
+    ap (λ b. b && are_words s.width sorted) (rising_distinct sorted (values_rise arms parts.0))
+    ∙ words_kept s.width arms parts.1
 
 -- Values that may be the cases of a switch may be so by their blocks too.
 pub cases_led : (arms : List Arm) (o : Option Shape)

@@ -18,7 +18,7 @@ use Rattle.blockcode.specs.declared.code.Exit.{Exit}
 use Rattle.blockcode.specs.declared.code.Exit.TheVariants as X
 use Rattle.blockcode.specs.declared.code.Block.{Block}
 use Rattle.blockcode.specs.declared.code.Code.{Code}
-use Rattle.blockcode.specs.Laid.{is_named, branch_to, branches, targets, label_line, goto, exit_lines, laid_from, laid_body}
+use Rattle.blockcode.specs.Laid.{is_named, branch_to, branches, by_value, switch_arms, targets, label_line, goto, exit_lines, laid_from, laid_body}
 use Rattle.layout.specs.Suits.{Knows, BodySuits, ExitSuits, AllSuit}
 use Rattle.layout.proofs.Suiting.{knows_append, knows_in, knows_one}
 
@@ -64,7 +64,8 @@ module _ (h : Head) where
       (knows_one h (S.If c (S.Goto taken ∷ [])) (in_expr c ++ []) (in_test c taken) (knows_append h (in_expr c) [] s.1 tt))
       (knows_none (in_body (goto next other)) (in_jump next other))
   knows_exit next (X.Switch e arms) s =
-      knows_one h (S.Switch e (branches arms)) (in_expr e ++ []) (in_switch e arms) (knows_append h (in_expr e) [] s.1 tt)
+      knows_one h (S.Switch e (switch_arms arms)) (in_expr e ++ []) (in_switch e (by_value arms))
+      (knows_append h (in_expr e) [] s.1 tt)
   knows_exit next X.Stop s = tt
 
   -- the lines of a block without its label

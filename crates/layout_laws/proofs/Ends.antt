@@ -1,6 +1,6 @@
 -- The returns, tests and switches of the laid-out body, and its whole run.
 use Rattle.std.proofs.Common.{◌≡◌, ℕ, zero, suc, ◌+◌, ◌-◌, Bool, true, false, List, [], ◌∷◌, ◌++◌, length, drop, refl, sym, ap, ◌∙◌, subst, Option, Some, None, arith, inl}
-use Rattle.std.specs.Prelude.{◌==◌, cond, slice_get}
+use Rattle.std.specs.Prelude.{◌==◌, cond, nat_lt, slice_get}
 use Rattle.machine.specs.Trace.{End, Returned, Undefined, Trace}
 use Rattle.machine.specs.TwoWay.{TwoWay, IsFront}
 use Rattle.machine.specs.Machine.{after, Machine, seen, IsMonotone, RankedSimulates}
@@ -24,8 +24,9 @@ use Rattle.blockcode.specs.declared.code.Block.{Block}
 use Rattle.blockcode.specs.declared.code.Code.{Code}
 use Rattle.blockcode.specs.Run.{CodeState, widths, chosen, enters, enters_by, returns_with, leave, code_step, code_machine}
 use Rattle.blockcode.proofs.Arms.{rising_distinct}
+use Rattle.blockcode.proofs.ByValue.{switch_kept, values_rise}
 use Rattle.blockcode.specs.CanLay.{AreSimple, CanLeave, any_switch, has_switch, is_switch, values_of}
-use Rattle.blockcode.specs.Laid.{branches, goto, exit_lines, laid_from, targets}
+use Rattle.blockcode.specs.Laid.{branches, by_value, goto, exit_lines, laid_from, placed, targets}
 use Rattle.blockcode.proofs.Straight.{get_in_front, get_of_drop, rest_of_drop, still, step_in}
 use Rattle.layout_laws.proofs.Switches.{case_leads, cases_from, chosen_by, chosen_is, jumps, leads_to, switch_span, switch_steps}
 use Rattle.layout_laws.proofs.Follows.{Lines, flat_from, Leads, JumpLeads, ArmsLead, IsLaid, Given, behind, NeverLost, Related, Went, body_run, goes_on, entered, arrives, ended_goes, jump_goes, simple_goes, c_is, c_still, front}
@@ -199,6 +200,17 @@ module _ (l : Listing) (k : Code) (g : Lines) (all : Given k g) where
 
   -- ---- switches
 
+  led_placed : (a : Arm) (xs : List Arm) → Leads k g a.to → ArmsLead k g xs → ArmsLead k g (placed a xs)
+  led_placed a [] lead all = (lead, tt)
+  led_placed a (x ∷ xs) lead all = by (nat_lt x.value a.value) (led_placed a xs lead all.1) where
+    by : (b : Bool) → ArmsLead k g (placed a xs) → ArmsLead k g (cond b (x ∷ placed a xs) (a ∷ x ∷ xs))
+    by true next = (all.0, next)
+    by false next = (lead, all)
+
+  led_kept : (arms : List Arm) → ArmsLead k g arms → ArmsLead k g (by_value arms)
+  led_kept [] all = tt
+  led_kept (a ∷ rest) all = led_placed a (by_value rest) all.0 (led_kept rest all.1)
+
   arm_leads : (arms : List Arm) (w t : ℕ) → ArmsLead k g arms → leads_to arms w ≡ Some t → Leads k g t
   arm_leads [] w t lead is = absurd (cc)
   arm_leads (a ∷ rest) w t lead is = by (a.value == w) is (arm_leads rest w t lead.1) where
@@ -307,8 +319,10 @@ module _ (l : Listing) (k : Code) (g : Lines) (all : Given k g) where
   exit_goes n (X.Test e taken other) u c never has go same mu leaves laid left rank =
       test_goes n taken other e u c never go same mu laid left
   exit_goes n (X.Switch e arms) u c never has go same mu leaves laid left rank =
-      switch_goes n e arms (laid_from g.named (suc u.block) (drop (suc u.block) k.blocks)) u c never (has e arms refl)
-      go same (rising_distinct (values_of arms) leaves) mu laid left
+      let sorted = by_value arms in
+      switch_goes n e sorted (laid_from g.named (suc u.block) (drop (suc u.block) k.blocks)) u c never (has e arms refl)
+      go same (rising_distinct (values_of sorted) (values_rise arms leaves))
+      (mu ∙ sym (switch_kept (widths k.variables) e arms u)) (led_kept arms laid) left
   exit_goes n X.Stop u c never has go same mu leaves laid left rank = absurd leaves
 
   body_goes : (n : ℕ) (b : Block) (ss : List Stmt) (u : CodeState) (c : CState)

@@ -17,7 +17,7 @@ use Rattle.blockcode.specs.declared.code.Block.{Block}
 use Rattle.blockcode.specs.declared.code.Code.{Code}
 use Rattle.blockcode.specs.declared.code.Exit.{Exit}
 use Rattle.blockcode.specs.declared.code.Exit.TheVariants as X
-use Rattle.blockcode.specs.Laid.{branch_to, branches, exit_lines, goto, is_named, label_line, laid_body, laid_from, targets}
+use Rattle.blockcode.specs.Laid.{branch_to, branches, by_value, exit_lines, goto, is_named, label_line, laid_body, laid_from, targets}
 use Rattle.layout.specs.Fitting.{BlocksFit, BodyFits}
 use Rattle.layout.specs.Function.{laid_out}
 use Rattle.layout.proofs.Fitting.{append_fits, fits_layer, one_fits}
@@ -67,7 +67,7 @@ module _ (l : Listing) (ws : ℕ → ℕ) where
       append_fits l ws (S.If c (S.Goto taken ∷ []) ∷ []) (goto next other)
       (if_fits c (S.Goto taken ∷ []) (goto_fits taken))
       (jump_fits next other)
-  exit_fits next (X.Switch e arms) = switch_fits e arms
+  exit_fits next (X.Switch e arms) = switch_fits e (by_value arms)
   exit_fits next X.Stop = refl
 
   blocks_fit : (named : ℕ → Bool) (n : ℕ) (blocks : List Block)

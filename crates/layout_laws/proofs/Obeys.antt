@@ -23,12 +23,13 @@ use Rattle.blockcode.specs.declared.code.Exit.TheVariants as X
 use Rattle.blockcode.specs.declared.code.Block.{Block}
 use Rattle.blockcode.specs.declared.code.Code.{Code}
 use Rattle.blockcode.specs.CanLay.{values_of}
-use Rattle.blockcode.specs.Laid.{arms_name, blocks_name, branch_to, branches, exit_lines, exit_names, goto, is_named, jump_names, label_line, laid_body, laid_from, targets, values_to, without}
+use Rattle.blockcode.specs.Laid.{arms_name, blocks_name, branch_to, branches, by_value, exit_lines, exit_names, goto, is_named, jump_names, label_line, laid_body, laid_from, targets, values_to, without}
 use Rattle.blockcode.specs.Numbers.{AreNumbered, ArmsBelow, ExitBelow}
+use Rattle.blockcode.proofs.ByValue.{name_kept}
 use Rattle.layout.specs.Suits.{AllSuit, ExitSuits}
 use Rattle.layout.proofs.Suiting as Suiting
 use Rattle.layout.proofs.Suiting.{obey_append, obey_none, obey_one}
-use Rattle.layout_laws.proofs.Cases.{cases_led, led_values}
+use Rattle.layout_laws.proofs.Cases.{cases_kept, cases_led, led_values}
 use Rattle.layout_laws.proofs.Covered.{laid_covered, named_has_line}
 use Rattle.layout_laws.proofs.Laid.{below_at, block_names, jump_named, or_true, same_number, true_or}
 
@@ -147,7 +148,9 @@ module _ (h : Head) (leads : ℕ → Bool) where
       (obey_test c taken s.0 (lead taken (true_or (taken == taken) (jump_names next other taken) (same_number taken))))
       (obey_jump next other
       (λ ne. lead other (or_true (taken == other) (jump_names next other other) (jump_named next other ne))))
-  obey_exit next (X.Switch e arms) s lead = obey_switch e arms s.0 lead
+  obey_exit next (X.Switch e arms) s lead =
+      obey_switch e (by_value arms) (cases_kept arms (shape_of (widths_of h) e) s.0)
+      (λ t is. lead t (sym (name_kept t arms) ∙ is))
   obey_exit next X.Stop s lead = obey_none h leads
 
   obey_label : (b : Bool) (n : ℕ) → n < 2 ^ 32 → Obey (label_line b n)

@@ -10,7 +10,7 @@ use Rattle.blockcode.specs.declared.code.Exit.{Exit}
 use Rattle.blockcode.specs.declared.code.Exit.TheVariants as X
 use Rattle.blockcode.specs.declared.code.Block.{Block}
 use Rattle.blockcode.specs.CanLay.{AllSimple, AreSimple}
-use Rattle.blockcode.specs.Laid.{label_line, goto, exit_lines, laid_from}
+use Rattle.blockcode.specs.Laid.{by_value, label_line, goto, exit_lines, laid_from}
 use Rattle.layout_laws.proofs.Pieces.{span_of, labels_in, steps_of, steps_append, labels_append, simple_labels, IsMeasured, simple_measured, measured_append, drop_past, measured_goto, measured_return, measured_label, measured_if, label_none}
 use Rattle.layout_laws.proofs.Switches.{switch_labels, switch_measured}
 
@@ -36,7 +36,7 @@ module _ (returns : ℕ → Bool) where
   measured_exit next (X.Test c taken other) =
       measured_append returns (S.If c (S.Goto taken ∷ []) ∷ []) (goto next other)
       (measured_if returns c (S.Goto taken ∷ []) (measured_goto returns taken)) (measured_jump next other)
-  measured_exit next (X.Switch e arms) = switch_measured arms returns e
+  measured_exit next (X.Switch e arms) = switch_measured (by_value arms) returns e
   measured_exit next X.Stop = measured_none
 
   pub unlabelled_jump : (next to p : ℕ) → labels_in returns (goto next to) p ≡ []
@@ -53,7 +53,7 @@ module _ (returns : ℕ → Bool) where
       ap (λ l. l ++ labels_in returns (goto next other) (p + a.span))
       (ap (λ a. a.labels p) (piece_of_if returns c (S.Goto taken ∷ [])) ∙ label_none returns taken (suc p))
       ∙ unlabelled_jump next other (p + a.span)
-  unlabelled_exit next (X.Switch e arms) p = switch_labels arms returns e p
+  unlabelled_exit next (X.Switch e arms) p = switch_labels (by_value arms) returns e p
   unlabelled_exit next X.Stop p = refl
 
 -- ---- blocks

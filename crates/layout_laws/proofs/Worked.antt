@@ -23,7 +23,7 @@ case value to = record { value = value; to = to }
 abbrev arm : List ℕ → ℕ → Branch
 arm values to = record { cases = values; body = S.Goto to ∷ [] }
 
--- Two cases of one block are one arm, which stands where the first of them does.
+-- Two cases of one block are one arm.
 two_cases : (e : Expr)
     → laid_body (code 0
     (block [] (X.Switch e (case 3 1 ∷ case 4 2 ∷ case 7 1 ∷ []))
@@ -33,6 +33,17 @@ two_cases : (e : Expr)
     ≡ S.Switch e (arm (3 ∷ 7 ∷ []) 1 ∷ arm (4 ∷ []) 2 ∷ [])
     ∷ S.Label 1 ∷ S.Return None ∷ S.Label 2 ∷ S.Return None ∷ []
 two_cases e = refl
+
+-- The arms stand by the least value of each, and its values rise, in whatever order the cases come.
+cases_turned : (e : Expr)
+    → laid_body (code 0
+    (block [] (X.Switch e (case 7 1 ∷ case 4 2 ∷ case 3 1 ∷ []))
+    ∷ block [] (X.Return None)
+    ∷ block [] (X.Return None)
+    ∷ []))
+    ≡ S.Switch e (arm (3 ∷ 7 ∷ []) 1 ∷ arm (4 ∷ []) 2 ∷ [])
+    ∷ S.Label 1 ∷ S.Return None ∷ S.Label 2 ∷ S.Return None ∷ []
+cases_turned e = refl
 
 -- An arm leads by a goto to the next block too.
 next_case : (e : Expr)
