@@ -1,7 +1,7 @@
 -- An expression that obeys the rules of a valid tree has a value wherever the variables have one that it reads: it
 -- divides by constants alone, and these are not 0. Its shape's depth is its depth.
 use Rattle.std.proofs.Common.{◌≡◌, ℕ, ◌+◌, ◌-◌, ◌==◌, ◌&&◌, max, nat_lt, Bool, true, false, not, cond, Option, Some, None, refl, sym, ap, ◌∙◌}
-use Rattle.std.proofs.lemmas.Bool.{eqb-true}
+use Rattle.std.proofs.lemmas.Bool.{and_parts, eqb-true}
 use Rattle.bits_core.specs.declared.word.Word.{Word}
 use Rattle.bits_core.specs.declared.ops.Divide.{Divide}
 use Rattle.bits_core.specs.Value.{limit, half, divide_value, quotient_or_rest}
@@ -193,10 +193,6 @@ says ws e = by_parts (λ e. (s : Shape) → shape_of ws e ≡ Some s → Says ws
 
 -- ---- values
 
-and_true : (a b : Bool) → a && b ≡ true → (a ≡ true) × (b ≡ true)
-and_true true b e = (refl, e)
-and_true false b e = absurd (cc)
-
 not_true : (b : Bool) → not b ≡ true → b ≡ false
 not_true true e = absurd (cc)
 not_true false e = refl
@@ -218,7 +214,7 @@ signed_of : (o : Option Word)
 signed_of None e = absurd (cc)
 signed_of (Some c) e =
     let least = c.value == limit c.width.bytes - 1 in
-    let u = and_true (not (c.value == 0)) (not least) e in
+    let u = and_parts (not (c.value == 0)) (not least) e in
     (c, refl, not_true (c.value == 0) u.0, not_true least u.1)
 
 signed_divides : (op : Divide) (w x y : ℕ)
@@ -248,11 +244,11 @@ module _
         → (n : ℕ) × (two_value k (width_of ws a) (width_of ws b) x y ≡ Some n)
     two_has (Arithmetic op) x right = (_, refl)
     two_has (Division op) x right =
-        let c = constant_of q.constant (and_true (same_width p q) (by_constant q.constant) right).1 in
+        let c = constant_of q.constant (and_parts (same_width p q) (by_constant q.constant) right).1 in
         let same : c.0.value ≡ y = let v = sym ((sb.constant c.0 c.1).1 env) ∙ right_is in cc in
         divides _ (width_of ws a) x y (ap (λ z. z == 0) (sym same) ∙ c.2)
     two_has (SignedDivision op) x right =
-        let r = and_true (same_width p q) (by_signed q.constant) right in
+        let r = and_parts (same_width p q) (by_signed q.constant) right in
         let c = signed_of q.constant r.1 in
         let same : c.0.value ≡ y = let v = sym ((sb.constant c.0 c.1).1 env) ∙ right_is in cc in
         let width : c.0.width.bytes ≡ width_of ws a =

@@ -59,7 +59,8 @@ fn store<P: Places>(
     address: &Expr,
     value: &Expr,
 ) -> Result<Stmt, Memory>
-    ensures { IfOk result (λ r. r ≡ S.Store space.now (all_with (P.place places.now) address.now) (all_with (P.place places.now) value.now)) }
+    ensures { IfOk result (λ r. r ≡ S.Store space.now (all_with (P.place places.now) address.now)
+        (all_with (P.place places.now) value.now)) }
 {
     let space = name_again(alloc, space)?;
     let address = with_all(alloc, places, address)?;
@@ -79,7 +80,8 @@ fn divide<P: Places>(
     left: &Expr,
     right: &Expr,
 ) -> Result<Stmt, Memory>
-    ensures { IfOk result (λ r. r ≡ S.Divide (P.name places.now v) op (all_with (P.place places.now) left.now) (all_with (P.place places.now) right.now)) }
+    ensures { IfOk result (λ r. r ≡ S.Divide (P.name places.now v) op (all_with (P.place places.now) left.now)
+        (all_with (P.place places.now) right.now)) }
 {
     let target = places.target(v);
     let left = with_all(alloc, places, left)?;
@@ -99,7 +101,8 @@ fn call_ind<P: Places>(
     callee: &Expr,
     args: &[Expr],
 ) -> Result<Stmt, Memory>
-    ensures { IfOk result (λ r. r ≡ S.CallInd (map_target (P.name places.now) v) (all_with (P.place places.now) callee.now) (each_with (P.place places.now) args.now)) }
+    ensures { IfOk result (λ r. r ≡ S.CallInd (map_target (P.name places.now) v) (all_with (P.place places.now) callee.now)
+        (each_with (P.place places.now) args.now)) }
 {
     let target = target_by(places, v);
     let callee = with_all(alloc, places, callee)?;

@@ -118,13 +118,14 @@ record GoodProto (p : Proto) : Type 0 where
   keep : AllGood p.keep
 
 -- a varnode of what is read
-read_back : (vs : List Varnode) (v : Varnode) → IsIn v (ranges_read (all_read vs)) → IsIn v vs
+-- What is read of all inputs, or of all but the first one, is an input.
+pub read_back : (vs : List Varnode) (v : Varnode) → IsIn v (ranges_read (all_read vs)) → IsIn v vs
 read_back vs v is = subst (λ (xs : List Varnode). IsIn v xs) (read_all vs) is
 
-read_rest : (vs : List Varnode) (v : Varnode) → IsIn v (ranges_read (all_but_first vs)) → IsIn v (past_first vs)
+pub read_rest : (vs : List Varnode) (v : Varnode) → IsIn v (ranges_read (all_but_first vs)) → IsIn v (past_first vs)
 read_rest vs v is = subst (λ (xs : List Varnode). IsIn v xs) (read_past vs) is
 
-of_rest : (vs : List Varnode) (v : Varnode) → IsIn v (past_first vs) → IsIn v vs
+pub of_rest : (vs : List Varnode) (v : Varnode) → IsIn v (past_first vs) → IsIn v vs
 of_rest [] v is = absurd is
 of_rest (x ∷ vs) v is = inr is
 
