@@ -47,7 +47,7 @@ use Rattle.plain_valid.specs.Long.{HasLong, NamesLong, StandsLong}
 use Rattle.plain_valid.proofs.Fit.{plain_body_fits, plain_params_fit}
 use Rattle.plain_valid.proofs.Laying.{blocks_length, can_lay, plain_callees}
 use Rattle.plain_valid.proofs.Long.{atoms_long}
-use Rattle.plain_valid.proofs.Signature.{plain_inputs}
+use Rattle.plain_valid.proofs.Signature.{plain_declared, plain_inputs}
 use Rattle.plain_valid.proofs.Suits.{plain_suits}
 use Rattle.plain_valid.proofs.Valid.{few_declared, params_right}
 use Rattle.layout_laws.proofs.Fits.{laid_fits}
@@ -130,6 +130,7 @@ module _
           name = refl;
           gives = gives_is l read good;
           params = (atoms, (are, plain_inputs l [] blocks atoms form));
+          callees = plain_declared l blocks atoms;
         };
       }
 

@@ -1,5 +1,6 @@
--- The plain form of a listing's C function: its name, its result and its parameters. This project's own.
+-- The plain form of a listing's C function: its name, its result, its parameters and what it calls. This project's own.
 use Rattle.std.specs.Prelude.{◌≡◌, List, [], None}
+use Rattle.std.specs.List.{AllByRecursion}
 use Rattle.std.specs.Option.{option_map}
 use Rattle.bits_core.specs.declared.word.Width.{Width}
 use Rattle.pcode_model.specs.declared.atoms.Atom.{Atom}
@@ -9,6 +10,7 @@ use Rattle.pcode_model.specs.declared.listing.Varnode.{Varnode}
 use Rattle.pcode_model.specs.Atoms.{AreAtoms}
 use Rattle.pcode_model.specs.Step.{proto_of}
 use Rattle.cmeaning.specs.declared.tree.CFunction.{CFunction}
+use Rattle.plain_valid.specs.Declared.{IsDeclaredBy}
 use Rattle.plain_valid.specs.Inputs.{AreInputs}
 
 pub record IsPlainForm (l : Listing) (frame : Frame) (f : CFunction) : Type 0 where
@@ -18,3 +20,5 @@ pub record IsPlainForm (l : Listing) (frame : Frame) (f : CFunction) : Type 0 wh
   pub gives : option_map (λ (width : Width). width.bytes) f.gives ≡ option_map (λ (range : Varnode). range.size) (proto_of l None).gives
   -- its parameters are one for each atom of the listing with this frame, in their order
   pub params : (atoms : List Atom) × (AreAtoms l [] frame atoms × AreInputs atoms f.params)
+  -- its callees are declared as the listing says: by name, widths, and whether they return
+  pub callees : AllByRecursion (IsDeclaredBy l) f.callees

@@ -1,3 +1,4 @@
 pub mod Long
 pub mod Inputs
+pub mod Declared
 pub mod Function
