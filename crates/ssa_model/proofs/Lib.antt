@@ -5,3 +5,5 @@ pub mod Places
 pub mod Forms
 pub mod Tests
 pub mod Sum
+pub mod Dropping
+pub mod Without

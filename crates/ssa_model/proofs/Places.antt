@@ -15,7 +15,7 @@ use Rattle.ssa_model.proofs.Rows.{home, passed_by}
 use Rattle.ssa_model.proofs.Lists.{before_new, in_inserted, before_inserted, in_removed, before_removed}
 
 -- what is passed before a place is passed before a later one
-passed_more : (o : Option OpForm) (v : ℕ) (passed before more : List ℕ)
+pub passed_more : (o : Option OpForm) (v : ℕ) (passed before more : List ℕ)
     → (IsIn v before → IsIn v more)
     → IsPassed o v passed before
     → IsPassed o v passed more

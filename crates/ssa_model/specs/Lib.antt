@@ -8,3 +8,4 @@ pub mod Text
 pub mod Examples
 pub mod Worked
 pub mod Edits
+pub mod Drops

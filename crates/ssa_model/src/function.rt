@@ -1,12 +1,15 @@
 //! Functions in SSA form, and edits that keep the form.
 ghost use Rattle.std.specs.Prelude.{◌≡◌, ◌≢◌, ◌+◌, ◌<◌, ◌≤◌, ℕ, [], Some, None, length, IsOk, IfOk, IfErr};
 ghost use Rattle.opgraph.specs.Graph.{OpRow, op_at, IsOp, IsValue, AreValues, numbers, inputs_in, uses_at};
+ghost use Rattle.node_lists.specs.Chains.{Apart};
+ghost use Rattle.ssa_model.specs.Drops.{op_numbers, AreOps, AreUnread, slots_of, without_ops};
 ghost use Rattle.ssa_model.specs.Roles.{role_of};
 ghost use Rattle.ssa_model.specs.Outline.{form, outline, width_at};
 ghost use Rattle.ssa_model.specs.Paths.{IsJoin};
 ghost use Rattle.ssa_model.specs.Formed.{Formed};
 ghost use Rattle.ssa_model.specs.Edits.{form_at, IsSsa, one_more, renaming, IsAvailableFor, with_row, with_op, without_op, AreAvailable};
 
+use crate::drops::{blank_all, remove_all};
 use crate::form::Parts;
 use bits_core::{Memory, Width};
 use opgraph::{Code, OpId, ValueId};
@@ -171,5 +174,21 @@ impl SsaFunction {
     {
         self.parts.graph.known();
         self.parts.graph.remove(op);
+    }
+
+    /// The ops, whose values they alone read, leave their blocks at once. They and their slots become spare.
+    pub fn drop_ops(&mut self, ops: &[OpId])
+        requires ops { AreOps self.old.parts.graph (op_numbers ops.now) }
+        requires once { Apart (op_numbers ops.now) }
+        requires unread { AreUnread (op_at self.old.parts.graph) (op_numbers ops.now) }
+        requires formed { Formed (outline (without_ops (op_numbers ops.now) (form_at self.old))) }
+        ensures form { form_at self.new ≡ without_ops (op_numbers ops.now) (form_at self.old) }
+        ensures edits { self.new.edits ≡ self.old.edits }
+        ensures spare_ops { self.new.parts.graph.spare_ops ≡ self.old.parts.graph.spare_ops + length ops.now }
+        ensures spare_slots { self.new.parts.graph.spare_slots
+            ≡ self.old.parts.graph.spare_slots + slots_of self.old.parts.graph (op_numbers ops.now) }
+    {
+        blank_all(&mut self.parts.graph, ops);
+        remove_all(&mut self.parts.graph, ops);
     }
 }

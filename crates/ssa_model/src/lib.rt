@@ -10,6 +10,7 @@
 //! that each op stands in.
 #![tactic(auto)]
 
+mod drops;
 pub mod form;
 pub mod function;
 pub mod worked;
