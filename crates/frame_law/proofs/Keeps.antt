@@ -3,6 +3,7 @@ use Rattle.std.proofs.Common.{◌≡◌, ℕ, ◌+◌, ◌%◌, ◌<◌, ◌≤�
 use Rattle.std.proofs.Math.Nat.{mod-eq_of_lt, add-mod_right}
 use Rattle.std.proofs.lemmas.Bool.Decides.{nat_tests}
 use Rattle.std.proofs.lemmas.Bool.{cases_lt}
+use Rattle.machine.specs.Trace.{End}
 use Rattle.machine.specs.Machine.{seen}
 use Rattle.machine.specs.Agree.{FrameLaw, IsOut}
 use Rattle.machine.proofs.Agree.{frame_law_by}
@@ -15,17 +16,18 @@ use Rattle.pcode_model.specs.declared.opcode.Opcode.TheVariants as O
 use Rattle.pcode_model.specs.Spaces.{size_of, first_ram}
 use Rattle.pcode_model.specs.Places.{standing}
 use Rattle.pcode_model.specs.Memory.{Frame, Layout, Bytes, Whole, Apart, apart, no_frame, offset_from, or_else, whole}
-use Rattle.pcode_model.specs.World.{Entry, shown}
+use Rattle.pcode_model.specs.World.{Entry, shown, unless_over}
 use Rattle.pcode_model.specs.Step.{State, Operand, Reads, ReadsStack, divided, effect_of, operands, stack0, layout, first_whole, first_apart, machine, start, step, step_at, seen_p, seen_f}
 use Rattle.pcode_laws.proofs.Grows.{pcode_grows}
 use Rattle.frame_law.specs.Aligned.{ram_size, AllAligned, AlignedEffect, Guides}
-use Rattle.frame_law.proofs.States.{over_memory, Alike, Went, alike, at_goes, over_goes}
+use Rattle.frame_law.proofs.States.{over_memory, Alike, Went, alike, at_goes}
+use Rattle.frame_law.proofs.Memories.{Same}
 
 -- ---- any two runs that begin alike
 
--- what guides the run holds, and the states are alike
+-- what guides the run holds unless it has ended, and the states are alike
 record Related (y : Layout) (I : Place → Bytes → Type 0) (s : State Whole) (t : State Apart) : Type 0 where
-  holds : I s.at s.local
+  holds : s.world.over ≡ None → I s.at s.local
   alike : Alike y s t
 
 module _
@@ -34,6 +36,26 @@ module _
     (low : y.stack0 < ram_size y)
     (guides : Guides y I)
   where
+    -- a run that has ended stays, and one that hasn't takes its step
+    by : (s : State Whole) (v : Apart) (u : State Whole) (t : State Apart)
+        → Same y s.world.memory v
+        → (s.world.over ≡ None → Went y u t)
+        → (o : Option End)
+        → s.world.over ≡ o
+        → Went y (unless_over o s u) (unless_over o (over_memory s v) t)
+    by s v u t same h None e = h e
+    by s v u t same h (Some x) e = alike y s v same
+
+    -- a run that goes on after a step went on before it
+    going : (s u : State Whole)
+        → (unless_over s.world.over s u).world.over ≡ None
+        → (o : Option End)
+        → s.world.over ≡ o
+        → s.world.over ≡ None
+    going s u f None e = e
+    going s u f (Some x) e =
+        let g : s.world.over ≡ None = ap (λ o. (unless_over o s u).world.over) (sym e) ∙ f in g
+
     goes : (s : State Whole) (t : State Apart)
         → Related y I s t
         → (let u = step (whole y) y.listing y.frame s in
@@ -44,12 +66,13 @@ module _
         let u = step (whole y) y.listing y.frame s in
         let P : State Apart → Type 0 = λ x. Went y u (step (apart y.listing) y.listing y.frame x) in
         let here = standing y.listing s.at in
-        let went = over_goes y s.world.over s (step_at (whole y) y.listing y.frame here s) (over_memory s v)
-        (step_at (apart y.listing) y.listing y.frame here (over_memory s v)) (alike y s v r.alike.same)
-        (at_goes y low here s v (λ i op e. guides.aligned s.at s.local i op e r.holds) r.alike.same) in
+        let went = by s v (step_at (whole y) y.listing y.frame here s)
+        (step_at (apart y.listing) y.listing y.frame here (over_memory s v)) r.alike.same
+        (λ e. at_goes y low here s v (λ i op is. guides.aligned s i op is (r.holds e)) r.alike.same)
+        s.world.over refl in
         ⊎_elim
         (λ (a : Alike y u (step (apart y.listing) y.listing y.frame t)).
-        inl (record { holds = guides.goes s r.holds; alike = a }))
+        inl (record { holds = λ f. let e = going s _ f s.world.over refl in guides.goes s e (r.holds e) f; alike = a }))
         (λ (o : IsOut (shown u.world) (shown (step (apart y.listing) y.listing y.frame t).world)). inr o)
         (subst P (sym r.alike.is) went)
 
@@ -62,7 +85,7 @@ module _
         frame_law_by (machine (whole y) y.listing y.frame) (machine (apart y.listing) y.listing y.frame) (Related y I)
         (pcode_grows (whole y) y.listing y.frame) (pcode_grows (apart y.listing) y.listing y.frame)
         (record { same = λ s t r. sym (ap (λ u. shown u.world) r.alike.is); goes = goes })
-        s t (record { holds = holds; alike = is })
+        s t (record { holds = λ e. holds; alike = is })
 
 -- ---- the runs of a listing
 
@@ -137,10 +160,10 @@ pub law_without_frame : (l : Listing) (e : Entry)
     → FrameLaw (seen_p l no_frame e) (seen_f l no_frame e)
 law_without_frame l e low = listing_law l no_frame e low Anything
     (record {
-      aligned = λ p b i op is h. record {
-        operands = none_aligned l e p b (operands l op.code op.inputs);
-        effect = λ ws. none_effect (layout l no_frame e) i p.index b op.out op.inputs op.code ws;
+      aligned = λ s i op is h. record {
+        reads = none_aligned l e s.at s.local (operands l op.code op.inputs);
+        effect = λ ws r. none_effect (layout l no_frame e) i s.at.index s.local op.out op.inputs op.code ws;
       };
-      goes = λ s h. tt;
+      goes = λ s e h f. tt;
     })
     tt

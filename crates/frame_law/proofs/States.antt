@@ -279,7 +279,7 @@ module _ (y : Layout) (low : y.stack0 < ram_size y) (next : Place) where
 
 module _ (y : Layout) (low : y.stack0 < ram_size y) where
   op_goes : (i : Instruction) (op : Op) (r q : Result (List ℕ) End) (s : State Whole) (v : Apart)
-      → ((ws : List ℕ) → AlignedEffect y
+      → ((ws : List ℕ) → r ≡ Ok ws → AlignedEffect y
       (effect_of y.listing (y.frame.own s.at 0) i s.at.index s.local op.code op.out op.inputs ws))
       → Same y s.world.memory v
       → Agrees Equal r q
@@ -292,7 +292,7 @@ module _ (y : Layout) (low : y.stack0 < ram_size y) where
       let P : List ℕ → Type 0 = λ ws. Went y (apply (whole y) y.listing next e s)
       (apply (apart y.listing) y.listing next (effect_at y.listing y.frame i op (Ok ws) (over_memory s v))
       (over_memory s v)) in
-      subst P h (effect_goes y low next e s v (al ms) same)
+      subst P h (effect_goes y low next e s v (al ms refl) same)
   op_goes i op (Ok ms) (Err f) s v al same h = absurd h
   op_goes i op (Err e) q s v al same (inl h) =
       out y e s.world s _ h (adds_effect (apart y.listing) y.listing (next_place i s.at.index)
@@ -302,7 +302,7 @@ module _ (y : Layout) (low : y.stack0 < ram_size y) where
 
   -- where the accesses at a place lie where the frame says
   pub at_goes : (here : Standing) (s : State Whole) (v : Apart)
-      → ((i : Instruction) (op : Op) → here ≡ Does i op → IsAligned y s.at s.local i op)
+      → ((i : Instruction) (op : Op) → here ≡ Does i op → IsAligned y s i op)
       → Same y s.world.memory v
       → Went y (step_at (whole y) y.listing y.frame here s)
       (step_at (apart y.listing) y.listing y.frame here (over_memory s v))
@@ -313,7 +313,7 @@ module _ (y : Layout) (low : y.stack0 < ram_size y) where
       let xs = operands y.listing op.code op.inputs in
       op_goes i op (read_all (whole y) y.listing y.frame s xs)
       (read_all (apart y.listing) y.listing y.frame (over_memory s v) xs) s v here.effect same
-      (all_agree y low xs s v here.operands same)
+      (all_agree y low xs s v here.reads same)
 
 pub over_goes : (y : Layout) (o : Option End) (s u : State Whole) (t v : State Apart)
     → Went y s t

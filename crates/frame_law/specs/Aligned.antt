@@ -1,12 +1,12 @@
 -- Where the accesses of frame variables lie. This project's own.
-use Rattle.std.specs.Prelude.{◌≡◌, ℕ, zero, suc, ◌<◌, true, List, [], ◌∷◌, Option, Some, None}
+use Rattle.std.specs.Prelude.{◌≡◌, ℕ, zero, suc, ◌<◌, true, List, [], ◌∷◌, Option, Some, None, Ok}
 use Rattle.pcode_model.specs.declared.listing.Instruction.{Instruction}
 use Rattle.pcode_model.specs.declared.listing.Place.{Place}
 use Rattle.pcode_model.specs.declared.listing.Op.{Op}
 use Rattle.pcode_model.specs.Spaces.{size_of, first_ram, next}
 use Rattle.pcode_model.specs.Places.{Does, standing}
 use Rattle.pcode_model.specs.Memory.{Layout, Bytes, Whole, offset_from, whole}
-use Rattle.pcode_model.specs.Step.{State, Effect, Ends, Goes, Writes, Fetches, Puts, Calls, Asks, Operand, Reads, ReadsStack, effect_of, operands, size_out, stack_address, step}
+use Rattle.pcode_model.specs.Step.{State, Effect, Ends, Goes, Writes, Fetches, Puts, Calls, Asks, Operand, Reads, ReadsStack, effect_of, operands, read_all, size_out, stack_address, step}
 
 -- how many bytes the first ram space has
 abbrev pub ram_size : Layout → ℕ
@@ -48,20 +48,23 @@ AlignedEffect y (Puts own space a k n) = Aligned y own space a k
 AlignedEffect y (Calls to args p r) = Unit {0}
 AlignedEffect y (Asks index args out) = Unit {0}
 
--- The accesses of the op at a place that are frame variables' lie where the frame says: with these register and unique
--- bytes, whatever words the op reads.
-pub record IsAligned (y : Layout) (p : Place) (b : Bytes) (i : Instruction) (op : Op) : Type 0 where
-  pub operands : AllAligned y p b (operands y.listing op.code op.inputs)
+-- The accesses of the op at a state's place that are frame variables' lie where the frame says: those of its operands, and
+-- its own, with the words that it reads.
+pub record IsAligned (y : Layout) (s : State Whole) (i : Instruction) (op : Op) : Type 0 where
+  pub reads : AllAligned y s.at s.local (operands y.listing op.code op.inputs)
   pub effect : (ws : List ℕ)
-      → AlignedEffect y (effect_of y.listing (y.frame.own p 0) i p.index b op.code op.out op.inputs ws)
+      → read_all (whole y) y.listing y.frame s (operands y.listing op.code op.inputs) ≡ Ok ws
+      → AlignedEffect y (effect_of y.listing (y.frame.own s.at 0) i s.at.index s.local op.code op.out op.inputs ws)
 
--- What holds of places and of register and unique bytes at each step of the run, and says where the accesses of frame
--- variables lie.
+-- What holds of places and of register and unique bytes at each step of the run, until it ends, and says where the
+-- accesses of frame variables lie. (Where the run ends in the middle of an op, as in a call that has no answer, the
+-- place is the next one already and the bytes are still the old ones.)
 pub record Guides (y : Layout) (I : Place → Bytes → Type 0) : Type 0 where
-  pub aligned : (p : Place) (b : Bytes) (i : Instruction) (op : Op)
-      → standing y.listing p ≡ Does i op
-      → I p b
-      → IsAligned y p b i op
-  pub goes : (s : State Whole)
+  pub aligned : (s : State Whole) (i : Instruction) (op : Op)
+      → standing y.listing s.at ≡ Does i op
       → I s.at s.local
-      → (let t = step (whole y) y.listing y.frame s in I t.at t.local)
+      → IsAligned y s i op
+  pub goes : (s : State Whole)
+      → s.world.over ≡ None
+      → I s.at s.local
+      → (let t = step (whole y) y.listing y.frame s in t.world.over ≡ None → I t.at t.local)
