@@ -2,4 +2,5 @@ pub mod Fires
 pub mod InTree
 pub mod Makes
 pub mod Nodes
+pub mod Rows
 pub mod Sees

@@ -9,9 +9,11 @@
 #![tactic(auto)]
 
 pub mod nodes;
+pub mod row;
 pub mod tree;
 pub mod view;
 
 pub use nodes::{Pair, Single};
+pub use row::Row;
 pub use tree::Tree;
-pub use view::{Arg, Made, View};
+pub use view::{Arg, Found, Made, View};
