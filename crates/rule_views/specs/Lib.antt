@@ -1,3 +1,4 @@
+pub mod Beside
 pub mod Fires
 pub mod InTree
 pub mod Makes
