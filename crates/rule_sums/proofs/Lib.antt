@@ -1,2 +1,2 @@
-pub mod Shifts
-pub mod Sums
+pub mod Shifted
+pub mod Summed

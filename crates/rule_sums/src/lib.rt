@@ -4,7 +4,7 @@
 //! Some is a right side of its rule for what is seen, and None says that no left side of it is seen. Most rules ask for
 //! a constant on the right, which is looked at once: those take the constant in the place of the right operand.
 //!
-//! `sums` and `shifts` put the rules together, in the order of the table. They ask for operands in the order in which
+//! `sum_rule`, `opposite_rule` and `shift_rule` put the rules together, in the order of the table. They ask for operands in the order in which
 //! the table names them; a caller asks twice where the operation commutes.
 #![tactic(auto)]
 
@@ -12,5 +12,5 @@ pub mod constants;
 pub mod shifts;
 pub mod sums;
 
-pub use shifts::shifts;
-pub use sums::{opposites, sums};
+pub use shifts::shift_rule;
+pub use sums::{opposite_rule, sum_rule};

@@ -15,7 +15,7 @@ use cmeaning::ShiftOp;
 use rule_views::{Arg, Found, Made, Pair, Row, View};
 
 // The width of what is here, where a shift by c passes all its bits.
-#[tactic(auto, using(crate::proofs::Shifts::not_passed))]
+#[tactic(auto, using(crate::proofs::Shifted::not_passed))]
 fn passed<V: View>(a: V, c: Word) -> Option<Width>
     ensures { MatchOption result (N.NotPassed V.Sees a c) (λ w. IsWideAt V.Sees a w.bytes × (8 * w.bytes ≤ c.value)) }
 {
@@ -27,7 +27,7 @@ fn passed<V: View>(a: V, c: Word) -> Option<Width>
 }
 
 /// A shift by 0: x
-#[tactic(auto, using(crate::proofs::Shifts::nothing_fires))]
+#[tactic(auto, using(crate::proofs::Shifted::nothing_fires))]
 fn by_nothing<V: View>(op: ShiftOp, a: V, c: Word) -> Option<Made<V>>
     ensures { MatchOption result (c.value ≡ 0 → ⊥) (FiredWith (ShiftingOf R.A1) V.Sees (P.Shift op) a c) }
 {
@@ -38,7 +38,7 @@ fn by_nothing<V: View>(op: ShiftOp, a: V, c: Word) -> Option<Made<V>>
 }
 
 /// Shl, Shr by the bits or more: 0
-#[tactic(auto, using(crate::proofs::Shifts::past_fires))]
+#[tactic(auto, using(crate::proofs::Shifted::past_fires))]
 fn past_bits<V: View>(op: ShiftOp, a: V, c: Word) -> Option<Made<V>>
     ensures { MatchOption result ((op ≡ H.Sar → ⊥) → N.NotPassed V.Sees a c)
         (FiredWith (ShiftingOf R.S1) V.Sees (P.Shift op) a c) }
@@ -52,7 +52,7 @@ fn past_bits<V: View>(op: ShiftOp, a: V, c: Word) -> Option<Made<V>>
 }
 
 /// Sar by the bits or more: Sar by the bits less 1
-#[tactic(auto, using(crate::proofs::Shifts::sign_fires))]
+#[tactic(auto, using(crate::proofs::Shifted::sign_fires))]
 fn past_sign<V: View>(op: ShiftOp, a: V, c: Word) -> Option<Made<V>>
     ensures { MatchOption result (op ≡ H.Sar → N.NotPassed V.Sees a c)
         (FiredWith (ShiftingOf R.S2) V.Sees (P.Shift op) a c) }
@@ -84,12 +84,12 @@ fn shifts_by<V: View>(op: ShiftOp, a: V, c: Word) -> Option<Found<V>>
 
 /// The rules of shifts.
 #[tactic(auto, using(
-    crate::proofs::Shifts::other_node,
-    crate::proofs::Shifts::no_constant,
-    crate::proofs::Shifts::none_shifted,
-    crate::proofs::Shifts::shift_fires
+    crate::proofs::Shifted::other_node,
+    crate::proofs::Shifted::no_constant,
+    crate::proofs::Shifted::none_shifted,
+    crate::proofs::Shifted::shift_fires
 ))]
-pub fn shifts<V: View>(p: Pair, a: V, b: V) -> Option<Found<V>>
+pub fn shift_rule<V: View>(p: Pair, a: V, b: V) -> Option<Found<V>>
     ensures { MatchOption result (NoneOfPair Shifting V.Sees p a b)
         (λ f. FiredOfPair (ShiftingOf f.row) V.Sees p a b f.made) }
 {

@@ -19,7 +19,7 @@ use cmeaning::{ArithmeticOp, UnaryOp};
 use rule_views::{Arg, Found, Made, Pair, Row, Single, View, beside_constant, folded, unary};
 
 /// x + 0, x - 0, x | 0, x ^ 0: x
-#[tactic(auto, using(crate::proofs::Sums::nothing_fires))]
+#[tactic(auto, using(crate::proofs::Summed::nothing_fires))]
 fn with_nothing<V: View>(op: ArithmeticOp, a: V, c: Word) -> Option<Made<V>>
     ensures { MatchOption result (KeepsAtZero op → c.value ≡ 0 → ⊥)
         (FiredWith (SummingOf R.A1) V.Sees (P.Arithmetic op) a c) }
@@ -34,7 +34,7 @@ fn with_nothing<V: View>(op: ArithmeticOp, a: V, c: Word) -> Option<Made<V>>
 }
 
 /// x * 1, x & ones, x / 1: x
-#[tactic(auto, using(crate::proofs::Sums::one_fires))]
+#[tactic(auto, using(crate::proofs::Summed::one_fires))]
 fn with_one<V: View>(p: Pair, a: V, c: Word) -> Option<Made<V>>
     ensures { MatchOption result (N.Leaves p c → ⊥) (FiredWith (SummingOf R.A2) V.Sees p a c) }
 {
@@ -45,7 +45,7 @@ fn with_one<V: View>(p: Pair, a: V, c: Word) -> Option<Made<V>>
 }
 
 /// x * 0, x & 0: 0
-#[tactic(auto, using(crate::proofs::Sums::zero_fires))]
+#[tactic(auto, using(crate::proofs::Summed::zero_fires))]
 fn with_zero<V: View>(op: ArithmeticOp, a: V, c: Word) -> Option<Made<V>>
     ensures { MatchOption result (FallsAtZero op → c.value ≡ 0 → ⊥)
         (FiredWith (SummingOf R.A3) V.Sees (P.Arithmetic op) a c) }
@@ -60,7 +60,7 @@ fn with_zero<V: View>(op: ArithmeticOp, a: V, c: Word) -> Option<Made<V>>
 }
 
 /// x - x, x ^ x: 0
-#[tactic(auto, using(crate::proofs::Sums::cancelled_fires))]
+#[tactic(auto, using(crate::proofs::Summed::cancelled_fires))]
 fn cancelled<V: View>(op: ArithmeticOp, a: V, b: V) -> Option<Made<V>>
     ensures { MatchOption result (Cancels op → N.NoAtom V.Sees a b)
         (FiredOfPair (SummingOf R.A4) V.Sees (P.Arithmetic op) a b) }
@@ -76,7 +76,7 @@ fn cancelled<V: View>(op: ArithmeticOp, a: V, b: V) -> Option<Made<V>>
 }
 
 /// x & x, x | x: x
-#[tactic(auto, using(crate::proofs::Sums::repeated_fires))]
+#[tactic(auto, using(crate::proofs::Summed::repeated_fires))]
 fn repeated<V: View>(op: ArithmeticOp, a: V, b: V) -> Option<Made<V>>
     ensures { MatchOption result (RepeatsItself op → N.NoAtom V.Sees a b)
         (FiredOfPair (SummingOf R.A4) V.Sees (P.Arithmetic op) a b) }
@@ -91,7 +91,7 @@ fn repeated<V: View>(op: ArithmeticOp, a: V, b: V) -> Option<Made<V>>
 }
 
 /// (x + c) + d: x + (c + d), (x - c) - d: x - (c + d), (x + c) - d: x + (c - d), (x - c) + d: x + (d - c)
-#[tactic(auto, using(crate::proofs::Sums::nested_fires))]
+#[tactic(auto, using(crate::proofs::Summed::nested_fires))]
 fn nested_sum<V: View>(op: ArithmeticOp, a: V, d: Word) -> Option<Made<V>>
     ensures { MatchOption result (N.IsSum op → N.NoneBeside V.Sees a N.IsSum)
         (FiredWith (SummingOf R.A5) V.Sees (P.Arithmetic op) a d) }
@@ -108,7 +108,7 @@ fn nested_sum<V: View>(op: ArithmeticOp, a: V, d: Word) -> Option<Made<V>>
 }
 
 /// (x op c) op d: x op (c op d), for And, Or and Xor
-#[tactic(auto, using(crate::proofs::Sums::bits_fire))]
+#[tactic(auto, using(crate::proofs::Summed::bits_fire))]
 fn nested_bits<V: View>(op: ArithmeticOp, a: V, d: Word) -> Option<Made<V>>
     ensures { MatchOption result (IsBitwise op → N.NoneBeside V.Sees a (λ o. o ≡ op))
         (FiredWith (SummingOf R.A6) V.Sees (P.Arithmetic op) a d) }
@@ -125,7 +125,7 @@ fn nested_bits<V: View>(op: ArithmeticOp, a: V, d: Word) -> Option<Made<V>>
 }
 
 /// -(-x), ~(~x): x
-#[tactic(auto, using(crate::proofs::Sums::undone_fires))]
+#[tactic(auto, using(crate::proofs::Summed::undone_fires))]
 fn undone<V: View>(op: UnaryOp, a: V) -> Option<Made<V>>
     ensures { MatchOption result (N.NoUnaryOf V.Sees op a) (FiredOfSingle (SummingOf R.A7) V.Sees (S.Unary op) a) }
 {
@@ -137,7 +137,7 @@ fn undone<V: View>(op: UnaryOp, a: V) -> Option<Made<V>>
 }
 
 /// x + (-y): x - y, x - (-y): x + y
-#[tactic(auto, using(crate::proofs::Sums::opposite_fires))]
+#[tactic(auto, using(crate::proofs::Summed::opposite_fires))]
 fn with_opposite<V: View>(op: ArithmeticOp, a: V, b: V) -> Option<Made<V>>
     ensures { MatchOption result (N.IsSum op → N.NoUnaryOf V.Sees Opposite b)
         (FiredOfPair (SummingOf R.A8) V.Sees (P.Arithmetic op) a b) }
@@ -200,9 +200,9 @@ fn by<V: View>(p: Pair, a: V, c: Word) -> Option<Found<V>>
 }
 
 #[tactic(auto, using(
-    crate::proofs::Sums::constant_fires,
-    crate::proofs::Sums::none_at_constant,
-    crate::proofs::Sums::none_at_other
+    crate::proofs::Summed::constant_fires,
+    crate::proofs::Summed::none_at_constant,
+    crate::proofs::Summed::none_at_other
 ))]
 fn by_constant<V: View>(p: Pair, a: V, b: V) -> Option<Found<V>>
     ensures { MatchOption result (N.NoneByConstant V.Sees p a b)
@@ -231,8 +231,8 @@ fn of_two<V: View>(op: ArithmeticOp, a: V, b: V) -> Option<Found<V>>
 }
 
 /// The rules of sums, of a node with two operands.
-#[tactic(auto, using(crate::proofs::Sums::none_of_pair))]
-pub fn sums<V: View>(p: Pair, a: V, b: V) -> Option<Found<V>>
+#[tactic(auto, using(crate::proofs::Summed::none_of_pair))]
+pub fn sum_rule<V: View>(p: Pair, a: V, b: V) -> Option<Found<V>>
     ensures { MatchOption result (NoneOfPair Summing V.Sees p a b)
         (λ f. FiredOfPair (SummingOf f.row) V.Sees p a b f.made) }
 {
@@ -246,8 +246,8 @@ pub fn sums<V: View>(p: Pair, a: V, b: V) -> Option<Found<V>>
 }
 
 /// The rules of sums, of a node with one operand.
-#[tactic(auto, using(crate::proofs::Sums::none_undone, crate::proofs::Sums::none_other))]
-pub fn opposites<V: View>(s: Single, a: V) -> Option<Found<V>>
+#[tactic(auto, using(crate::proofs::Summed::none_undone, crate::proofs::Summed::none_other))]
+pub fn opposite_rule<V: View>(s: Single, a: V) -> Option<Found<V>>
     ensures { MatchOption result (NoneOfSingle Summing V.Sees s a)
         (λ f. FiredOfSingle (SummingOf f.row) V.Sees s a f.made) }
 {

@@ -1,5 +1,5 @@
 -- Sums, differences, products, bits and divisions.
-use Rattle.std.proofs.Common.{◌≡◌, ℕ, ◌+◌, ◌-◌, refl, sym, ap, ◌∙◌, subst, Some}
+use Rattle.std.proofs.Common.{◌≡◌, ℕ, ◌+◌, ◌-◌, ◌%◌, refl, sym, ap, ◌∙◌, subst, Some}
 use Rattle.std.proofs.Math.Nat.{zero-mod}
 use Rattle.bits_core.specs.declared.word.Width.{Width}
 use Rattle.bits_core.specs.declared.word.Word.{Word}
@@ -60,28 +60,38 @@ module _ (ws : ℕ → ℕ) where
       → Nested inner op l x c d to' e → Nested inner op l x c d to e
   made_to inner op l x c d to to' e is r = subst (λ o. Nested inner op l x c d o e) (sym is) r
 
+  module _ (d e : Word) where
+    add_add : (x : Expr) (c : Word) (l : Expr) → ConstOn O.Add x c l → Folds O.Add c d e
+        → Nested O.Add O.Add l x c d O.Add e
+    add_add x c l (OnRight q y f) w = (A5_add_add y f d e w, refl)
+    add_add x c l (OnLeft q y f h) w = (A5_add_add_over y f d e w, refl)
+
+    add_sub : (x : Expr) (c : Word) (l : Expr) → ConstOn O.Add x c l → Folds O.Sub c d e
+        → Nested O.Add O.Sub l x c d O.Add e
+    add_sub x c l (OnRight q y f) w = (A5_add_sub y f d e w, refl)
+    add_sub x c l (OnLeft q y f h) w = (A5_add_sub_over y f d e w, refl)
+
+    sub_add : (x : Expr) (c : Word) (l : Expr) → ConstOn O.Sub x c l → Folds O.Sub d c e
+        → Nested O.Sub O.Add l x c d O.Add e
+    sub_add x c l (OnRight q y f) w = (A5_sub_add y f d e w, refl)
+    sub_add x c l (OnLeft q y f h) w = absurd h
+
+    sub_sub : (x : Expr) (c : Word) (l : Expr) → ConstOn O.Sub x c l → Folds O.Add c d e
+        → Nested O.Sub O.Sub l x c d O.Sub e
+    sub_sub x c l (OnRight q y f) w = (A5_sub_sub y f d e w, refl)
+    sub_sub x c l (OnLeft q y f h) w = absurd h
+
+    bits_rule : (op : ArithmeticOp) (x : Expr) (c : Word) (l : Expr) → IsBitwise op → ConstOn op x c l → Folds op c d e
+        → SummingOf R.A6 ws (E.Arithmetic op l (E.Const d)) (E.Arithmetic op x (E.Const e))
+    bits_rule op x c l b (OnRight q y f) w = (A6 q y f d e b w, refl)
+    bits_rule op x c l b (OnLeft q y f h) w = (A6_over q y f d e b w, refl)
+
   sum_rule : (inner op : ArithmeticOp) (l x : Expr) (c d : Word) (to : ArithmeticOp) (e : Word) → IsSum inner → IsSum op
       → ConstOn inner x c l → Nests inner op c d to e → Nested inner op l x c d to e
-  sum_rule O.Add O.Add l x c d to e i k on n = made_to O.Add O.Add l x c d to O.Add e n.0 (add_add l x c on n.1)
-    where
-      add_add : (l x : Expr) (c : Word) → ConstOn O.Add x c l → Folds O.Add c d e → Nested O.Add O.Add l x c d O.Add e
-      add_add l x c (OnRight q y f) w = (A5_add_add y f d e w, refl)
-      add_add l x c (OnLeft q y f h) w = (A5_add_add_over y f d e w, refl)
-  sum_rule O.Add O.Sub l x c d to e i k on n = made_to O.Add O.Sub l x c d to O.Add e n.0 (add_sub l x c on n.1)
-    where
-      add_sub : (l x : Expr) (c : Word) → ConstOn O.Add x c l → Folds O.Sub c d e → Nested O.Add O.Sub l x c d O.Add e
-      add_sub l x c (OnRight q y f) w = (A5_add_sub y f d e w, refl)
-      add_sub l x c (OnLeft q y f h) w = (A5_add_sub_over y f d e w, refl)
-  sum_rule O.Sub O.Add l x c d to e i k on n = made_to O.Sub O.Add l x c d to O.Add e n.0 (sub_add l x c on n.1)
-    where
-      sub_add : (l x : Expr) (c : Word) → ConstOn O.Sub x c l → Folds O.Sub d c e → Nested O.Sub O.Add l x c d O.Add e
-      sub_add l x c (OnRight q y f) w = (A5_sub_add y f d e w, refl)
-      sub_add l x c (OnLeft q y f h) w = absurd h
-  sum_rule O.Sub O.Sub l x c d to e i k on n = made_to O.Sub O.Sub l x c d to O.Sub e n.0 (sub_sub l x c on n.1)
-    where
-      sub_sub : (l x : Expr) (c : Word) → ConstOn O.Sub x c l → Folds O.Add c d e → Nested O.Sub O.Sub l x c d O.Sub e
-      sub_sub l x c (OnRight q y f) w = (A5_sub_sub y f d e w, refl)
-      sub_sub l x c (OnLeft q y f h) w = absurd h
+  sum_rule O.Add O.Add l x c d to e i k on n = made_to O.Add O.Add l x c d to O.Add e n.0 (add_add d e x c l on n.1)
+  sum_rule O.Add O.Sub l x c d to e i k on n = made_to O.Add O.Sub l x c d to O.Add e n.0 (add_sub d e x c l on n.1)
+  sum_rule O.Sub O.Add l x c d to e i k on n = made_to O.Sub O.Add l x c d to O.Add e n.0 (sub_add d e x c l on n.1)
+  sum_rule O.Sub O.Sub l x c d to e i k on n = made_to O.Sub O.Sub l x c d to O.Sub e n.0 (sub_sub d e x c l on n.1)
   sum_rule O.Add O.Mul l x c d to e i k on n = absurd k
   sum_rule O.Add O.And l x c d to e i k on n = absurd k
   sum_rule O.Add O.Or l x c d to e i k on n = absurd k
@@ -94,11 +104,6 @@ module _ (ws : ℕ → ℕ) where
   sum_rule O.And op l x c d to e i k on n = absurd i
   sum_rule O.Or op l x c d to e i k on n = absurd i
   sum_rule O.Xor op l x c d to e i k on n = absurd i
-
-  bits_rule : (op : ArithmeticOp) (l x : Expr) (c d e : Word) → IsBitwise op → ConstOn op x c l → Folds op c d e
-      → SummingOf R.A6 ws (E.Arithmetic op l (E.Const d)) (E.Arithmetic op x (E.Const e))
-  bits_rule op l x c d e b (OnRight q y f) w = (A6 q y f d e b w, refl)
-  bits_rule op l x c d e b (OnLeft q y f h) w = (A6_over q y f d e b w, refl)
 
   opposite_rule : (op to : ArithmeticOp) (x y : Expr) → IsSum op → AreOpposite op to
       → SummingOf R.A8 ws (E.Arithmetic op x (E.Unary U.Neg y)) (E.Arithmetic to x y)
@@ -232,7 +237,7 @@ module _ {T : Type 0} (sees : Sight T) where
             x = h.l;
             r = E.Arithmetic op h.x (E.Const e);
             left = h.seen;
-            rule = bits_rule ws op h.l h.x c d e k h.on (n wide);
+            rule = bits_rule ws d e op h.x c h.l k h.on (n wide);
             makes = (h.x, (E.Const e, (refl, h.letter, refl)));
           });
     }
@@ -269,13 +274,11 @@ module _ {T : Type 0} (sees : Sight T) where
     module _ (by : NoneByConstant sees p a b) (two : (op : ArithmeticOp) → p ≡ P.Arithmetic op → NoneOfTwo sees op a b)
         (ws : ℕ → ℕ) (x y : Expr) (s : sees ws a x) (t : sees ws b y) where
       module _ (q : Pair) (u : Expr) (c : Word) (is : pair_node q u (E.Const c) ≡ pair_node p x y) where
-        e = same_pair q p u (E.Const c) x y is
-
         by_this : NoneBy sees p a c
-        by_this = by.none ws c (subst (sees ws b) (sym e.right) t)
+        by_this = by.none ws c (subst (sees ws b) (sym (same_pair q p u (E.Const c) x y is).right) t)
 
         seen : sees ws a u
-        seen = subst (sees ws a) (sym e.left) s
+        seen = subst (sees ws a) (sym (same_pair q p u (E.Const c) x y is).left) s
 
       by_op : (op : ArithmeticOp) (u : Expr) (c : Word) → E.Arithmetic op u (E.Const c) ≡ pair_node p x y
           → NoneByOp sees op a c

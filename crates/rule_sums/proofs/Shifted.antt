@@ -1,6 +1,6 @@
 -- Shifts by a constant.
-use Rattle.std.proofs.Common.{◌≡◌, ℕ, ◌+◌, ◌-◌, ◌*◌, ◌<◌, ◌≤◌, refl, sym, ap, ◌∙◌, subst, arith}
-use Rattle.std.proofs.Math.Nat.{zero-mod, mod-small}
+use Rattle.std.proofs.Common.{◌≡◌, ℕ, ◌+◌, ◌-◌, ◌*◌, ◌<◌, ◌≤◌, ◌%◌, refl, sym, ap, ◌∙◌, subst, arith}
+use Rattle.std.proofs.Math.Nat.{zero-mod, mod-eq_of_lt}
 use Rattle.bits_core.specs.declared.word.Width.{Width}
 use Rattle.bits_core.specs.declared.word.Word.{Word}
 use Rattle.bits_core.specs.Value.{limit}
@@ -62,7 +62,7 @@ module _ {T : Type 0} (sees : Sight T) (a : T) (c : Word) where
         let small : 8 * w - 1 < limit c.width.bytes = omega arith in
         let word : IsWord c.width.bytes (8 * w - 1) e = record {
           width = ap (λ (v : Width). v.bytes) width;
-          value = value ∙ mod-small (8 * w - 1) (limit c.width.bytes) small;
+          value = value ∙ mod-eq_of_lt small;
         } in
         record {
           fires = λ ws x sized s. (
@@ -83,11 +83,11 @@ module _ {T : Type 0} (sees : Sight T) (a : T) (c : Word) where
     none ws l r x n (A1_shift q y d z) is s =
         let e = same_with (P.Shift q) (P.Shift op) y x d c is in
         n.nothing (ap (λ (v : Word). v.value) (sym e.word) ∙ z)
-    none ws l r x n (S1 q y d z no wide most zero) is s =
+    none ws l r x n (S1 q y d z other wide most zero) is s =
         let e = same_with (P.Shift q) (P.Shift op) y x d c is in
         let node : P.Shift q ≡ P.Shift op = e.node in
         let same : q ≡ op = cc in
-        n.bits (λ h. no (same ∙ h)) ws x z.width.bytes s (subst (λ v. IsWide ws v z.width.bytes) e.left wide)
+        n.bits (λ h. other (same ∙ h)) ws x z.width.bytes s (subst (λ v. IsWide ws v z.width.bytes) e.left wide)
         (subst (λ (v : Word). 8 * z.width.bytes ≤ v.value) e.word most)
     none ws l r x n (S2 y w d f wide most word) is s =
         let e = same_with (P.Shift H.Sar) (P.Shift op) y x d c is in
@@ -104,7 +104,7 @@ module _ {T : Type 0} (sees : Sight T) (p : Pair) (a b : T) where
   is_shift : (ws : ℕ → ℕ) (l r x y : Expr) → Shifting ws l r → l ≡ pair_node p x y → IsShift x y
   is_shift ws l r x y (A1_shift q u d z) is =
       let e = same_pair (P.Shift q) p u (E.Const d) x y is in Is q d (sym e.node) (sym e.right)
-  is_shift ws l r x y (S1 q u d z no wide most zero) is =
+  is_shift ws l r x y (S1 q u d z other wide most zero) is =
       let e = same_pair (P.Shift q) p u (E.Const d) x y is in Is q d (sym e.node) (sym e.right)
   is_shift ws l r x y (S2 u w d f wide most word) is =
       let e = same_pair (P.Shift H.Sar) p u (E.Const d) x y is in Is H.Sar d (sym e.node) (sym e.right)
