@@ -1,5 +1,5 @@
 -- Shifts by a constant.
-use Rattle.std.proofs.Common.{◌≡◌, ℕ, ◌+◌, ◌-◌, ◌*◌, ◌<◌, ◌≤◌, ◌%◌, refl, sym, ap, ◌∙◌, subst, arith}
+use Rattle.std.proofs.Common.{◌≡◌, ℕ, ◌-◌, ◌*◌, ◌<◌, ◌≤◌, ◌%◌, refl, sym, ap, ◌∙◌, subst, arith}
 use Rattle.std.proofs.Math.Nat.{zero-mod, mod-eq_of_lt}
 use Rattle.bits_core.specs.declared.word.Width.{Width}
 use Rattle.bits_core.specs.declared.word.Word.{Word}
@@ -19,7 +19,7 @@ use Rattle.rule_views.specs.declared.view.Made.{Made}
 use Rattle.rule_views.specs.declared.view.Made.TheVariants as M
 use Rattle.rule_views.specs.Nodes.{pair_node}
 use Rattle.rule_views.specs.Rows.{ShiftingOf}
-use Rattle.rule_views.specs.Sees.{Sight, IsSized, IsWideAt, IsConstant, NoConstant}
+use Rattle.rule_views.specs.Sees.{Sight, IsWideAt, IsConstant, NoConstant}
 use Rattle.rule_views.specs.Fires.{FiredWith, FiredOfPair, NoneOfPair}
 use Rattle.rule_views.proofs.Layers.{same_pair}
 use Rattle.rule_views.proofs.Fire.{same_with, wide_only, with_constant}
@@ -47,9 +47,10 @@ module _ {T : Type 0} (sees : Sight T) (a : T) (c : Word) where
             r = E.Const z;
             left = s;
             rule = (
-                S1 op x c z n (subst (IsWide ws x) (sym width) (wide ws x s))
-                (subst (λ v. 8 * v ≤ c.value) (sym width) most) (zero ∙ zero-mod (limit w.bytes)),
-                refl);
+              S1 op x c z n (subst (IsWide ws x) (sym width) (wide ws x s))
+                  (subst (λ v. 8 * v ≤ c.value) (sym width) most) (zero ∙ zero-mod (limit w.bytes)),
+              refl,
+            );
             makes = refl;
           };
         }
@@ -127,11 +128,11 @@ module _ {T : Type 0} (sees : Sight T) (p : Pair) (a b : T) where
   none_shifted op c is k n = record {
     none = λ ws x y r sized rule s t. (
         elim (is_shift ws (pair_node p x y) r x y rule refl) [
-            Is o d node const ↦ (
-                let word : d ≡ c = constant_only sees b c k ws d (subst (sees ws b) const t) in
-                let l : pair_node p x y ≡ E.Shift op x (E.Const c) =
-                ap (λ q. pair_node q x y) is ∙ ap (λ z. E.Shift op x z) (const ∙ ap E.Const word) in
-                none sees a c op ws (pair_node p x y) r x n rule l s)
+          | Is o d node const ↦ (
+              let word : d ≡ c = constant_only sees b c k ws d (subst (sees ws b) const t) in
+              let l : pair_node p x y ≡ E.Shift op x (E.Const c) =
+              ap (λ q. pair_node q x y) is ∙ ap (λ z. E.Shift op x z) (const ∙ ap E.Const word) in
+              none sees a c op ws (pair_node p x y) r x n rule l s)
         ]);
   }
 

@@ -1,5 +1,5 @@
 -- Sums, differences, products, bits and divisions.
-use Rattle.std.proofs.Common.{◌≡◌, ℕ, ◌+◌, ◌-◌, ◌%◌, refl, sym, ap, ◌∙◌, subst, Some}
+use Rattle.std.proofs.Common.{◌≡◌, ℕ, ◌-◌, ◌%◌, refl, sym, ap, ◌∙◌, subst}
 use Rattle.std.proofs.Math.Nat.{zero-mod}
 use Rattle.bits_core.specs.declared.word.Width.{Width}
 use Rattle.bits_core.specs.declared.word.Word.{Word}
@@ -12,7 +12,7 @@ use Rattle.cmeaning.specs.declared.tree.DivisionOp.TheVariants as D
 use Rattle.cmeaning.specs.declared.tree.SignedDivisionOp.TheVariants as I
 use Rattle.cmeaning.specs.declared.tree.Expr.{Expr}
 use Rattle.cmeaning.specs.declared.tree.Expr.TheVariants as E
-use Rattle.rules.specs.Letters.{IsAtom, IsWide, IsWord, Folds, KeepsAtZero, FallsAtZero, Cancels, RepeatsItself, IsBitwise, Commutes}
+use Rattle.rules.specs.Letters.{IsWide, Folds, KeepsAtZero, FallsAtZero, Cancels, RepeatsItself, IsBitwise, Commutes}
 use Rattle.rules.specs.Arithmetic.{Summing, A1, A2_mul, A2_and, A2_div, A2_sdiv, A3, A4_none, A4_same, A5_add_add, A5_add_add_over, A5_sub_sub, A5_add_sub, A5_add_sub_over, A5_sub_add, A6, A6_over, A7, A8_add, A8_sub}
 use Rattle.rule_views.specs.declared.nodes.Single.{Single}
 use Rattle.rule_views.specs.declared.nodes.Single.TheVariants as S
@@ -25,13 +25,13 @@ use Rattle.rule_views.specs.declared.view.Made.{Made}
 use Rattle.rule_views.specs.declared.view.Made.TheVariants as M
 use Rattle.rule_views.specs.Nodes.{single_node, pair_node}
 use Rattle.rule_views.specs.Rows.{SummingOf}
-use Rattle.rule_views.specs.Beside.{ConstOn, OnRight, OnLeft, NoBeside, IsBeside}
+use Rattle.rule_views.specs.Beside.{ConstOn, OnRight, OnLeft, IsBeside}
 use Rattle.rule_views.specs.Sees.{Sight, IsSized, IsWideAt, IsConstant, NoConstant, IsSame, IsSingle}
 use Rattle.rule_views.specs.Fires.{FiredWith, FiredOfPair, FiredOfSingle, NoneOfPair, NoneOfSingle}
 use Rattle.rule_views.proofs.Layers.{same_pair, same_single, pair_no_single}
 use Rattle.rule_views.proofs.Seen.{constant_only}
 use Rattle.rule_views.proofs.Fire as F
-use Rattle.rule_sums.specs.Sides.{Leaves, IsSum, NoAtom, NoUnaryOf, NoneBeside, Nests, AreOpposite, NoneByOp, NoneBy, NoneByConstant, NoneOfTwo}
+use Rattle.rule_sums.specs.Sides.{Leaves, IsSum, NoUnaryOf, Nests, AreOpposite, NoneByOp, NoneBy, NoneByConstant, NoneOfTwo}
 
 -- ---- rules, by what they ask
 
@@ -163,9 +163,10 @@ module _ {T : Type 0} (sees : Sight T) where
                 left = h.0;
                 right = h.1;
                 rule = (
-                    A4_none op same.0 z k same.1.0 (subst (IsWide ws same.0) width (wide ws same.0 h.0))
-                    (zero ∙ zero-mod (limit w.bytes)),
-                    refl);
+                  A4_none op same.0 z k same.1.0 (subst (IsWide ws same.0) width (wide ws same.0 h.0))
+                      (zero ∙ zero-mod (limit w.bytes)),
+                  refl,
+                );
                 makes = refl;
               });
         }

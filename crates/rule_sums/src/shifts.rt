@@ -83,12 +83,7 @@ fn shifts_by<V: View>(op: ShiftOp, a: V, c: Word) -> Option<Found<V>>
 }
 
 /// The rules of shifts.
-#[tactic(auto, using(
-    crate::proofs::Shifted::other_node,
-    crate::proofs::Shifted::no_constant,
-    crate::proofs::Shifted::none_shifted,
-    crate::proofs::Shifted::shift_fires
-))]
+#[tactic(auto, using(crate::proofs::Shifted::other_node, crate::proofs::Shifted::no_constant, crate::proofs::Shifted::none_shifted, crate::proofs::Shifted::shift_fires))]
 pub fn shift_rule<V: View>(p: Pair, a: V, b: V) -> Option<Found<V>>
     ensures { MatchOption result (NoneOfPair Shifting V.Sees p a b)
         (λ f. FiredOfPair (ShiftingOf f.row) V.Sees p a b f.made) }

@@ -199,11 +199,7 @@ fn by<V: View>(p: Pair, a: V, c: Word) -> Option<Found<V>>
     }
 }
 
-#[tactic(auto, using(
-    crate::proofs::Summed::constant_fires,
-    crate::proofs::Summed::none_at_constant,
-    crate::proofs::Summed::none_at_other
-))]
+#[tactic(auto, using(crate::proofs::Summed::constant_fires, crate::proofs::Summed::none_at_constant, crate::proofs::Summed::none_at_other))]
 fn by_constant<V: View>(p: Pair, a: V, b: V) -> Option<Found<V>>
     ensures { MatchOption result (N.NoneByConstant V.Sees p a b)
         (λ f. FiredOfPair (SummingOf f.row) V.Sees p a b f.made) }

@@ -1,5 +1,5 @@
 -- How answers about places join to what a rule asks.
-use Rattle.std.proofs.Common.{◌≡◌, ℕ, Some, sym, subst, ap, ◌∙◌, refl}
+use Rattle.std.proofs.Common.{◌≡◌, ℕ, Some, sym, subst, ◌∙◌, refl}
 use Rattle.bits_core.specs.declared.word.Word.{Word}
 use Rattle.cmeaning.specs.declared.tree.UnaryOp.{UnaryOp}
 use Rattle.cmeaning.specs.declared.tree.CompareOp.{CompareOp}
@@ -17,12 +17,12 @@ use Rattle.rule_views.specs.declared.nodes.Single.TheVariants as S
 use Rattle.rule_views.specs.declared.nodes.Pair.{Pair}
 use Rattle.rule_views.specs.declared.nodes.Pair.TheVariants as P
 use Rattle.rule_views.specs.declared.view.Made.{Made}
-use Rattle.rule_views.specs.Nodes.{single_node, pair_node}
+use Rattle.rule_views.specs.Nodes.{pair_node}
 use Rattle.rule_views.specs.Sees.{Sight, IsSized, IsWideAt, IsConstant, NoConstant, IsPair, NoPair, IsSingle, NoSingle}
 use Rattle.rule_views.specs.Fires.{Family, FiredOfPair, FiredWith}
 use Rattle.rule_views.specs.Beside.{ConstOn, OnRight, OnLeft, NoBeside, IsBeside, NoArithmetic, NoUnary}
 use Rattle.rule_views.proofs.Layers.{same_pair, same_const}
-use Rattle.rule_views.proofs.Seen.{pair_only, single_only, constant_only}
+use Rattle.rule_views.proofs.Seen.{pair_only, single_only}
 
 -- a node over a letter and a constant is so part by part
 pub record SameWith (p q : Pair) (x y : Expr) (c d : Word) : Type 0 where

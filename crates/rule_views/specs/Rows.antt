@@ -1,7 +1,6 @@
 -- Of which row of the table a rule is.
 use Rattle.std.specs.Prelude.{◌≡◌, ℕ}
 use Rattle.cmeaning.specs.declared.tree.Expr.{Expr}
-use Rattle.rules.specs.Folds.{Folding, F1}
 use Rattle.rules.specs.Arithmetic.{Summing, A1, A2_mul, A2_and, A2_div, A2_sdiv, A3, A4_none, A4_same, A5_add_add, A5_add_add_over, A5_sub_sub, A5_add_sub, A5_add_sub_over, A5_sub_add, A6, A6_over, A7, A8_add, A8_sub}
 use Rattle.rules.specs.Shifts.{Shifting, A1_shift, S1, S2}
 use Rattle.rules.specs.Parts.{Parting, Z1_low, Z1_low_whole, Z1_high, Z1_high_whole, Z2_within, Z2_whole, Z2_past, Z2_wider, Z3, Z4, Z4_whole, Z5, Z6_zext, Z6_sext}
@@ -102,9 +101,6 @@ rule_row ws l r (F2 op c x k n) = R.F2
 rule_row ws l r (F2_test op c x k n) = R.F2
 
 -- ---- the rules of one row
-
-abbrev pub Folded : Family
-Folded ws l r = Folding ws l r
 
 abbrev pub SummingOf : Row → Family
 SummingOf row ws l r = (s : Summing ws l r) × (summing_row ws l r s ≡ row)

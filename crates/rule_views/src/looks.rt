@@ -62,13 +62,7 @@ pub fn unary<V: View>(at: V) -> Option<(UnaryOp, V)>
 }
 
 /// The operation, the letter and the constant of a node over a letter and a constant.
-#[tactic(auto, using(
-    crate::proofs::Fire::beside_right,
-    crate::proofs::Fire::beside_left,
-    crate::proofs::Fire::beside_neither,
-    crate::proofs::Fire::beside_difference,
-    crate::proofs::Fire::commutes_but
-))]
+#[tactic(auto, using(crate::proofs::Fire::beside_right, crate::proofs::Fire::beside_left, crate::proofs::Fire::beside_neither, crate::proofs::Fire::beside_difference, crate::proofs::Fire::commutes_but))]
 pub fn beside_constant<V: View>(at: V) -> Option<(ArithmeticOp, V, Word)>
     ensures { MatchOption result (B.NoBeside V.Sees at) (λ t. B.IsBeside V.Sees at t.0 t.1 t.2) }
 {
