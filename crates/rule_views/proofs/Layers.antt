@@ -1,5 +1,5 @@
 -- The layer of an expression: which kind of node it is, and what its parts are.
-use Rattle.std.proofs.Common.{◌≡◌, ℕ, Option, Some, None, refl, sym, ap, ◌∙◌}
+use Rattle.std.proofs.Common.{◌≡◌, ℕ, sym, ap, ◌∙◌}
 use Rattle.bits_core.specs.declared.word.Word.{Word}
 use Rattle.cmeaning.specs.declared.tree.Expr.{Expr, out-Expr, out-roll-Expr, roll-Expr}
 use Rattle.cmeaning.specs.declared.tree.Expr.TheOpen.{Expr-F}

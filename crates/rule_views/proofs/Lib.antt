@@ -1,3 +1,4 @@
+pub mod Fire
 pub mod Layers
 pub mod Same
 pub mod Seen

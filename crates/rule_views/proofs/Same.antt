@@ -1,16 +1,12 @@
 -- What `==` of words tells.
-use Rattle.std.proofs.Common.{◌≡◌, ◌==◌, ◌&&◌, Bool, true, false, refl, sym, ap, ◌∙◌, arith}
-use Rattle.std.proofs.lemmas.Bool.{eqb-true, eq-eqb}
+use Rattle.std.proofs.Common.{◌≡◌, ◌==◌, ◌&&◌, true, refl, sym, ap, ◌∙◌, arith}
+use Rattle.std.proofs.lemmas.Bool.{eqb-true, eq-eqb, and_parts}
 use Rattle.bits_core.specs.declared.word.Word.{Word}
 use Rattle.bits_core.proofs.Words.{same_width, same_word}
 
-both : (b c : Bool) → (b && c) ≡ true → (b ≡ true) × (c ≡ true)
-both true c h = (refl, h)
-both false c h = cc
-
 pub word_same : (a b : Word) → ((a.value == b.value) && (a.width.bytes == b.width.bytes)) ≡ true → a ≡ b
 word_same a b h =
-    let t = both (a.value == b.value) (a.width.bytes == b.width.bytes) h in
+    let t = and_parts (a.value == b.value) (a.width.bytes == b.width.bytes) h in
     let v : a.value ≡ b.value = grind (arith, eqb-true, t.0) in
     let w : a.width.bytes ≡ b.width.bytes = grind (arith, eqb-true, t.1) in
     same_word a b v (same_width a.width b.width w)

@@ -1,15 +1,14 @@
 -- What is seen at a place of a tree: the one expression that stands there.
-use Rattle.std.proofs.Common.{◌≡◌, ℕ, ◌<◌, ◌≤◌, List, Option, Some, ◌⊎◌, inl, inr, refl, sym, ap, ◌∙◌, subst}
+use Rattle.std.proofs.Common.{◌≡◌, ℕ, ◌<◌, ◌≤◌, List, Some, inr, refl, sym, ap, ◌∙◌, subst}
 use Rattle.bits_core.specs.declared.word.Word.{Word}
 use Rattle.bits_core.specs.declared.word.Width.{Width}
 use Rattle.cmeaning.specs.declared.tree.Expr.{Expr}
 use Rattle.cmeaning.specs.declared.tree.Expr.TheVariants as E
-use Rattle.rules.specs.Size.{size_of}
 use Rattle.rules.specs.Letters.{IsAtom}
 use Rattle.rule_views.specs.declared.nodes.Single.{Single}
 use Rattle.rule_views.specs.declared.nodes.Pair.{Pair}
 use Rattle.rule_views.specs.Nodes.{single_node, pair_node}
-use Rattle.rule_views.specs.Sees.{Sight, IsSized, IsWideAt, IsSame, NoConstant, IsConstant, NoSingle, IsSingle, NoPair, IsPair}
+use Rattle.rule_views.specs.Sees.{Sight, IsSized, IsWideAt, IsSame, IsConstant, IsSingle, IsPair}
 use Rattle.rule_views.specs.InTree.{widths_by, bytes_of, IsIn}
 use Rattle.rule_views.proofs.Widths.{single_sized, pair_sized, bytes_size, size_some, size_most, widths_most}
 

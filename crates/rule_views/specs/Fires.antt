@@ -1,7 +1,9 @@
 -- What the function of a family of rules answers about a node that is seen: whether a rule of the family matches, in the
 -- order in which the family names its operands, and what it makes.
 use Rattle.std.specs.Prelude.{ℕ}
+use Rattle.bits_core.specs.declared.word.Word.{Word}
 use Rattle.cmeaning.specs.declared.tree.Expr.{Expr}
+use Rattle.cmeaning.specs.declared.tree.Expr.TheVariants as E
 use Rattle.rule_views.specs.declared.nodes.Single.{Single}
 use Rattle.rule_views.specs.declared.nodes.Pair.{Pair}
 use Rattle.rule_views.specs.declared.view.Made.{Made}
@@ -20,9 +22,9 @@ abbrev pub AreSized : {S : Type 0} → Sight S → Pair → S → S → (ℕ →
 AreSized sees p a b ws = (x y : Expr) → sees ws a x → sees ws b y → IsSized ws (pair_node p x y)
 
 -- no rule matches
-abbrev pub NoneOfPair : {S : Type 0} → Family → Sight S → Pair → S → S → Type 0
-NoneOfPair family sees p a b = (ws : ℕ → ℕ) (x y r : Expr) → IsSized ws (pair_node p x y)
-    → family ws (pair_node p x y) r → sees ws a x → sees ws b y → ⊥
+pub record NoneOfPair {S : Type 0} (family : Family) (sees : Sight S) (p : Pair) (a b : S) : Type 0 where
+  pub none : (ws : ℕ → ℕ) (x y r : Expr) → IsSized ws (pair_node p x y)
+      → family ws (pair_node p x y) r → sees ws a x → sees ws b y → ⊥
 
 -- a rule has a left side that is seen, and its right side is made
 pub record PairFires {S : Type 0} (family : Family) (sees : Sight S) (p : Pair) (a b : S) (made : Made S) (ws : ℕ → ℕ) : Type 0 where
@@ -34,19 +36,19 @@ pub record PairFires {S : Type 0} (family : Family) (sees : Sight S) (p : Pair) 
   pub rule : family ws (pair_node p x y) r
   pub makes : Makes (sees ws) made r
 
--- wherever the operands are seen as anything
-abbrev pub FiredOfPair : {S : Type 0} → Family → Sight S → Pair → S → S → Made S → Type 0
-FiredOfPair family sees p a b made = (ws : ℕ → ℕ) (x y : Expr) → AreSized sees p a b ws
-    → sees ws a x → sees ws b y → PairFires family sees p a b made ws
+-- so wherever the operands are seen as anything
+pub record FiredOfPair {S : Type 0} (family : Family) (sees : Sight S) (p : Pair) (a b : S) (made : Made S) : Type 0 where
+  pub fires : (ws : ℕ → ℕ) (x y : Expr) → AreSized sees p a b ws
+      → sees ws a x → sees ws b y → PairFires family sees p a b made ws
 
 -- ---- a node with one operand
 
 abbrev pub IsSizedOver : {S : Type 0} → Sight S → Single → S → (ℕ → ℕ) → Type 0
 IsSizedOver sees s a ws = (x : Expr) → sees ws a x → IsSized ws (single_node s x)
 
-abbrev pub NoneOfSingle : {S : Type 0} → Family → Sight S → Single → S → Type 0
-NoneOfSingle family sees s a = (ws : ℕ → ℕ) (x r : Expr) → IsSized ws (single_node s x)
-    → family ws (single_node s x) r → sees ws a x → ⊥
+pub record NoneOfSingle {S : Type 0} (family : Family) (sees : Sight S) (s : Single) (a : S) : Type 0 where
+  pub none : (ws : ℕ → ℕ) (x r : Expr) → IsSized ws (single_node s x)
+      → family ws (single_node s x) r → sees ws a x → ⊥
 
 pub record SingleFires {S : Type 0} (family : Family) (sees : Sight S) (s : Single) (a : S) (made : Made S) (ws : ℕ → ℕ) : Type 0 where
   pub x : Expr
@@ -55,6 +57,22 @@ pub record SingleFires {S : Type 0} (family : Family) (sees : Sight S) (s : Sing
   pub rule : family ws (single_node s x) r
   pub makes : Makes (sees ws) made r
 
-abbrev pub FiredOfSingle : {S : Type 0} → Family → Sight S → Single → S → Made S → Type 0
-FiredOfSingle family sees s a made = (ws : ℕ → ℕ) (x : Expr) → IsSizedOver sees s a ws
-    → sees ws a x → SingleFires family sees s a made ws
+pub record FiredOfSingle {S : Type 0} (family : Family) (sees : Sight S) (s : Single) (a : S) (made : Made S) : Type 0 where
+  pub fires : (ws : ℕ → ℕ) (x : Expr) → IsSizedOver sees s a ws
+      → sees ws a x → SingleFires family sees s a made ws
+
+-- ---- a node whose right operand is the constant c
+
+abbrev pub AreSizedWith : {S : Type 0} → Sight S → Pair → S → Word → (ℕ → ℕ) → Type 0
+AreSizedWith sees p a c ws = (x : Expr) → sees ws a x → IsSized ws (pair_node p x (E.Const c))
+
+pub record WithFires {S : Type 0} (family : Family) (sees : Sight S) (p : Pair) (a : S) (c : Word) (made : Made S) (ws : ℕ → ℕ) : Type 0 where
+  pub x : Expr
+  pub r : Expr
+  pub left : sees ws a x
+  pub rule : family ws (pair_node p x (E.Const c)) r
+  pub makes : Makes (sees ws) made r
+
+pub record FiredWith {S : Type 0} (family : Family) (sees : Sight S) (p : Pair) (a : S) (c : Word) (made : Made S) : Type 0 where
+  pub fires : (ws : ℕ → ℕ) (x : Expr) → AreSizedWith sees p a c ws
+      → sees ws a x → WithFires family sees p a c made ws

@@ -1,6 +1,5 @@
 -- What is made, as an expression.
-use Rattle.std.specs.Prelude.{◌≡◌, ℕ}
-use Rattle.bits_core.specs.declared.word.Word.{Word}
+use Rattle.std.specs.Prelude.{◌≡◌}
 use Rattle.cmeaning.specs.declared.tree.Expr.{Expr}
 use Rattle.cmeaning.specs.declared.tree.Expr.TheVariants as E
 use Rattle.rule_views.specs.declared.view.Arg.{Arg}

@@ -8,10 +8,14 @@
 //! What a rule makes is a standing operand, a constant, or one node over such.
 #![tactic(auto)]
 
+pub mod looks;
 pub mod nodes;
+pub mod row;
 pub mod tree;
 pub mod view;
 
+pub use looks::{beside_constant, folded, unary};
 pub use nodes::{Pair, Single};
+pub use row::Row;
 pub use tree::Tree;
-pub use view::{Arg, Made, View};
+pub use view::{Arg, Found, Made, View};

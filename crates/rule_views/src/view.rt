@@ -6,6 +6,7 @@ ghost use Rattle.rules.specs.Letters.{IsAtom};
 ghost use Rattle.rule_views.specs.Sees as S;
 
 use crate::nodes::{Pair, Single};
+use crate::row::Row;
 use bits_core::{Width, Word};
 
 /// A place in a tree or in a graph.
@@ -48,4 +49,11 @@ pub enum Made<P> {
     Is(Arg<P>),
     Single(Single, Arg<P>),
     Pair(Pair, Arg<P>, Arg<P>),
+}
+
+/// What the rule of a row makes.
+#[derive(Clone, Copy)]
+pub struct Found<P> {
+    pub row: Row,
+    pub made: Made<P>,
 }

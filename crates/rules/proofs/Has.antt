@@ -1,6 +1,6 @@
 -- What has a width and a value: taken apart and put together, node by node.
 use Rattle.std.proofs.Common.{◌≡◌, ℕ, ◌+◌, ◌<◌, ◌≤◌, ◌==◌, ◌&&◌, nat_lt, nat_le, Bool, true, false, Option, Some, None, refl, sym, ap, ◌∙◌, subst}
-use Rattle.std.proofs.lemmas.Bool.{eq-eqb, lt-ltb, le-leb, ltb-true, leb-true}
+use Rattle.std.proofs.lemmas.Bool.{eq-eqb, lt-ltb, le-leb, ltb-true, leb-true, and_parts}
 use Rattle.bits_core.specs.declared.word.Width.{Width}
 use Rattle.bits_core.specs.declared.word.Word.{Word}
 use Rattle.bits_core.specs.declared.ops.Binary.TheVariants as B
@@ -67,7 +67,7 @@ pub record Beside (ws : ℕ → ℕ) (u : Under ws) (a : Expr) (c : Word) (t s :
 
 -- ---- operands that agree
 
-alike : (to : ℕ → ℕ → ℕ) (o p : Option ℕ) (w : ℕ) → two_size (λ v u. v == u) to o p ≡ Some w
+pub alike : (to : ℕ → ℕ → ℕ) (o p : Option ℕ) (w : ℕ) → two_size (λ v u. v == u) to o p ≡ Some w
     → (t : ℕ) × ((o ≡ Some t) × (p ≡ Some t) × (to t t ≡ w))
 alike to None p w is = cc
 alike to (Some t) None w is = cc
@@ -86,25 +86,21 @@ either_width None p w is = cc
 either_width (Some t) None w is = cc
 either_width (Some t) (Some s) w is = (s, (is, refl))
 
-joined : (o p : Option ℕ) (w : ℕ) → two_size (λ v u. nat_le (v + u) 16) (λ v u. v + u) o p ≡ Some w
+pub joined : (o p : Option ℕ) (w : ℕ) → two_size (λ v u. nat_le (v + u) 16) (λ v u. v + u) o p ≡ Some w
     → (t : ℕ) × ((s : ℕ) × ((o ≡ Some t) × (p ≡ Some s) × (t + s ≡ w)))
 joined None p w is = cc
 joined (Some t) None w is = cc
 joined (Some t) (Some s) w is = (t, (s, (refl, refl, (chosen (nat_le (t + s) 16) (t + s) w is).1)))
 
-single_width : (right : ℕ → Bool) (to : ℕ → ℕ) (o : Option ℕ) (w : ℕ) → one_size right to o ≡ Some w
+pub single_width : (right : ℕ → Bool) (to : ℕ → ℕ) (o : Option ℕ) (w : ℕ) → one_size right to o ≡ Some w
     → (t : ℕ) × ((o ≡ Some t) × (right t ≡ true) × (to t ≡ w))
 single_width right to None w is = cc
 single_width right to (Some t) w is = let c = chosen (right t) (to t) w is in (t, (refl, c.0, c.1))
 
-both_true : (b c : Bool) → (b && c) ≡ true → (b ≡ true) × (c ≡ true)
-both_true true c h = (refl, h)
-both_true false c h = cc
-
 -- the w bytes after k lie in a word of t, and are fewer
-is_within : (k w t : ℕ) → is_part k w t ≡ true → (k + w ≤ t) × (w < t)
+pub is_within : (k w t : ℕ) → is_part k w t ≡ true → (k + w ≤ t) × (w < t)
 is_within k w t h =
-    let b = both_true (nat_le (k + w) t) (nat_lt w t) h in
+    let b = and_parts (nat_le (k + w) t) (nat_lt w t) h in
     (leb-true (k + w) t b.0, ltb-true w t b.1)
 
 module _ (ws : ℕ → ℕ) (u : Under ws) where

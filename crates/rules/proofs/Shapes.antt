@@ -1,5 +1,6 @@
 -- An expression of a valid tree has the width and the depth that its shape says.
 use Rattle.std.proofs.Common.{◌≡◌, ℕ, ◌+◌, ◌==◌, ◌&&◌, nat_lt, nat_le, max, Bool, true, false, if◌then◌else◌, Option, Some, None, refl, sym, ap, ◌∙◌, subst}
+use Rattle.std.proofs.lemmas.Bool.{and_parts}
 use Rattle.cmeaning.specs.declared.shape.Shape.{Shape}
 use Rattle.cmeaning.specs.declared.tree.Expr.{Expr, ind-Expr, roll-Expr, map-Expr}
 use Rattle.cmeaning.specs.declared.tree.Expr.TheOpen.{Expr-F}
@@ -20,16 +21,12 @@ made : (b : Bool) (r s : Shape) → (if b then Some r else None) ≡ Some s → 
 made true r s is = (refl, cc)
 made false r s is = cc
 
-both_true : (b c : Bool) → (b && c) ≡ true → (b ≡ true) × (c ≡ true)
-both_true true c h = (refl, h)
-both_true false c h = cc
-
 pub level : (right : Bool) (w d : ℕ) (comparison : Bool) (s : Shape) → above right w d comparison ≡ Some s
     → Level right w d comparison s
 level right w d comparison s is =
     let r : Shape = record { width = w; depth = d + 1; constant = None; comparison = comparison } in
     let m = made (right && nat_lt d 64) r s is in
-    let b = both_true right (nat_lt d 64) m.0 in
+    let b = and_parts right (nat_lt d 64) m.0 in
     record {
       holds = b.0;
       low = b.1;
@@ -72,7 +69,7 @@ var_fits : (some number : Bool) (w : ℕ) (s : Shape)
 var_fits some number w s is =
     let r : Shape = record { width = w; depth = 1; constant = None; comparison = false } in
     let m = made (number && some) r s is in
-    let b = both_true number some m.0 in
+    let b = and_parts number some m.0 in
     (rw (b.1) (ap (λ (x : Shape). Some x.width) m.1), ap (λ (x : Shape). x.depth) m.1)
 
 pub some_shape : (r s : Shape) → Some r ≡ Some s → r ≡ s
@@ -111,9 +108,9 @@ module _ (ws : ℕ → ℕ) where
       layer_fits (Expr-F.Arithmetic op a b) = rolled (Expr-F.Arithmetic op (f a) (f b))
           (of_two same_width (λ v w. v == w) (λ v w. v) false a b (λ x y r. r))
       layer_fits (Expr-F.Division op a b) = rolled (Expr-F.Division op (f a) (f b))
-          (of_two may_divide (λ v w. v == w) (λ v w. v) false a b (λ x y r. (both_true _ _ r).0))
+          (of_two may_divide (λ v w. v == w) (λ v w. v) false a b (λ x y r. (and_parts _ _ r).0))
       layer_fits (Expr-F.SignedDivision op a b) = rolled (Expr-F.SignedDivision op (f a) (f b))
-          (of_two may_divide_signed (λ v w. v == w) (λ v w. v) false a b (λ x y r. (both_true _ _ r).0))
+          (of_two may_divide_signed (λ v w. v == w) (λ v w. v) false a b (λ x y r. (and_parts _ _ r).0))
       layer_fits (Expr-F.Shift op a b) = rolled (Expr-F.Shift op (f a) (f b))
           (of_two (λ x y. true) (λ v w. true) (λ v w. v) false a b (λ x y r. refl))
       layer_fits (Expr-F.Compare op a b) = rolled (Expr-F.Compare op (f a) (f b))

@@ -1,0 +1,91 @@
+-- No left side of a rule is seen.
+use Rattle.std.specs.Prelude.{◌≡◌, ℕ, ◌-◌, ◌≤◌, ◌*◌}
+use Rattle.bits_core.specs.declared.word.Word.{Word}
+use Rattle.bits_core.specs.Value.{limit}
+use Rattle.cmeaning.specs.declared.tree.UnaryOp.{UnaryOp}
+use Rattle.cmeaning.specs.declared.tree.UnaryOp.TheVariants.{Neg}
+use Rattle.cmeaning.specs.declared.tree.ArithmeticOp.{ArithmeticOp}
+use Rattle.cmeaning.specs.declared.tree.ArithmeticOp.TheVariants as A
+use Rattle.cmeaning.specs.declared.tree.DivisionOp.TheVariants as D
+use Rattle.cmeaning.specs.declared.tree.SignedDivisionOp.TheVariants as T
+use Rattle.cmeaning.specs.declared.tree.ShiftOp.{ShiftOp}
+use Rattle.cmeaning.specs.declared.tree.ShiftOp.TheVariants as H
+use Rattle.cmeaning.specs.declared.tree.Expr.{Expr}
+use Rattle.cmeaning.specs.declared.tree.Expr.TheVariants as E
+use Rattle.rules.specs.Letters.{IsWide, IsAtom, Folds, KeepsAtZero, FallsAtZero, Cancels, RepeatsItself, IsBitwise}
+use Rattle.rule_views.specs.declared.nodes.Pair.{Pair}
+use Rattle.rule_views.specs.declared.nodes.Pair.TheVariants as P
+use Rattle.rule_views.specs.Sees.{Sight}
+use Rattle.rule_views.specs.Beside.{ConstOn}
+
+-- whatever is seen has more bits than c
+abbrev pub NotPassed : {S : Type 0} → Sight S → S → Word → Type 0
+NotPassed sees a c = (ws : ℕ → ℕ) (x : Expr) (w : ℕ) → sees ws a x → IsWide ws x w → 8 * w ≤ c.value → ⊥
+
+-- no rule of shifts by c
+pub record NoneShifted {S : Type 0} (sees : Sight S) (op : ShiftOp) (a : S) (c : Word) : Type 0 where
+  pub nothing : c.value ≡ 0 → ⊥
+  pub bits : (op ≡ H.Sar → ⊥) → NotPassed sees a c
+  pub sign : op ≡ H.Sar → NotPassed sees a c
+
+-- an operation by this constant leaves its left operand as it is: x * 1, x & ones, x / 1
+abbrev pub Leaves : Pair → Word → Type 0
+Leaves (P.Arithmetic A.Mul) c = c.value ≡ 1
+Leaves (P.Arithmetic A.And) c = c.value ≡ limit c.width.bytes - 1
+Leaves (P.Division D.Div) c = c.value ≡ 1
+Leaves (P.SignedDivision T.SDiv) c = c.value ≡ 1
+Leaves p c = ⊥
+
+-- Add and Sub
+abbrev pub IsSum : ArithmeticOp → Type 0
+IsSum A.Add = Unit {0}
+IsSum A.Sub = Unit {0}
+IsSum op = ⊥
+
+-- no letter stands beside a constant by one of these operations
+abbrev pub NoneBeside : {S : Type 0} → Sight S → S → (ArithmeticOp → Type 0) → Type 0
+NoneBeside sees a is = (ws : ℕ → ℕ) (op : ArithmeticOp) (x : Expr) (c : Word) (l : Expr)
+    → is op → ConstOn op x c l → sees ws a l → ⊥
+
+-- not one variable or constant at both
+abbrev pub NoAtom : {S : Type 0} → Sight S → S → S → Type 0
+NoAtom sees a b = (ws : ℕ → ℕ) (x : Expr) → IsAtom x → sees ws a x → sees ws b x → ⊥
+
+abbrev pub NoUnaryOf : {S : Type 0} → Sight S → UnaryOp → S → Type 0
+NoUnaryOf sees op a = (ws : ℕ → ℕ) (x : Expr) → sees ws a (E.Unary op x) → ⊥
+
+-- (x inner c) op d: x to e
+abbrev pub Nests : ArithmeticOp → ArithmeticOp → Word → Word → ArithmeticOp → Word → Type 0
+Nests A.Add A.Add c d to e = (to ≡ A.Add) × Folds A.Add c d e
+Nests A.Sub A.Sub c d to e = (to ≡ A.Sub) × Folds A.Add c d e
+Nests A.Add A.Sub c d to e = (to ≡ A.Add) × Folds A.Sub c d e
+Nests A.Sub A.Add c d to e = (to ≡ A.Add) × Folds A.Sub d c e
+Nests inner op c d to e = Unit {0}
+
+abbrev pub AreOpposite : ArithmeticOp → ArithmeticOp → Type 0
+AreOpposite A.Add to = to ≡ A.Sub
+AreOpposite A.Sub to = to ≡ A.Add
+AreOpposite op to = Unit {0}
+
+-- ---- of all rules whose right operand is a constant
+
+pub record NoneByOp {S : Type 0} (sees : Sight S) (op : ArithmeticOp) (a : S) (c : Word) : Type 0 where
+  pub nothing : KeepsAtZero op → c.value ≡ 0 → ⊥
+  pub falls : FallsAtZero op → c.value ≡ 0 → ⊥
+  pub sums : IsSum op → NoneBeside sees a IsSum
+  pub bits : IsBitwise op → NoneBeside sees a (λ o. o ≡ op)
+
+pub record NoneBy {S : Type 0} (sees : Sight S) (p : Pair) (a : S) (c : Word) : Type 0 where
+  pub leaves : Leaves p c → ⊥
+  pub by_op : (op : ArithmeticOp) → p ≡ P.Arithmetic op → NoneByOp sees op a c
+
+-- wherever the right operand is seen as a constant
+pub record NoneByConstant {S : Type 0} (sees : Sight S) (p : Pair) (a b : S) : Type 0 where
+  pub none : (ws : ℕ → ℕ) (c : Word) → sees ws b (E.Const c) → NoneBy sees p a c
+
+-- ---- of all others with two operands
+
+pub record NoneOfTwo {S : Type 0} (sees : Sight S) (op : ArithmeticOp) (a b : S) : Type 0 where
+  pub cancels : Cancels op → NoAtom sees a b
+  pub repeats : RepeatsItself op → NoAtom sees a b
+  pub opposite : IsSum op → NoUnaryOf sees Neg b
