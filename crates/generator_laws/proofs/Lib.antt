@@ -1,0 +1,6 @@
+pub mod Fits
+pub mod Each
+pub mod Obeys
+pub mod Stands
+pub mod Spots
+pub mod Flowing
