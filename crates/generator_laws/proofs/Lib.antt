@@ -4,3 +4,4 @@ pub mod Obeys
 pub mod Stands
 pub mod Spots
 pub mod Flowing
+pub mod Accessed
