@@ -5,3 +5,4 @@ pub mod Stands
 pub mod Spots
 pub mod Flowing
 pub mod Accessed
+pub mod Whole
