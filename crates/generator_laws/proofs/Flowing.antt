@@ -9,10 +9,6 @@ use Rattle.generator.specs.declared.draws.Drawn.{Drawn}
 use Rattle.generator.specs.Generated.{address, listing_of}
 use Rattle.generator_laws.proofs.Spots.{IsFirst, IsSpot, Leading, first_spot, l, spot_leads}
 
-way_to_place : Way → Place → Place
-way_to_place (Leads p) q = p
-way_to_place (Fails why) q = q
-
 same_place : (p q : Place) → Leads p ≡ Leads q → p ≡ q
 same_place p q e = cc
 
