@@ -1,21 +1,20 @@
 -- The ranges that a generated listing accesses lie in nine registers and one unique byte, so it has few atoms.
-use Rattle.std.proofs.Common.{◌⊎◌, inl, inr, ◌≡◌, ◌∙◌, ◌<◌, ◌≤◌, ◌+◌, ◌*◌, ◌%◌, ℕ, zero, suc, Bool, true, false, List, [], ◌∷◌, ◌++◌, length, ap, refl, sym, subst, arith}
-use Rattle.std.specs.Prelude.{None, ℤ, pos, ◌+ℤ◌}
+use Rattle.std.proofs.Common.{◌⊎◌, inl, inr, ◌≡◌, ◌<◌, ◌≤◌, ◌+◌, ℕ, zero, suc, List, [], ◌∷◌, length, refl, sym, subst, arith}
+use Rattle.std.specs.Prelude.{None, pos, ◌+ℤ◌}
 use Rattle.std.specs.List.{AllByRecursion}
 use Rattle.pcode_model.specs.declared.atoms.Atom.{Atom}
-use Rattle.pcode_model.specs.declared.listing.Listing.{Listing}
 use Rattle.pcode_model.specs.declared.listing.Place.{Place}
 use Rattle.pcode_model.specs.declared.listing.Varnode.{Varnode}
 use Rattle.pcode_model.specs.declared.storage.ParamStorage.{ParamStorage}
 use Rattle.pcode_model.specs.declared.storage.ParamStorage.TheVariants as P
-use Rattle.pcode_model.specs.Atoms.{AreAtoms, Area, Cuts, InOrder, IsAccessed, IsAtom, IsCut, IsEnd, Range, Registers, Stacked, StandsBefore, Uniques, area_of, offset_of, range, ranges_at, ranges_in, varnode}
+use Rattle.pcode_model.specs.Atoms.{AreAtoms, Cuts, InOrder, IsAccessed, IsAtom, Range, StandsBefore, area_of, offset_of, range, ranges_at, ranges_in, varnode}
 use Rattle.pcode_model.specs.Flow.{IsIn, Reached}
 use Rattle.pcode_model.specs.Frame.{no_variables}
-use Rattle.pcode_model.specs.Places.{Standing, place, standing, standing_in}
+use Rattle.pcode_model.specs.Places.{Standing, standing, standing_in}
 use Rattle.generator.specs.declared.draws.Drawn.{Drawn}
 use Rattle.generator.specs.declared.draws.Shape.{Shape}
 use Rattle.generator.specs.declared.draws.Shape.TheVariants.{Constant, Sum, Xor, Product, Branch, Store, Load, Byte}
-use Rattle.generator.specs.Generated.{address, constant, flag, listing_of, low_byte, ops_by, placed, register, returning}
+use Rattle.generator.specs.Generated.{constant, flag, listing_of, low_byte, ops_by, placed, register, returning}
 use Rattle.generator_laws.specs.Fit.{AreFit}
 use Rattle.generator_laws.proofs.Flowing.{reached_spot}
 use Rattle.generator_laws.proofs.Spots.{IsSpot, drawn_standing, l, last_standing}

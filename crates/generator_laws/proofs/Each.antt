@@ -1,5 +1,5 @@
 -- What holds of each instruction of a generated listing.
-use Rattle.std.proofs.Common.{◌≡◌, ℕ, zero, suc, List, [], ◌∷◌, ◌++◌, sym, subst}
+use Rattle.std.proofs.Common.{ℕ, zero, suc, List, [], ◌∷◌, ◌++◌, sym, subst}
 use Rattle.std.specs.List.{AllByRecursion}
 use Rattle.pcode_model.specs.declared.listing.Instruction.{Instruction}
 use Rattle.generator.specs.declared.draws.Drawn.{Drawn}

@@ -1,6 +1,6 @@
 -- What is drawn fits.
-use Rattle.std.proofs.Common.{◌≡◌, ◌<◌, ◌^◌, ◌/◌, ◌%◌, ◌+◌, ◌*◌, ℕ, arith}
-use Rattle.generator.specs.Draws.{before, drawn_after, drawn_at, next, top}
+use Rattle.std.proofs.Common.{◌<◌, ◌^◌, ◌/◌, ◌%◌, ◌+◌, ◌*◌, ℕ, arith}
+use Rattle.generator.specs.Draws.{before, drawn_after, drawn_at, next}
 use Rattle.generator_laws.specs.Fit.{AreFit, IsFit}
 
 -- the upper bits of what is below 2^64

@@ -1,12 +1,11 @@
 -- The flow of a generated listing has no fault, and few blocks begin in it.
-use Rattle.std.proofs.Common.{◌⊎◌, inl, inr, ◌≡◌, ◌∙◌, ◌<◌, ◌≤◌, ◌+◌, ◌*◌, ℕ, zero, suc, Bool, true, false, List, [], ◌∷◌, length, ap, refl, sym, subst, arith}
+use Rattle.std.proofs.Common.{inl, inr, ◌≡◌, ◌<◌, ◌≤◌, ◌+◌, ℕ, Bool, List, [], ◌∷◌, length, ap, refl, sym, subst, arith}
 use Rattle.std.specs.List.{AllByRecursion}
 use Rattle.pcode_model.specs.declared.flow.FlowWhy.{FlowWhy}
 use Rattle.pcode_model.specs.declared.listing.Place.{Place}
-use Rattle.pcode_model.specs.Flow.{AreStarts, BeginsBlock, Entry, Led, Fails, First, IsBefore, IsIn, Leads, Next, NoFault, Reached, Rising, Way, is_branch, turn_at, ways}
-use Rattle.pcode_model.specs.Places.{place}
+use Rattle.pcode_model.specs.Flow.{AreStarts, BeginsBlock, Entry, Led, Fails, First, IsBefore, IsIn, Leads, Next, NoFault, Reached, Rising, Way, ways}
 use Rattle.generator.specs.declared.draws.Drawn.{Drawn}
-use Rattle.generator.specs.Generated.{address, listing_of}
+use Rattle.generator.specs.Generated.{listing_of}
 use Rattle.generator_laws.proofs.Spots.{IsFirst, IsSpot, Leading, first_spot, l, spot_leads}
 
 same_place : (p q : Place) → Leads p ≡ Leads q → p ≡ q

@@ -9,14 +9,13 @@ use Rattle.pcode_model.specs.declared.listing.Op.{Op}
 use Rattle.pcode_model.specs.declared.rules.OpFault.{OpFault}
 use Rattle.pcode_model.specs.declared.rules.OpWhy.{OpWhy}
 use Rattle.pcode_model.specs.declared.rules.OpWhy.TheVariants.{OutOfSpace}
-use Rattle.pcode_model.specs.Ranges.{leaves}
 use Rattle.pcode_model.specs.Rules.{at_place, first_bad, first_bad_in, first_bad_of, first_broken}
 use Rattle.pcode_model.specs.Spaces.{or}
-use Rattle.supported.specs.Supported.{are_supported_ops, is_supported_code, is_supported_code_of}
+use Rattle.supported.specs.Supported.{are_supported_ops, is_supported_code_of}
 use Rattle.generator.specs.declared.draws.Drawn.{Drawn}
 use Rattle.generator.specs.declared.draws.Shape.{Shape}
 use Rattle.generator.specs.declared.draws.Shape.TheVariants.{Constant, Sum, Xor, Product, Branch, Store, Load, Byte}
-use Rattle.generator.specs.Generated.{address, code_of, listing_of, ops_by, placed, returning, spaces}
+use Rattle.generator.specs.Generated.{address, code_of, listing_of, ops_by}
 use Rattle.generator_laws.specs.Fit.{AreFit}
 use Rattle.generator_laws.proofs.Each.{all_have}
 

@@ -1,15 +1,14 @@
 -- The places of a generated listing, and the ways on from them: each leads to a place of the listing.
-use Rattle.std.proofs.Common.{◌⊎◌, inl, inr, ◌≡◌, ◌∙◌, ◌<◌, ◌≤◌, ◌+◌, ◌*◌, ◌%◌, ℕ, zero, suc, Bool, true, false, List, [], ◌∷◌, length, ap, refl, sym, subst, arith}
-use Rattle.std.specs.Prelude.{Option, Some, None, if◌then◌else◌, slice_get}
+use Rattle.std.proofs.Common.{◌⊎◌, inl, inr, ◌≡◌, ◌∙◌, ◌<◌, ◌≤◌, ◌+◌, ◌%◌, ℕ, zero, suc, Bool, true, false, List, [], ◌∷◌, length, ap, refl, sym, subst, arith}
+use Rattle.std.specs.Prelude.{Option, if◌then◌else◌, slice_get}
 use Rattle.std.specs.List.{AllByRecursion}
 use Rattle.pcode_model.specs.declared.flow.FlowWhy.{FlowWhy}
 use Rattle.pcode_model.specs.declared.flow.FlowWhy.TheVariants.{FallsOff, NoTarget}
-use Rattle.pcode_model.specs.declared.flow.Turn.{Turn}
 use Rattle.pcode_model.specs.declared.listing.Instruction.{Instruction}
 use Rattle.pcode_model.specs.declared.listing.Listing.{Listing}
 use Rattle.pcode_model.specs.declared.listing.Op.{Op}
 use Rattle.pcode_model.specs.declared.listing.Place.{Place}
-use Rattle.pcode_model.specs.Flow.{Fails, IsIn, Leads, Reached, First, Next, Way, is_branch, stands, standing_ways, stands_by, turn_at, turn_in, way_to, ways}
+use Rattle.pcode_model.specs.Flow.{Fails, Leads, Way, is_branch, stands, standing_ways, stands_by, turn_in, way_to}
 use Rattle.pcode_model.specs.Places.{Standing, op_in, place, standing, standing_in, standing_of}
 use Rattle.generator.specs.declared.draws.Drawn.{Drawn}
 use Rattle.generator.specs.declared.draws.Shape.{Shape}
