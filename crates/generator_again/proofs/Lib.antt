@@ -1,0 +1,5 @@
+pub mod Saying
+pub mod Header
+pub mod Ops
+pub mod Coded
+pub mod Text
