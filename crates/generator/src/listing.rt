@@ -9,7 +9,7 @@ use crate::header::{function, proto, spaces};
 use crate::shapes::{drawn_ops, returning};
 use bits_core::Memory;
 use listing_print::print_listing;
-use pcode_model::{Fixeds, Functions, Instruction, Instructions, Listing, Ops, Protos, Text};
+use pcode_model::{Callees, Fixeds, Instruction, Instructions, Listing, Ops, Protos, Text};
 use std::alloc::{AllocError, Global};
 
 // The instruction of that number.
@@ -71,7 +71,7 @@ pub fn generated_listing(alloc: Global, number: u32) -> Result<Listing, Memory>
         stack: None,
         protos,
         func,
-        callees: Functions::new(alloc),
+        callees: Callees::new(alloc),
         fixed: Fixeds::new(alloc),
         code,
     })
