@@ -13,26 +13,19 @@ use Rattle.pcode_model.specs.declared.listing.Proto.{Proto}
 use Rattle.pcode_model.specs.Flow.{IsIn}
 use Rattle.pcode_model.specs.Places.{Standing, Nothing, Passes, Does, standing}
 use Rattle.pcode_model.specs.Rules.{first_bad, input_ranges, names_address, past_first}
-use Rattle.pcode_model.specs.Step.{all_but_first, all_read, arguments, callee_at, operands, proto_of, varnode_at}
+use Rattle.pcode_model.specs.Step.{arguments, callee_at, operands, proto_of, varnode_at}
 use Rattle.pcode_model.specs.Atoms.{Accesses, IsLocal, further_ranges, one_range, op_ranges, ranges_in, ranges_read}
 use Rattle.pcode_model.specs.WellFormed.{IsStorage, IsWellFormed}
 use Rattle.pcode_model.proofs.Members.{in_either}
 use Rattle.supported.specs.Supported.{IsSupported, is_supported_code}
-use Rattle.stackvars.proofs.Ops.{read_all, read_past}
 use Rattle.stackvars.proofs.Passed.{reads_passed}
+use Rattle.stackvars.proofs.Reach.{of_rest, read_back, read_rest}
 use Rattle.plain_form.proofs.Prototypes.{IsDeclared, callee_declared, own_declared, passed_storage}
 use Rattle.plain_form.proofs.Standing.{StandsIn, stands_in, supported_in}
-use Rattle.plain_form.proofs.Rules.{past_in}
 use Rattle.plain_form.proofs.Formed.{IsInput, Inside}
 use Rattle.plain_form.proofs.Read.{input, input_inside, one_in, output_inside, storage_input, storage_inside}
 
 -- ---- what a supported op accesses: what it reads, its output, and at a call and a RETURN the result
-
-all_in : (vs : List Varnode) (v : Varnode) → IsIn v (ranges_read (all_read vs)) → IsIn v vs
-all_in vs v h = let P : List Varnode → Type 0 = λ xs. IsIn v xs in subst P (read_all vs) h
-
-rest_in : (vs : List Varnode) (v : Varnode) → IsIn v (ranges_read (all_but_first vs)) → IsIn v (past_first vs)
-rest_in vs v h = let P : List Varnode → Type 0 = λ xs. IsIn v xs in subst P (read_past vs) h
 
 module _ (l : Listing) (read : IsWellFormed l) where
   argument_is : (p : Proto)
@@ -50,18 +43,18 @@ module _ (l : Listing) (read : IsWellFormed l) where
       → (v : Varnode)
       → IsIn v (ranges_read (operands l code vs))
       → IsIn v (input_ranges code vs) ⊎ IsStorage l.spaces v
-  operand_is (O.Unary op) vs s v h = inl (all_in vs v h)
-  operand_is (O.Binary op) vs s v h = inl (all_in vs v h)
-  operand_is (O.Divide op) vs s v h = inl (all_in vs v h)
-  operand_is O.Load vs s v h = inl (past_in vs v (rest_in vs v h))
-  operand_is O.Store vs s v h = inl (past_in vs v (rest_in vs v h))
+  operand_is (O.Unary op) vs s v h = inl (read_back vs v h)
+  operand_is (O.Binary op) vs s v h = inl (read_back vs v h)
+  operand_is (O.Divide op) vs s v h = inl (read_back vs v h)
+  operand_is O.Load vs s v h = inl (of_rest vs v (read_rest vs v h))
+  operand_is O.Store vs s v h = inl (of_rest vs v (read_rest vs v h))
   operand_is O.Branch vs s v h = absurd h
-  operand_is O.CBranch vs s v h = inl (by_test (names_address O.CBranch vs) (rest_in vs v h))
+  operand_is O.CBranch vs s v h = inl (by_test (names_address O.CBranch vs) (read_rest vs v h))
     where
       by_test : (b : Bool) → IsIn v (past_first vs) → IsIn v (if b then past_first vs else vs)
       by_test true k = k
-      by_test false k = past_in vs v k
-  operand_is O.Return vs s v h = inl (all_in vs v h)
+      by_test false k = of_rest vs v k
+  operand_is O.Return vs s v h = inl (read_back vs v h)
   operand_is O.BranchInd vs s v h = absurd (cc)
   operand_is O.Call [] s v h = absurd h
   operand_is O.Call (to ∷ vs) s v h =
@@ -69,7 +62,7 @@ module _ (l : Listing) (read : IsWellFormed l) where
   operand_is O.CallInd [] s v h = absurd h
   operand_is O.CallInd (to ∷ vs) s v (inl e) = inl (inl e)
   operand_is O.CallInd (to ∷ vs) s v (inr h) = inr (argument_is (proto_of l None) (own_declared l read) v h)
-  operand_is O.CallOther vs s v h = inl (past_in vs v (rest_in vs v h))
+  operand_is O.CallOther vs s v h = inl (of_rest vs v (read_rest vs v h))
   operand_is (O.Float name) vs s v h = absurd (cc)
   operand_is (O.FloatConversion op) vs s v h = absurd (cc)
   operand_is (O.Analysis op) vs s v h = absurd (cc)

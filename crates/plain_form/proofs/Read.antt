@@ -22,10 +22,11 @@ use Rattle.pcode_model.specs.Step.{proto_of, varnode_at}
 use Rattle.pcode_model.specs.WellFormed.{HasKnownOps, HasOps, IsKnown, IsKnownOp, IsOp, IsOperand, IsProto, IsStorage, IsWellFormed}
 use Rattle.pcode_model.proofs.Members.{of_member}
 use Rattle.pcode_laws.proofs.Rules.{breaks_none, neither}
+use Rattle.stackvars.proofs.Reach.{of_rest}
 use Rattle.plain_form.proofs.Prototypes.{own_declared}
 use Rattle.plain_form.proofs.Standing.{StandsIn}
 use Rattle.plain_form.proofs.Spaces.{constant_is, differ, first_constant, kind_of_first, low, only, same_is}
-use Rattle.plain_form.proofs.Rules.{ends_within, narrow_in, output_narrow, output_stays, past_in, stays_in}
+use Rattle.plain_form.proofs.Rules.{ends_within, narrow_in, output_narrow, output_stays, stays_in}
 use Rattle.plain_form.proofs.Formed.{IsInput, IsWritten, Inside}
 
 no_second : (a b : Bool) → b ≡ false → (a && b) ≡ false
@@ -43,7 +44,7 @@ input_in : (code : Opcode) (vs : List Varnode) (v : Varnode) → IsIn v (input_r
 input_in code vs v = by_test (names_address code vs) vs
   where
     by_test : (b : Bool) (vs : List Varnode) → IsIn v (if b then past_first vs else vs) → IsIn v vs
-    by_test true vs h = past_in vs v h
+    by_test true vs h = of_rest vs v h
     by_test false vs h = h
 
 -- ---- what the rules say of the ranges of an op

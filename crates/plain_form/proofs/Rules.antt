@@ -7,16 +7,9 @@ use Rattle.pcode_model.specs.declared.listing.Listing.{Listing}
 use Rattle.pcode_model.specs.declared.listing.Varnode.{Varnode}
 use Rattle.pcode_model.specs.Atoms.{one_range}
 use Rattle.pcode_model.specs.Flow.{IsIn}
-use Rattle.pcode_model.specs.Rules.{any_leaves, any_wide, leaves_space, output_leaves, output_wide, past_first}
+use Rattle.pcode_model.specs.Rules.{any_leaves, any_wide, leaves_space, output_leaves, output_wide}
 use Rattle.pcode_model.specs.Spaces.{size_of}
 use Rattle.pcode_laws.proofs.Rules.{neither}
-
--- ---- inputs
-
--- What is behind the first input is an input.
-pub past_in : (vs : List Varnode) (v : Varnode) → IsIn v (past_first vs) → IsIn v vs
-past_in [] v is = absurd is
-past_in (x ∷ vs) v is = inr is
 
 -- ---- widths
 
