@@ -1,9 +1,9 @@
 #!/usr/bin/env bash
 # usage: tests/header.sh     CC names the compiler, else one is looked for
-# Compiles the C of each example with include/pcode2c.h, without a warning at -Wall. Each example with an entry of
-# register and unique bytes alone is also run on it, optimised and with the undefined behaviour sanitizer: it must give
-# what the run of the listing gives, which stands in crates/example_suite/stdout. It proves nothing, and is skipped where
-# no compiler is installed that knows _BitInt and its suffix.
+# Compiles the C of each example with include/pcode2c.h, without a warning at -Wall. Each example that calls nothing, with
+# an entry of register and unique bytes alone, is also run on it, optimised and with the undefined behaviour sanitizer: it
+# must give what the run of the listing gives, which stands in crates/example_suite/stdout. It proves nothing, and is
+# skipped where no compiler is installed that knows _BitInt and its suffix.
 set -u
 top=$(cd -- "$(dirname -- "$0")/.." && pwd)
 work=$(mktemp -d) || exit 2
@@ -72,6 +72,7 @@ says() {
 runs() {
   local gave
   grep -qvE '^(entry 1|reg .*|uni .*|end)$' "$1.entry" && return 0
+  grep -qE '; // 0x[0-9a-f]+$' "$1.c" && return 0 # what it calls stands nowhere
   runner "$1" > "$work/$1.run.c"
   "${cc[@]}" -O2 -fsanitize=undefined -fsanitize-trap=undefined -I . "$work/$1.run.c" -o "$work/$1.run" || return 1
   gave=$("$work/$1.run")
