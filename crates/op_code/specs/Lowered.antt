@@ -53,8 +53,8 @@ made_in l own ranges next (Passes i) = nothing
 made_in l own ranges next (Does i op) = op_made l own ranges next op.code op.out op.inputs
 
 -- what stands for the op at a place
-abbrev pub place_made : Listing → Frame → List Varnode → ℕ → Place → Made
-place_made l f ranges next p = made_in l (f.own p) ranges next (standing l p)
+abbrev pub place_made : Listing → (Place → Own) → List Varnode → ℕ → Place → Made
+place_made l own ranges next p = made_in l (own p) ranges next (standing l p)
 
 -- ---- exits
 
@@ -111,27 +111,27 @@ in_front here rest = record {
 }
 
 -- The places of a block, one behind another. A block has a place.
-abbrev pub places_made : Listing → Frame → List Varnode → ℕ → List Place → flow_exit.Exit → BlockMade
-places_made l f ranges next [] e = record { block = record { body = []; exit = X.Stop }; locals = [] }
-places_made l f ranges next (p ∷ []) e = last_made (place_made l f ranges next p)
-    (way_out l ranges (next + length (place_made l f ranges next p).locals) (standing l p) e)
-places_made l f ranges next (p ∷ q ∷ rest) e = in_front (place_made l f ranges next p)
-    (places_made l f ranges (next + length (place_made l f ranges next p).locals) (q ∷ rest) e)
+abbrev pub places_made : Listing → (Place → Own) → List Varnode → ℕ → List Place → flow_exit.Exit → BlockMade
+places_made l own ranges next [] e = record { block = record { body = []; exit = X.Stop }; locals = [] }
+places_made l own ranges next (p ∷ []) e = last_made (place_made l own ranges next p)
+    (way_out l ranges (next + length (place_made l own ranges next p).locals) (standing l p) e)
+places_made l own ranges next (p ∷ q ∷ rest) e = in_front (place_made l own ranges next p)
+    (places_made l own ranges (next + length (place_made l own ranges next p).locals) (q ∷ rest) e)
 
-abbrev pub block_made : Listing → Frame → List Varnode → ℕ → flow_block.Block → BlockMade
-block_made l f ranges next b = places_made l f ranges next b.places b.exit
+abbrev pub block_made : Listing → (Place → Own) → List Varnode → ℕ → flow_block.Block → BlockMade
+block_made l own ranges next b = places_made l own ranges next b.places b.exit
 
 pub record BlocksMade : Type 0 where
   pub blocks : List Block
   pub locals : List Variable
 
-abbrev pub blocks_made : Listing → Frame → List Varnode → ℕ → List flow_block.Block → BlocksMade
-blocks_made l f ranges next [] = record { blocks = []; locals = [] }
-blocks_made l f ranges next (b ∷ bs) = record {
-  blocks = (block_made l f ranges next b).block
-      ∷ (blocks_made l f ranges (next + length (block_made l f ranges next b).locals) bs).blocks;
-  locals = (block_made l f ranges next b).locals
-      ++ (blocks_made l f ranges (next + length (block_made l f ranges next b).locals) bs).locals;
+abbrev pub blocks_made : Listing → (Place → Own) → List Varnode → ℕ → List flow_block.Block → BlocksMade
+blocks_made l own ranges next [] = record { blocks = []; locals = [] }
+blocks_made l own ranges next (b ∷ bs) = record {
+  blocks = (block_made l own ranges next b).block
+      ∷ (blocks_made l own ranges (next + length (block_made l own ranges next b).locals) bs).blocks;
+  locals = (block_made l own ranges next b).locals
+      ++ (blocks_made l own ranges (next + length (block_made l own ranges next b).locals) bs).locals;
 }
 
 -- ---- the whole
@@ -146,8 +146,8 @@ place_number (q ∷ rest) p = if same_place q p then 0 else suc (place_number re
 -- The plain lowering of a listing with this frame, this flow and these atoms.
 abbrev pub lowered : Listing → Frame → List flow_block.Block → List Atom → Code
 lowered l f blocks atoms = record {
-  variables = map variable_for atoms ++ (blocks_made l f (ranges_of l atoms) (length atoms) blocks).locals;
-  blocks = (blocks_made l f (ranges_of l atoms) (length atoms) blocks).blocks;
+  variables = map variable_for atoms ++ (blocks_made l f.own (ranges_of l atoms) (length atoms) blocks).locals;
+  blocks = (blocks_made l f.own (ranges_of l atoms) (length atoms) blocks).blocks;
   entry = place_number (starts_of blocks) (first_place l);
 }
 
