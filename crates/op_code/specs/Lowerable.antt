@@ -1,5 +1,5 @@
 -- The form of listings whose plain lowering shows the same. This project's own.
-use Rattle.std.specs.Prelude.{◌≡◌, ◌+◌, ◌-◌, ◌^◌, ◌<◌, ◌≤◌, List, [], ◌∷◌, length}
+use Rattle.std.specs.Prelude.{◌≡◌, ◌≢◌, ◌+◌, ◌-◌, ◌^◌, ◌<◌, ◌≤◌, List, [], ◌∷◌, length}
 use Rattle.pcode_model.specs.declared.listing.Varnode.{Varnode}
 use Rattle.pcode_model.specs.declared.listing.Listing.{Listing}
 use Rattle.pcode_model.specs.declared.listing.Place.{Place}
@@ -8,6 +8,7 @@ use Rattle.pcode_model.specs.declared.tables.TableAt.{TableAt}
 use Rattle.pcode_model.specs.declared.flow.Block.{Block}
 use Rattle.pcode_model.specs.Flow.{IsFlow, Reached}
 use Rattle.pcode_model.specs.Memory.{Frame}
+use Rattle.pcode_model.specs.Spaces.{first_ram, register_space}
 use Rattle.pcode_model.specs.Places.{Standing, Nothing, Passes, Does, standing}
 use Rattle.range_words.specs.Own.{half, stack_size}
 use Rattle.range_words.specs.Ranges.{IsTable}
@@ -28,6 +29,7 @@ AreNarrow (a ∷ rest) = ((0 < a.size) × (a.size ≤ 16)) × AreNarrow rest
 -- What is asked of a listing with its frame, its blocks and its atoms: what stands at each reached place is of the form, so
 -- that each range that is accessed is a whole number of atoms, and these lie within their spaces and apart from each other.
 -- even: the first ram space has two halves.
+-- registers: and it isn't the register space.
 pub record IsLowerable (l : Listing) (t : List TableAt) (f : Frame) (blocks : List Block) (atoms : List Atom) : Type 0
     where
   pub flow : IsFlow l t blocks
@@ -35,4 +37,5 @@ pub record IsLowerable (l : Listing) (t : List TableAt) (f : Frame) (blocks : Li
   pub table : IsTable l (ranges_of l atoms)
   pub narrow : AreNarrow atoms
   pub even : half (stack_size l) + half (stack_size l) ≡ stack_size l
+  pub registers : register_space l ≢ first_ram l
   pub plain : (p : Place) → Reached l t p → IsPlain l (f.own p) (ranges_of l atoms) (standing l p)

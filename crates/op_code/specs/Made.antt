@@ -250,8 +250,8 @@ abbrev pub Asking : Type 0
 Asking = Option ℕ → Stmt
 
 -- one after the other
-abbrev pub then : Made → Made → Made
-then m n = record { statements = m.statements ++ n.statements; locals = m.locals ++ n.locals }
+abbrev pub followed : Made → Made → Made
+followed m n = record { statements = m.statements ++ n.statements; locals = m.locals ++ n.locals }
 
 -- What follows a call whose prototype gives this result: what it left in registers is taken, and then the result's
 -- variables are assigned their parts.
@@ -274,7 +274,7 @@ pops l ranges next p = pops_by l.stack p.pop l ranges next
 
 -- and last the stack pointer is popped
 abbrev pub answered : Listing → List Varnode → ℕ → Proto → Option Varnode → Asking → Made
-answered l ranges next p gives make = then (gives_back l ranges next p gives make)
+answered l ranges next p gives make = followed (gives_back l ranges next p gives make)
     (pops l ranges (next + length (gives_back l ranges next p gives make).locals) p)
 
 -- a call of this prototype that returns, by what is read before

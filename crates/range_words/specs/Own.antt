@@ -1,6 +1,6 @@
 -- The bytes of frame variables beside those of registers. A frame variable's range has the number of the first ram space,
 -- which no range of the register space or the unique space has. This project's own.
-use Rattle.std.specs.Prelude.{◌≡◌, ℕ, ◌+◌, ◌-◌, ◌/◌, ◌==◌, nat_lt, if◌then◌else◌, List, Ok}
+use Rattle.std.specs.Prelude.{◌≡◌, ℕ, ◌+◌, ◌-◌, ◌/◌, ◌==◌, ◌&&◌, nat_lt, if◌then◌else◌, List, Ok}
 use Rattle.pcode_model.specs.declared.listing.Varnode.{Varnode}
 use Rattle.pcode_model.specs.declared.listing.Listing.{Listing}
 use Rattle.pcode_model.specs.Spaces.{bytes_at, each_at, first_ram, put, size_of}
@@ -25,9 +25,10 @@ stack_size l = size_of l (first_ram l)
 abbrev pub frame_range : Listing → (c k : ℕ) → Varnode
 frame_range l c k = record { space = first_ram l; offset = centred (stack_size l) c; size = k }
 
--- the bytes of registers with those of the frame
+-- the bytes of registers with those of the frame, which are there at as many offsets as the stack has addresses
 abbrev pub with_own : Listing → (ℕ → ℕ) → Bytes → Bytes
-with_own l own m s o = if s == first_ram l then own (centred (stack_size l) o) else m s o
+with_own l own m s o =
+    if s == first_ram l && nat_lt o (stack_size l) then own (centred (stack_size l) o) else m s o
 
 -- ---- what is done to them
 
