@@ -10,7 +10,7 @@ use Rattle.pcode_model.specs.declared.flow.Exit as flow_exit
 use Rattle.pcode_model.specs.Places.{standing}
 use Rattle.cmeaning.specs.declared.tree.Stmt.{Stmt}
 use Rattle.blockcode.specs.declared.code.Variable.{Variable}
-use Rattle.op_code.specs.Made.{Made, Own, nothing, then}
+use Rattle.op_code.specs.Made.{Made, Own, nothing, followed}
 use Rattle.op_code.specs.Lowered.{BlockMade, WayOut, in_front, last_made, place_made, places_made, way_out}
 use Rattle.op_code.proofs.Each.{grown_length}
 use Rattle.plaincode.specs.Body.{body_made}
@@ -19,7 +19,7 @@ abbrev made_by : WayOut → List Stmt → List Variable → BlockMade
 made_by w body locals = record { block = record { body = body; exit = w.exit }; locals = locals }
 
 front_made : (here rest : Made) (w : WayOut)
-    → in_front here (last_made rest w) ≡ last_made (then here rest) w
+    → in_front here (last_made rest w) ≡ last_made (followed here rest) w
 front_made here rest w =
     ap (λ x. made_by w x (here.locals ++ (rest.locals ++ w.locals)))
     (sym (append_assoc here.statements rest.statements w.loads))
@@ -32,7 +32,7 @@ module _ (l : Listing) (own : Place → Own) (ranges : List Varnode) (e : flow_e
   ended next m last = last_made m (way_out l ranges (next + length m.locals) (standing l last) e)
 
   ended_front : (next : ℕ) (here rest : Made) (last : Place)
-      → in_front here (ended (next + length here.locals) rest last) ≡ ended next (then here rest) last
+      → in_front here (ended (next + length here.locals) rest last) ≡ ended next (followed here rest) last
   ended_front next here rest last =
       let to : ℕ → WayOut = λ n. way_out l ranges n (standing l last) e in
       let n : next + length here.locals + length rest.locals ≡ next + length (here.locals ++ rest.locals) =
@@ -41,7 +41,7 @@ module _ (l : Listing) (own : Place → Own) (ranges : List Varnode) (e : flow_e
       ∙ front_made here rest (to (next + length (here.locals ++ rest.locals)))
 
   ended_one : (next : ℕ) (here : Made) (last : Place)
-      → ended next here last ≡ ended next (then here nothing) last
+      → ended next here last ≡ ended next (followed here nothing) last
   ended_one next here last =
       ap (λ x. let m : Made = record { statements = x; locals = here.locals } in ended next m last)
       (sym (append-nil here.statements))

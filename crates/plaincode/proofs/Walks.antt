@@ -5,7 +5,7 @@ use Rattle.pcode_model.specs.declared.listing.Place.{Place}
 use Rattle.pcode_model.specs.declared.listing.Listing.{Listing}
 use Rattle.pcode_model.specs.declared.flow.Block as flow_block
 use Rattle.blockcode.specs.declared.code.Variable.{Variable}
-use Rattle.op_code.specs.Made.{Own, then}
+use Rattle.op_code.specs.Made.{Own, followed}
 use Rattle.op_code.specs.Lowered.{BlocksMade, block_made, blocks_made, place_made}
 use Rattle.op_code.proofs.Each.{grown_length}
 use Rattle.plaincode.specs.Body.{body_made}
@@ -14,9 +14,9 @@ module _ (l : Listing) (own : Place → Own) (ranges : List Varnode) (variables 
   pub body_from : (p : Place) (ps : List Place)
       → all ≡ variables ++ (place_made l own ranges (length variables) p).locals
       → body_made l own ranges (length variables) (p ∷ ps)
-      ≡ then (place_made l own ranges (length variables) p) (body_made l own ranges (length all) ps)
+      ≡ followed (place_made l own ranges (length variables) p) (body_made l own ranges (length all) ps)
   body_from p ps grown = let here = place_made l own ranges (length variables) p in
-      ap (λ n. then here (body_made l own ranges n ps)) (grown_length variables all here.locals grown)
+      ap (λ n. followed here (body_made l own ranges n ps)) (grown_length variables all here.locals grown)
 
   pub blocks_from : (b : flow_block.Block) (bs : List flow_block.Block)
       → all ≡ variables ++ (block_made l own ranges (length variables) b).locals
