@@ -1,4 +1,5 @@
 pub mod Access
+pub mod Adds
 pub mod Rows
 pub mod Bytes
 pub mod Reading
