@@ -1,6 +1,6 @@
 -- The code of the plain lowering agrees with the listing: by the frame law, since the run of a listing without frame
 -- variables ends Outside where it reads a hidden byte, and the run of the code goes on.
-use Rattle.std.proofs.Common.{◌≡◌, ◌≢◌, ◌<◌, Bool, true, false, List, length, refl}
+use Rattle.std.proofs.Common.{◌≡◌, ◌≢◌, Bool, true, false, List, length, refl}
 use Rattle.std.specs.Prelude.{Ok, Err}
 use Rattle.machine.specs.Trace.{End, ReadOnlyWrite, Undefined}
 use Rattle.machine.specs.TwoWay.{NeverEnds, TwoWay}

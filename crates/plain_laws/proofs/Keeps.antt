@@ -1,6 +1,6 @@
 -- The code of the plain lowering shows what the listing shows.
-use Rattle.std.proofs.Common.{◌≡◌, ◌+◌, ◌<◌, ◌≤◌, ◌%◌, ℕ, List, ◌++◌, length, map, Option, None, Some, refl, sym, ap, ◌∙◌, subst, arith}
-use Rattle.std.specs.Prelude.{ℤ, pos, negsuc, slice_get}
+use Rattle.std.proofs.Common.{◌≡◌, ◌+◌, ◌<◌, ◌%◌, ℕ, List, ◌++◌, length, map, Option, None, Some, refl, sym, ap, ◌∙◌, subst, arith}
+use Rattle.std.specs.Prelude.{ℤ, pos, negsuc}
 use Rattle.std.proofs.lemmas.List.{length-map}
 use Rattle.machine.specs.TwoWay.{TwoWay}
 use Rattle.machine.specs.Machine.{seen}
@@ -22,7 +22,6 @@ use Rattle.range_words.specs.Own.{HasOwn, stack_size, with_own}
 use Rattle.range_words.specs.Ranges.{AreBytes, Holds, IsInside}
 use Rattle.range_words.proofs.Own.{frame_word_is, own_bytes, word_else}
 use Rattle.cmeaning.specs.Step.{word_at}
-use Rattle.blockcode.specs.declared.code.Variable.{Variable}
 use Rattle.blockcode.specs.Run.{first_word, first_local, start_code, seen_code}
 use Rattle.op_values.proofs.Means.{nearest_is}
 use Rattle.op_code.proofs.Entering.{entry_found}
