@@ -13,6 +13,7 @@ pub mod Numbers
 pub mod Operands
 pub mod Pointer
 pub mod Framed
+pub mod Popped
 pub mod Ops
 pub mod Sees
 pub mod Taken
