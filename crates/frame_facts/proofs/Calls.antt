@@ -2,6 +2,7 @@
 use Rattle.std.proofs.Common.{◌≡◌, ℕ, zero, suc, ◌+◌, ◌%◌, ◌<◌, ◌≤◌, ◌^◌, Bool, true, false, List, [], ◌∷◌, Option, Some, None, IfSome, refl, sym, ap, ◌∙◌, subst, ◌⊎◌, inl, inr, ⊎_elim, arith}
 use Rattle.std.specs.Prelude.{cond, ◌==◌, ◌&&◌, slice_get}
 use Rattle.std.specs.List.{AllByRecursion}
+use Rattle.std.proofs.Math.Bool.{and-false}
 use Rattle.std.proofs.lemmas.Bool.Decides.{nat_tests}
 use Rattle.bits_core.specs.Value.{limit}
 use Rattle.bits_core.specs.Bytes.{word_of}
@@ -24,7 +25,8 @@ use Rattle.range_words.specs.Ranges.{IsInside, AreApart}
 use Rattle.range_words.proofs.Variables.{read_written, read_else}
 use Rattle.frame_facts.specs.Facts.{Known, offsets, CanHold, IsKept, OverCall}
 use Rattle.frame_facts.specs.Laws.{HoldsOffset}
-use Rattle.frame_facts.proofs.Spaces.{kind_is, register_is, spaces_differ}
+use Rattle.pcode_laws.proofs.SpaceKinds.{same_is}
+use Rattle.frame_facts.proofs.Spaces.{register_is, spaces_differ}
 use Rattle.frame_facts.proofs.Words.{sum_again, apart_from, apart_by}
 
 -- ---- widths
@@ -120,12 +122,9 @@ kept_meets Q g o sel here (x ∷ keep) all h = by (in_range x o) refl (kept_meet
       cc
   by false e rest h = rest h
 
-some_is : {A : Type 0} {x y : A} → Some x ≡ Some y → x ≡ y
+-- There is one value.
+pub some_is : {A : Type 0} {x y : A} → Some x ≡ Some y → x ≡ y
 some_is e = cc
-
-both_false : (a b : Bool) → b ≡ false → (a && b) ≡ false
-both_false true b e = e
-both_false false b e = refl
 
 module _
     (l : Listing)
@@ -142,7 +141,7 @@ module _
     register_inside g r = let e = r.inside in grind (arith, nat_tests)
 
     register_kind : (g : Varnode) → IsRegister l.spaces g → kind_of l g.space ≡ Register
-    register_kind g r = kind_is Register (kind_of l g.space) r.kind
+    register_kind g r = same_is Register (kind_of l g.space) r.kind
 
     -- a unique range is apart from a register one
     unique_apart : (v g : Varnode) → v.space ≡ unique_space l → IsRegister l.spaces g → AreApart v g
@@ -248,7 +247,7 @@ module _
         let P : Option Varnode → Type 0 = λ o. IfSome o (λ r. IfSome l.stack (ShareNothing r)) in
         let Q : Option Varnode → Type 0 = λ o. IfSome o (ShareNothing g) in
         let none : ShareNothing g sp = subst Q is (subst P e fine.result_apart) in
-        apart_from g sp (both_false (g.space == sp.space) (meets g.offset g.size sp.offset sp.size) none)
+        apart_from g sp (ap (λ b. g.space == sp.space && b) none ∙ and-false (g.space == sp.space))
 
     -- A range that a call keeps has its word after it.
     pub after_stays : (a : Answer) (m : Bytes) (v : Varnode)

@@ -12,3 +12,4 @@ pub mod Numbers
 pub mod Owned
 pub mod Guided
 pub mod Cases
+pub mod Classes

@@ -55,9 +55,6 @@ going_on : (o : Option End) → IsOver o → o ≡ None → ⊥
 going_on None h e = h
 going_on (Some x) h e = cc
 
-some_is : {A : Type 0} {x y : A} → Some x ≡ Some y → x ≡ y
-some_is e = cc
-
 module _
     {M : Type 0}
     (m : Acts M)

@@ -55,7 +55,7 @@ use Rattle.layout_laws.proofs.Obeys.{laid_valid}
 use Rattle.plain_form.proofs.Accessed.{accessed_low}
 use Rattle.plain_form.proofs.Form.{plain_form}
 use Rattle.plain_form.proofs.Read.{first_long}
-use Rattle.plain_form.proofs.Standing.{stands_in}
+use Rattle.instructions.proofs.Standing.{stands_in}
 use Rattle.plain_form.proofs.Spaces.{space_some}
 use Rattle.pipeline.specs.Passed.{Lowers}
 use Rattle.pipeline.specs.Verdict.{Accepts, IsCause, MayPrint, Stops}

@@ -21,7 +21,8 @@ use Rattle.supported.specs.Supported.{IsSupported, is_supported_code}
 use Rattle.stackvars.proofs.Passed.{reads_passed}
 use Rattle.stackvars.proofs.Reach.{of_rest, read_back, read_rest}
 use Rattle.plain_form.proofs.Prototypes.{IsDeclared, callee_declared, own_declared, passed_storage}
-use Rattle.plain_form.proofs.Standing.{StandsIn, stands_in, supported_in}
+use Rattle.instructions.proofs.Standing.{StandsIn, stands_in}
+use Rattle.plain_form.proofs.Standing.{supported_in}
 use Rattle.plain_form.proofs.Formed.{IsInput, Inside}
 use Rattle.plain_form.proofs.Read.{input, input_inside, one_in, output_inside, storage_input, storage_inside}
 

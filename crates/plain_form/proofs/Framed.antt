@@ -22,6 +22,7 @@ use Rattle.pcode_model.specs.Flow.{IsIn}
 use Rattle.pcode_model.specs.Rules.{first_bad, has_operands, input_ranges, operands_of}
 use Rattle.pcode_model.specs.Step.{Operand, Reads, arguments, callee_at, operands, proto_of, size_out, varnode_at}
 use Rattle.pcode_model.specs.WellFormed.{IsArgument, IsWellFormed}
+use Rattle.instructions.proofs.Standing.{StandsIn, stands_in}
 use Rattle.pcode_laws.proofs.Rules.{breaks_none}
 use Rattle.stackvars.specs.Near.{HasNearAccesses, IsNearAccess}
 use Rattle.frame_facts.specs.Accesses.{IsVariableAccess, IsWithinLimits, Reach, frame_limit, only_memory, reach, reaches, stack_reaches, stack_width}
@@ -30,7 +31,6 @@ use Rattle.frame_facts.specs.Listed.{IsFrame}
 use Rattle.plain_form.proofs.Counted.{counted, of_three, third, with_output}
 use Rattle.plain_form.proofs.Prototypes.{callee_declared, own_declared}
 use Rattle.plain_form.proofs.Read.{input, output}
-use Rattle.plain_form.proofs.Standing.{StandsIn, stands_in}
 
 -- 1 to 16 bytes
 abbrev pub IsFew : ℕ → Type 0

@@ -42,8 +42,9 @@ use Rattle.op_code.specs.Lowerable.{IsPlain}
 use Rattle.pcode_model.proofs.Members.{behind, in_front}
 use Rattle.pcode_laws.proofs.Rules.{breaks_none}
 use Rattle.pcode_laws.proofs.Sizes.{binary_is, two_of, unary_is}
+use Rattle.instructions.proofs.Standing.{StandsIn, stands_in}
 use Rattle.plain_form.proofs.Counted.{counted, of_one, of_three, of_two, third, with_output, without_output}
-use Rattle.plain_form.proofs.Standing.{StandsIn, stands_in, supported_in}
+use Rattle.plain_form.proofs.Standing.{supported_in}
 use Rattle.plain_form.proofs.Spaces.{differ, first_constant, same_is}
 use Rattle.plain_form.proofs.Memory.{memory_is}
 use Rattle.plain_form.proofs.Formed.{IsInput, IsWritten}
