@@ -54,7 +54,7 @@ reach_numbered sp j (storage.Stack p q ∷ args) r (inr is) = let h = reach_numb
     omega (arith, h)
 
 -- an argument on the stack is reached by its number alone
-reach_of : (sp : Varnode) (j : ℕ) (args : List Storage) (n o k : ℕ) (r : Reach)
+pub reach_of : (sp : Varnode) (j : ℕ) (args : List Storage) (n o k : ℕ) (r : Reach)
     → IsIn (ReadsStack n o k) (arguments j args)
     → IsIn r (stack_reaches (Some sp) (arguments j args))
     → r.number ≡ n
@@ -79,7 +79,7 @@ reach_of sp j (storage.Stack p q ∷ args) n o k r (inr is) (inr has) e = reach_
 
 -- ---- one reach of a LOAD or STORE
 
-memory_reach : (l : Listing) (vs : List Varnode) (k : ℕ) (r : Reach)
+pub memory_reach : (l : Listing) (vs : List Varnode) (k : ℕ) (r : Reach)
     → IsIn r (only_memory l vs k)
     → (is_of_memory l vs ≡ true) × (r ≡ reach 0 (varnode_at vs 1) 0 k)
 memory_reach l vs k r is = by (is_of_memory l vs) is where
@@ -89,14 +89,14 @@ memory_reach l vs k r is = by (is_of_memory l vs) is where
   by true is = (refl, ⊎_elim (λ e. e) (λ bad. absurd bad) is)
   by false is = absurd is
 
-same_op : (l : Listing) (p : Place) (i j : Instruction) (op other : Op)
+pub same_op : (l : Listing) (p : Place) (i j : Instruction) (op other : Op)
     → standing l p ≡ Does i op
     → standing l p ≡ Does j other
     → other ≡ op
 same_op l p i j op other e f = let g : Does j other ≡ Does i op = sym f ∙ e in cc
 
 -- the first ram space has words of one byte
-one_byte : (l : Listing) → IsWellFormed l → word_size l (first_ram l) ≡ 1
+pub one_byte : (l : Listing) → IsWellFormed l → word_size l (first_ram l) ≡ 1
 one_byte l read = by (slice_get l.spaces (first_ram l)) refl where
   by : (o : Option Space) → slice_get l.spaces (first_ram l) ≡ o → word_in o ≡ 1
   by None e = refl

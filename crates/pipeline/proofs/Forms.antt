@@ -226,7 +226,7 @@ flow_stops l F.Memory h = tt
 pub atoms_stops : (l : Listing) (fault : AtomFault)
     → NoFault l []
     → HasFewBlocks l
-    → cuts.IsCause l fault
+    → cuts.IsCause l no_variables fault
     → Stops l (of_atoms fault)
 atoms_stops l (A.TooManyAtoms n) fine few h = (fine, (few, h))
 atoms_stops l A.Memory fine few h = tt

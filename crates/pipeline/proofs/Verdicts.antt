@@ -5,6 +5,7 @@ use Rattle.pcode_model.specs.declared.listing.Listing.{Listing}
 use Rattle.pcode_model.specs.declared.listing.Place.{Place}
 use Rattle.pcode_model.specs.declared.rules.OpFault.{OpFault}
 use Rattle.pcode_model.specs.Flow.{AreStarts}
+use Rattle.pcode_model.specs.Frame.{no_variables}
 use Rattle.pcode_model.specs.Rules.{first_bad}
 use Rattle.pcodetext.specs.declared.fault.TextFault.{TextFault}
 use Rattle.pcodetext.specs.Meaning.{Good, Bad}
@@ -24,7 +25,7 @@ starts_same : (l : Listing) (ps qs : List Place) → AreStarts l [] ps → AreSt
 starts_same l ps qs a b = same_places ps qs a.rising b.rising (λ p is. (b.each p).1 ((a.each p).0 is))
     (λ p is. (a.each p).1 ((b.each p).0 is))
 
-atoms_same : (l : Listing) (m n : ℕ) → HasSoMany l m → HasSoMany l n → m ≡ n
+atoms_same : (l : Listing) (m n : ℕ) → HasSoMany l no_variables m → HasSoMany l no_variables n → m ≡ n
 atoms_same l m n (xs, (a, x)) (ys, (b, y)) =
     sym x
     ∙ ap length (same_atoms xs ys a.in_order b.in_order

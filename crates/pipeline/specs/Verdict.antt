@@ -4,7 +4,7 @@ use Rattle.std.specs.Prelude.{◌≡◌, ℕ, ◌≤◌, [], Some, ⊤}
 use Rattle.pcode_model.specs.declared.frame.Frame.{Frame}
 use Rattle.pcode_model.specs.declared.listing.Listing.{Listing}
 use Rattle.pcode_model.specs.Flow.{NoFault}
-use Rattle.pcode_model.specs.Frame.{IsFrameOf, frame_of}
+use Rattle.pcode_model.specs.Frame.{IsFrameOf, frame_of, no_variables}
 use Rattle.pcode_model.specs.Limits.{max_atoms}
 use Rattle.pcode_model.specs.Rules.{first_bad}
 use Rattle.pcodetext.specs.Meaning.{Good, Bad, reading}
@@ -30,7 +30,7 @@ pub record Accepts (bytes : Bytes) (l : Listing) : Type 0 where
   pub built : IsSupported l
   pub flow : NoFault l []
   pub blocks : HasFewBlocks l
-  pub atoms : (n : ℕ) × (HasSoMany l n × (n ≤ max_atoms))
+  pub atoms : (n : ℕ) × (HasSoMany l no_variables n × (n ≤ max_atoms))
 
 abbrev pub IsAccepted : Bytes → Type 0
 IsAccepted bytes = (l : Listing) × Accepts bytes l
@@ -44,7 +44,7 @@ IsRefused bytes (refusal.Flow flow.Memory) = ⊥
 IsRefused bytes (refusal.Flow fault) = RefusedBy bytes (λ l. IsSupported l × IsFlowFault l [] fault)
 IsRefused bytes (refusal.Atoms atoms.Memory) = ⊥
 IsRefused bytes (refusal.Atoms fault) =
-    RefusedBy bytes (λ l. IsSupported l × (NoFault l [] × (HasFewBlocks l × cuts.IsCause l fault)))
+    RefusedBy bytes (λ l. IsSupported l × (NoFault l [] × (HasFewBlocks l × cuts.IsCause l no_variables fault)))
 IsRefused bytes refusal.Memory = ⊥
 
 -- a refusal of the input, unless memory ran out
@@ -57,7 +57,7 @@ abbrev pub Stops : Listing → Refusal → Type 0
 Stops l (refusal.Flow flow.Memory) = ⊥
 Stops l (refusal.Flow fault) = IsFlowFault l [] fault
 Stops l (refusal.Atoms atoms.Memory) = ⊥
-Stops l (refusal.Atoms fault) = NoFault l [] × (HasFewBlocks l × cuts.IsCause l fault)
+Stops l (refusal.Atoms fault) = NoFault l [] × (HasFewBlocks l × cuts.IsCause l no_variables fault)
 Stops l refusal.Memory = ⊤
 Stops l _ = ⊥
 

@@ -10,7 +10,7 @@ ghost use Rattle.pipeline.specs.Verdict.{Accepts, IsCause, Stops};
 ghost use Rattle.pipeline.specs.Passed.{HasPassed};
 
 use flow::follow;
-use pcode_model::{Atoms, Flow, Listing, Tables, check_ops};
+use pcode_model::{Atoms, Flow, Frame, Listing, Tables, check_ops};
 use pcodetext::read_listing;
 use refusals::Refusal;
 use stackvars::atoms;
@@ -61,7 +61,7 @@ fn blocks(alloc: Global, listing: &Listing) -> Result<Flow, Refusal>
     }
 }
 
-// The atoms: each is a variable.
+// The atoms of a listing without frame variables: each is a variable.
 fn variables(alloc: Global, listing: &Listing, flow: &Flow) -> Result<Atoms, Refusal>
     requires formed { IsWellFormed listing.now }
     requires ops { first_bad listing.now ≡ None }
@@ -72,7 +72,8 @@ fn variables(alloc: Global, listing: &Listing, flow: &Flow) -> Result<Atoms, Ref
     ensures few { IfOk result (λ atoms. length atoms ≤ max_atoms) }
     ensures stops { IfErr result (λ fault. Stops listing.now fault) }
 {
-    match atoms(alloc, listing, flow) {
+    let frame = Frame::empty(alloc);
+    match atoms(alloc, listing, flow, &frame) {
         Ok(atoms) => Ok(atoms),
         Err(fault) => Err(Refusal::from(fault)),
     }

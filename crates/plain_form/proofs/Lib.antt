@@ -6,6 +6,8 @@ pub mod Formed
 pub mod Prototypes
 pub mod Read
 pub mod Accessed
+pub mod Counted
+pub mod Framed
 pub mod Plain
 pub mod Table
 pub mod Splits

@@ -43,6 +43,7 @@ use Rattle.pcode_model.proofs.Members.{behind, in_front}
 use Rattle.pcode_laws.proofs.Rules.{breaks_none}
 use Rattle.pcode_laws.proofs.Sizes.{binary_is, two_of, unary_is}
 use Rattle.instructions.proofs.Standing.{StandsIn, stands_in}
+use Rattle.plain_form.proofs.Counted.{counted, of_one, of_three, of_two, third, with_output, without_output}
 use Rattle.plain_form.proofs.Standing.{supported_in}
 use Rattle.plain_form.proofs.Spaces.{differ, first_constant, same_is}
 use Rattle.plain_form.proofs.Memory.{memory_is}
@@ -100,52 +101,6 @@ result_by Constant ranges v e has = absurd (cc)
 result_by Ram ranges v e has = absurd (cc)
 result_by Register ranges v e has = has
 result_by Unique ranges v e has = absurd (cc)
-
--- ---- how many operands an op has
-
-third : (a b c : Bool) → (a && (b && c)) ≡ true → c ≡ true
-third a b c h = (and_parts _ _ (and_parts _ _ h).1).1
-
-counted : (n m : ℕ) (b : Bool) → (nat_le n m && (nat_le m n && b)) ≡ true → m ≡ n
-counted n m b h =
-    let p = and_parts _ _ h in
-    let q = and_parts _ _ p.1 in
-    let e : nat_le n m ≡ true = p.0 in
-    let f : nat_le m n ≡ true = q.0 in
-    grind (arith, nat_tests)
-
-with_output : (P : Option Varnode → Type 0) (out : Option Varnode)
-    → has_output output.Has out ≡ true
-    → ((z : Varnode) → P (Some z))
-    → P out
-with_output P None h f = absurd (cc)
-with_output P (Some z) h f = f z
-
-without_output : (P : Option Varnode → Type 0) (out : Option Varnode)
-    → has_output output.Lacks out ≡ true
-    → P None
-    → P out
-without_output P None h p = p
-without_output P (Some z) h p = absurd (cc)
-
-of_one : (P : List Varnode → Type 0) (vs : List Varnode) → length vs ≡ 1 → ((x : Varnode) → P (x ∷ [])) → P vs
-of_one P [] h f = absurd (omega arith)
-of_one P (x ∷ []) h f = f x
-of_one P (x ∷ y ∷ vs) h f = absurd (omega arith)
-
-of_two : (P : List Varnode → Type 0) (vs : List Varnode)
-    → length vs ≡ 2
-    → ((x y : Varnode) → P (x ∷ y ∷ []))
-    → P vs
-of_two P [] h f = absurd (omega arith)
-of_two P (x ∷ vs) h f = of_one (λ ys. P (x ∷ ys)) vs (omega arith) (f x)
-
-of_three : (P : List Varnode → Type 0) (vs : List Varnode)
-    → length vs ≡ 3
-    → ((x y z : Varnode) → P (x ∷ y ∷ z ∷ []))
-    → P vs
-of_three P [] h f = absurd (omega arith)
-of_three P (x ∷ vs) h f = of_two (λ ys. P (x ∷ ys)) vs (omega arith) (f x)
 
 -- ---- the form of an op
 
