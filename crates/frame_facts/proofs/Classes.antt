@@ -14,7 +14,7 @@ module _ (l : Listing) (t : List TableAt) (evaluated : List Place) where
   Joined a b = AreJoined l t evaluated a b
 
   -- what is joined to an access is one
-  joined_access : (a b : FrameAccess) → Joined a b → IsFrameAccess l t evaluated b
+  pub joined_access : (a b : FrameAccess) → Joined a b → IsFrameAccess l t evaluated b
   joined_access a b (Same c is) = is
   joined_access a b (Chained c d e first is share) = is
 

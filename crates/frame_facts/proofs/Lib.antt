@@ -13,3 +13,4 @@ pub mod Owned
 pub mod Guided
 pub mod Cases
 pub mod Classes
+pub mod Whole

@@ -1,3 +1,4 @@
+pub mod Framing
 pub mod Keeps
 pub mod Forms
 pub mod Formed

@@ -73,4 +73,4 @@ none_found (i ∷ code) h = both_false (names_table i.ops) (any_table code) (ops
     (none_found code (λ j is. h j (inr is)))
 
 pub found_none : (l : Listing) → IsRunnable l → FindsNone l
-found_none l h = record { stack = h.stack; tables = none_found l.code h.tables }
+found_none l h = none_found l.code h

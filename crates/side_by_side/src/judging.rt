@@ -1,8 +1,9 @@
 //! The runs of both machines, and what is told of them.
 
-ghost use Rattle.std.specs.Prelude.{◌≡◌, ◌++◌, IfOk, None, OnOk};
+ghost use Rattle.std.specs.Prelude.{◌≡◌, ◌++◌, [], IfOk, None, OnOk};
 ghost use Rattle.cmeaning.specs.Valid.{IsValid};
 ghost use Rattle.cmeaning.specs.Fits.{Fits};
+ghost use Rattle.frame_facts.specs.Listed.{IsFrame};
 ghost use Rattle.pcode_model.specs.Rules.{first_bad};
 ghost use Rattle.pcode_model.specs.WellFormed.{IsWellFormed};
 ghost use Rattle.entrytext.specs.Lies.{LiesIn};
@@ -17,7 +18,7 @@ use crate::reading::{Parsed, parse};
 use bits_core::Memory;
 use c_run::run_c;
 use comparison::{Comparison, compare, put_comparison};
-use pcode_model::{Frame, Listing};
+use pcode_model::Listing;
 use pcode_run::run_p;
 use run_world::Trace;
 use runwords::Inputs;
@@ -47,10 +48,16 @@ fn show(alloc: Global, parsed: &Parsed, steps: u32) -> Result<Vec<u8>, Memory>
     requires valid { IsValid parsed.now.function }
     requires fits { Fits parsed.now.listing parsed.now.function }
     requires lies { LiesIn parsed.now.listing parsed.now.entry }
+    requires frame { IsFrame parsed.now.listing [] [] parsed.now.frame }
     ensures { IfOk result (λ text. IsShown parsed.now.listing parsed.now.function parsed.now.entry steps text.items) }
 {
-    let frame = Frame::empty(alloc);
-    let p = run_p(alloc, &parsed.listing, &frame, &parsed.entry, steps)?;
+    let p = run_p(
+        alloc,
+        &parsed.listing,
+        &parsed.frame,
+        &parsed.entry,
+        steps,
+    )?;
     let c = run_c(
         alloc,
         &parsed.listing,
@@ -82,6 +89,7 @@ fn shown(alloc: Global, parsed: &Parsed, steps: u32) -> Outcome
     requires valid { IsValid parsed.now.function }
     requires fits { Fits parsed.now.listing parsed.now.function }
     requires lies { LiesIn parsed.now.listing parsed.now.entry }
+    requires frame { IsFrame parsed.now.listing [] [] parsed.now.frame }
     ensures { IsTold parsed.now.listing parsed.now.function parsed.now.entry steps (answer_of result) }
 {
     match show(alloc, parsed, steps) {

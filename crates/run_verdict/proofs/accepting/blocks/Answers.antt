@@ -6,7 +6,7 @@ use Rattle.refusals.specs.declared.refusal.Refusal.{Refusal}
 use Rattle.refusals.proofs.Blocks.{few_starts}
 use Rattle.run_verdict.specs.Runs.{StopsFlow}
 use Rattle.run_verdict.proofs.Flow.{flow_stops}
-use Rattle.run_verdict.proofs.accepting.check_flow.Goals as goal
+use Rattle.run_verdict.proofs.accepting.blocks.Goals as goal
 
 pub returns-in-Ok-clause-no_fault : goal.returns-in-Ok-clause-no_fault
 returns-in-Ok-clause-no_fault c =
