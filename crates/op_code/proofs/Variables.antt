@@ -46,8 +46,8 @@ pub variable_get : (atoms : List Atom) (locals : List Variable) (n : ℕ) (a : A
 variable_get atoms locals n a e = get_in_front (map variable_for atoms) locals n (variable_for a)
     (slice_get-map variable_for atoms n ∙ ap (option_map variable_for) e)
 
--- a range has the size of its atom
-range_size : (l : Listing) (s : ParamStorage) (k : ℕ) → (range_at l s k).size ≡ k
+-- A range has the size of its atom.
+pub range_size : (l : Listing) (s : ParamStorage) (k : ℕ) → (range_at l s k).size ≡ k
 range_size l (P.Register o) k = refl
 range_size l (P.Unique o) k = refl
 range_size l (P.Stack o) k = refl
