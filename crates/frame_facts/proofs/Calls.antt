@@ -31,7 +31,8 @@ use Rattle.frame_facts.proofs.Words.{sum_again, apart_from, apart_by}
 
 -- ---- widths
 
-size_by : (o : Option Space) → size_in o ≡ 256 ^ offset_bytes_in o
+-- The size of a space, by the bytes of its offsets.
+pub size_by : (o : Option Space) → size_in o ≡ 256 ^ offset_bytes_in o
 size_by None = refl
 size_by (Some s) = refl
 

@@ -54,12 +54,14 @@ use Rattle.layout_laws.proofs.Fits.{laid_fits}
 use Rattle.layout_laws.proofs.Obeys.{laid_valid}
 use Rattle.plain_form.proofs.Accessed.{accessed_low}
 use Rattle.plain_form.proofs.Form.{plain_form}
+use Rattle.plain_form.proofs.Framed.{framed}
 use Rattle.plain_form.proofs.Read.{first_long}
 use Rattle.instructions.proofs.Standing.{stands_in}
 use Rattle.pipeline.specs.Passed.{Lowers}
 use Rattle.pipeline.specs.Verdict.{Accepts, IsAtomFault, IsCause, MayPrint, Stops}
 use Rattle.pipeline.proofs.Formed.{gives_is}
 use Rattle.pipeline.proofs.Framing.{frame_law}
+use Rattle.pipeline.proofs.Near.{long_access}
 use Rattle.pipeline.proofs.Keeps as keeps
 
 -- ---- the function
@@ -100,7 +102,8 @@ module _
 
     long : HasLong l [] atoms
     long = record {
-      storages = atoms_long l [] f atoms are (accessed_low l read good built);
+      storages = atoms_long l [] f atoms are (accessed_low l read good built)
+          (λ a is. long_access l a (framed l read good [] [] f frame a is));
       places = λ p reached. stands_long (standing l p) p refl;
     }
 
@@ -119,7 +122,7 @@ module _
 
       fits : Fits l (plain_function l (frame_of l f) blocks atoms)
       fits = laid_fits l head made covered
-          (plain_params_fit l [] (frame_of l f) blocks atoms form)
+          (plain_params_fit l [] (frame_of l f) blocks atoms form long)
           (plain_body_fits l [] (frame_of l f) blocks atoms form long small)
 
       -- All that is said of the function of the plain lowering.

@@ -121,7 +121,7 @@ module _ (l : Listing) (read : IsWellFormed l) (good : first_bad l ≡ None) (su
       → IsIn v (ranges_read (operands l op.code op.inputs))
       → IsInput l v
   operand_input i op stand v h =
-      elim (operand_is l read op.code op.inputs (supported_in l.code sup.ops i op stand) v h) [
+      elim (operand_is l read op.code op.inputs (supported_in l.code sup i op stand) v h) [
         | inl is ↦ input l read good i op stand v is
         | inr is ↦ storage_input l read good v is
       ]
@@ -133,7 +133,7 @@ module _ (l : Listing) (read : IsWellFormed l) (good : first_bad l ≡ None) (su
       → IsIn v (op_ranges l None op)
       → Inside l v
   op_inside i op stand v home h =
-      let code = supported_in l.code sup.ops i op stand in
+      let code = supported_in l.code sup i op stand in
       elim (in_either (ranges_read (operands l op.code op.inputs))
       (one_range op.out ++ further_ranges l None op.code op.inputs) v h) [
         | inl p ↦ input_inside l read good v home (operand_input i op stand v p)

@@ -137,7 +137,8 @@ module _
 
 -- ---- the accesses of a frame
 
-limit_near : (w : ℕ) → frame_limit w ≤ 2 ^ 20
+-- The frame begins at most 2^20 bytes from the entry word.
+pub limit_near : (w : ℕ) → frame_limit w ≤ 2 ^ 20
 limit_near w = by (w == 2) where
   by : (b : Bool) → cond b (2 ^ 12) (2 ^ 20) ≤ 2 ^ 20
   by true = omega arith

@@ -9,14 +9,14 @@ use Rattle.std.proofs.lemmas.Int.{ints}
 use Rattle.bits_core.specs.Value.{limit}
 use Rattle.pcode_model.specs.declared.listing.Listing.{Listing}
 use Rattle.pcode_model.specs.declared.listing.SpaceKind.TheVariants.{Ram, Register, Unique}
-use Rattle.pcode_model.specs.declared.listing.Space.{Space}
 use Rattle.pcode_model.specs.declared.listing.Varnode.{Varnode}
 use Rattle.pcode_model.specs.Atoms.{IsLocal}
 use Rattle.pcode_model.specs.Frame.{wrapped}
-use Rattle.pcode_model.specs.Spaces.{first_ram, kind_of, offset_bytes_in, size_in}
+use Rattle.pcode_model.specs.Spaces.{first_ram, kind_of}
 use Rattle.pcode_model.specs.WellFormed.{IsStackPointer, IsWellFormed}
 use Rattle.range_words.specs.Own.{centred, half, stack_size}
 use Rattle.frame_facts.specs.Accesses.{frame_limit, stack_width, width_in}
+use Rattle.frame_facts.proofs.Calls.{size_by}
 use Rattle.plain_form.proofs.Memory.{memory_is}
 use Rattle.plain_form.proofs.Spaces.{differ, kind_of_first}
 
@@ -41,10 +41,6 @@ room_in w some = ⊎_elim
     (cases_eq w 2)
 
 -- ---- the first ram space
-
-size_by : (o : Option Space) → size_in o ≡ 256 ^ offset_bytes_in o
-size_by None = refl
-size_by (Some s) = refl
 
 -- The first ram space is one.
 pub first_ram_is : (l : Listing) → IsWellFormed l → kind_of l (first_ram l) ≡ Ram

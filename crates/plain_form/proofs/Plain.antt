@@ -298,7 +298,7 @@ module _
 
       code : is_supported_code op.code ≡ true
       unfolding stand
-      code = supported_in l.code sup.ops i op stand
+      code = supported_in l.code sup i op stand
 
       operand : (v : Varnode) → IsIn v (ranges_read (operands l op.code op.inputs)) → IsOperand l ranges v
       unfolding stand

@@ -21,7 +21,7 @@ use Rattle.range_words.specs.Ranges.{AreApart, IsInside, IsTable}
 use Rattle.op_code.specs.Lowerable.{AreNarrow}
 use Rattle.op_code.specs.Lowered.{range_at, range_of, ranges_of}
 use Rattle.op_code.proofs.Rows.{AreSome}
-use Rattle.op_code.proofs.Variables.{IsAtomAt, atom_at}
+use Rattle.op_code.proofs.Variables.{IsAtomAt, atom_at, range_size}
 use Rattle.stackvars.proofs.Reach.{spaces_differ}
 use Rattle.frame_facts.proofs.Numbers.{more_by}
 use Rattle.plain_form.proofs.Formed.{Inside}
@@ -134,11 +134,6 @@ stack_placed l read a known z k d some at fits =
     let home : IsHalfway (stack_size l) z = record { low = omega (arith, ints); high = omega (arith, ints) } in
     let here = centred_is (stack_size l) z two home in
     record { home = home; narrow = omega (arith, few, fits); inside = omega (arith, ints) }
-
-size_is : (l : Listing) (s : ParamStorage) (k : ℕ) → (range_at l s k).size ≡ k
-size_is l (P.Register o) k = refl
-size_is l (P.Unique o) k = refl
-size_is l (P.Stack o) k = refl
 
 module _
     (l : Listing)
@@ -283,4 +278,4 @@ module _
           let a = of_range n v h in
           let V : Varnode → Type 0 = λ x. 0 < x.size in
           let some : 0 < (a.atom).size = (at n a.atom a.get).some in
-          subst V a.range (subst (λ k. 0 < k) (sym (size_is l (a.atom).storage (a.atom).size)) some)
+          subst V a.range (subst (λ k. 0 < k) (sym (range_size l (a.atom).storage (a.atom).size)) some)
