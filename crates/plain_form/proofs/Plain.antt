@@ -400,9 +400,10 @@ module _
           all_passed [] all j among g = tt
           all_passed (At v ∷ args) all j among g =
               (g v (inl refl), all_passed args all.1 (suc j) (λ x is. among x (inr is)) (λ w is. g w (inr is)))
-          all_passed (Stack offset size ∷ args) all j among g =
-              (((all.0.0, all.0.1), by l.stack refl all.0.3),
-              all_passed args all.1 (suc j) (λ x is. among x (inr is)) g)
+          all_passed (Stack offset size ∷ args) all j among g = (
+            ((all.0.0, all.0.1), by l.stack refl all.0.3),
+            all_passed args all.1 (suc j) (λ x is. among x (inr is)) g,
+          )
             where
               by : (o : Option Varnode) → l.stack ≡ o → IsSome o → IsOnStack (f.own p j) l ranges size
               by None e some = absurd (cc)
@@ -449,8 +450,8 @@ module _
       callable q declared args further reached_by =
           let apart = all_apart q.gives l.stack q.keep declared.is.kept_apart in
           let pointer : (v : Varnode)
-              → IsIn v (one_range l.stack)
-              → IsIn v (further_ranges l None op.code op.inputs) =
+          → IsIn v (one_range l.stack)
+          → IsIn v (further_ranges l None op.code op.inputs) =
           λ v is. further v (behind (one_range q.gives) (one_range l.stack) v is) in
           record {
             args = all_passed q pointer reached_by q.args declared.is.args 0 (λ x is. is) (λ v is. operand v (args v is));
