@@ -11,6 +11,8 @@ pub mod Entering
 pub mod Joined
 pub mod Numbers
 pub mod Operands
+pub mod Pointer
+pub mod Framed
 pub mod Ops
 pub mod Sees
 pub mod Taken
@@ -30,3 +32,4 @@ pub mod Worked
 pub mod WorkedBlocks
 pub mod WorkedSeveral
 pub mod WorkedCalls
+pub mod WorkedFrame

@@ -15,3 +15,4 @@ pub mod Worked
 pub mod WorkedBlocks
 pub mod WorkedSeveral
 pub mod WorkedCalls
+pub mod WorkedFrame
