@@ -12,6 +12,8 @@ pub mod Frames
 pub mod Joined
 pub mod Numbers
 pub mod Operands
+pub mod Pointer
+pub mod Framed
 pub mod Ops
 pub mod Sees
 pub mod Taken
@@ -31,3 +33,4 @@ pub mod Worked
 pub mod WorkedBlocks
 pub mod WorkedSeveral
 pub mod WorkedCalls
+pub mod WorkedFrame
