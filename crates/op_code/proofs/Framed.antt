@@ -1,5 +1,5 @@
 -- What stands for a LOAD and a STORE of frame variables: their range is read, and written. Neither is observed.
-use Rattle.std.proofs.Common.{◌≡◌, ℕ, ◌+◌, ◌<◌, ◌≤◌, Bool, List, [], ◌∷◌, ◌++◌, length, Option, Some, None, refl, sym, ap, ◌∙◌, subst, inl, arith}
+use Rattle.std.proofs.Common.{◌≡◌, ℕ, ◌+◌, ◌≤◌, Bool, List, [], ◌∷◌, ◌++◌, length, Option, Some, None, refl, sym, ap, ◌∙◌, subst, inl, arith}
 use Rattle.std.specs.Prelude.{Ok}
 use Rattle.pcode_model.specs.declared.listing.Varnode.{Varnode}
 use Rattle.pcode_model.specs.declared.listing.Instruction.{Instruction}
@@ -11,8 +11,8 @@ use Rattle.pcode_model.specs.Memory.{Acts, Bytes, Frame}
 use Rattle.pcode_model.specs.Places.{Does, next_place}
 use Rattle.pcode_model.specs.Spaces.{first_ram, kind_of}
 use Rattle.pcode_model.specs.World.{World}
-use Rattle.pcode_model.specs.Step.{Reads, State, all_read, as_word, byte_address, bytes_in, fetched, in_world, local_word, moved, put_at, read_all, read_varnode, step_at, with_first, with_word, write_varnode}
-use Rattle.pcode_laws.specs.AsBytes.{AsBytes, seen_over}
+use Rattle.pcode_model.specs.Step.{Reads, State, all_read, as_word, byte_address, bytes_in, fetched, in_world, local_word, moved, put_at, read_all, read_varnode, step_at, with_first, write_varnode}
+use Rattle.pcode_laws.specs.AsBytes.{AsBytes}
 use Rattle.range_words.specs.Own.{HasOwn, frame_range, with_own}
 use Rattle.range_words.proofs.Own.{frame_word_is, frame_written}
 use Rattle.range_words.proofs.Variables.{local_word_below}

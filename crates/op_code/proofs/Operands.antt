@@ -28,7 +28,7 @@ use Rattle.blockcode.proofs.Straight.{run_all}
 use Rattle.op_values.proofs.Means.{Means, constant_means, nearest_is}
 use Rattle.op_code.specs.Cover.{HasCover}
 use Rattle.op_code.specs.Made.{Own, ReadOne, above_stack, address_of, local_of, name_of, range_word, read_by, read_operand, read_stack, reads, with_more}
-use Rattle.op_code.specs.Form.{AllOperands, IsDirect, IsMemory, IsNarrow, IsOnStack, IsOperandBy, IsRead}
+use Rattle.op_code.specs.Form.{AllOperands, IsMemory, IsNarrow, IsOnStack, IsOperandBy, IsRead}
 use Rattle.op_code.proofs.Access.{Points, direct_points, load_runs, read_is}
 use Rattle.op_code.proofs.Pointer.{stack_points}
 use Rattle.op_code.proofs.Reading.{read_means}

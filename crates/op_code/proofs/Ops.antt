@@ -34,7 +34,7 @@ use Rattle.cmeaning.specs.declared.tree.Stmt.TheVariants as S
 use Rattle.cmeaning.specs.Do.{Local, assigned, divide_of, do_simple, ends}
 use Rattle.cmeaning.specs.Do as code
 use Rattle.cmeaning.specs.Value.{value_of, width_of}
-use Rattle.cmeaning.proofs.Do.{do_assign, do_divide}
+use Rattle.cmeaning.proofs.Do.{do_divide}
 use Rattle.blockcode.proofs.Straight.{run_all}
 use Rattle.op_values.specs.Nodes.{binary_node, divides_by, division_node, nearest, statement_of, unary_node}
 use Rattle.op_values.proofs.Means.{Means, nearest_is}

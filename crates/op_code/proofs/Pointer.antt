@@ -1,5 +1,5 @@
 -- The word so many bytes above that of a range, and where memory lies above the stack pointer.
-use Rattle.std.proofs.Common.{◌≡◌, ◌≢◌, ℕ, zero, suc, ◌+◌, ◌*◌, ◌%◌, ◌<◌, ◌≤◌, List, Option, Some, refl, sym, ap, ◌∙◌, subst, arith}
+use Rattle.std.proofs.Common.{◌≡◌, ◌≢◌, ℕ, zero, suc, ◌+◌, ◌*◌, ◌%◌, ◌<◌, ◌≤◌, List, Option, Some, sym, ap, ◌∙◌, subst, arith}
 use Rattle.std.proofs.Math.Nat.{add-mod-mod, mod-eq_of_lt, mod-lt}
 use Rattle.bits_core.specs.declared.ops.Binary.TheVariants as B
 use Rattle.bits_core.specs.Value.{add, binary_value, limit}
@@ -7,7 +7,7 @@ use Rattle.bits_core.proofs.Limits.{limit_pos}
 use Rattle.pcode_model.specs.declared.listing.Varnode.{Varnode}
 use Rattle.pcode_model.specs.declared.listing.Listing.{Listing}
 use Rattle.pcode_model.specs.Memory.{Bytes}
-use Rattle.pcode_model.specs.Spaces.{first_ram, size_of, word_size}
+use Rattle.pcode_model.specs.Spaces.{first_ram}
 use Rattle.pcode_model.specs.Step.{byte_address, local_word, stack_address}
 use Rattle.range_words.specs.Own.{stack_size, with_own}
 use Rattle.range_words.specs.Ranges.{AreBytes, Holds}
@@ -16,7 +16,7 @@ use Rattle.range_words.proofs.Variables.{local_word_below}
 use Rattle.cmeaning.specs.declared.tree.ArithmeticOp.TheVariants.{Add}
 use Rattle.cmeaning.specs.declared.tree.Expr.TheVariants as E
 use Rattle.cmeaning.proofs.Value.{value_of_arithmetic, value_of_const, width_of_arithmetic, width_of_const}
-use Rattle.op_values.specs.Nodes.{constant, nearest, word_by}
+use Rattle.op_values.specs.Nodes.{constant, word_by}
 use Rattle.op_values.proofs.Means.{Means, nearest_is, two}
 use Rattle.op_code.specs.Cover.{HasCover}
 use Rattle.op_code.specs.Form.{HasPointer, IsNarrow}
