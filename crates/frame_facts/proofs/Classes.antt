@@ -1,13 +1,13 @@
 -- Accesses of the frame fall into classes, and two frame variables that share a byte are one.
-use Rattle.std.proofs.Common.{◌≡◌, ◌<◌, List, arith, sym, subst, ◌∙◌}
-use Rattle.std.specs.Prelude.{ℤ, pos, ◌+ℤ◌, ◌-ℤ◌, ◌≤ℤ◌, ◌<ℤ◌}
+use Rattle.std.proofs.Common.{◌≡◌, ◌<◌, List, arith}
+use Rattle.std.specs.Prelude.{ℤ, pos, ◌+ℤ◌, ◌-ℤ◌}
 use Rattle.std.proofs.lemmas.Int.{ints}
 use Rattle.pcode_model.specs.declared.listing.Place.{Place}
 use Rattle.pcode_model.specs.declared.listing.Listing.{Listing}
 use Rattle.pcode_model.specs.declared.tables.TableAt.{TableAt}
 use Rattle.pcode_model.specs.declared.frame.FrameAccess.{FrameAccess}
 use Rattle.pcode_model.specs.declared.frame.FrameVariable.{FrameVariable}
-use Rattle.frame_facts.specs.Accesses.{AreJoined, Chained, IsByte, IsByteOf, IsClass, IsFrameAccess, IsFrameVariable, Same, ShareByte}
+use Rattle.frame_facts.specs.Accesses.{AreJoined, Chained, IsByte, IsClass, IsFrameAccess, IsFrameVariable, Same, ShareByte}
 
 module _ (l : Listing) (t : List TableAt) (evaluated : List Place) where
   abbrev Joined : FrameAccess → FrameAccess → Type 0

@@ -14,8 +14,8 @@ use Rattle.pcode_model.specs.World.{Entry, IsEntry}
 use Rattle.range_words.proofs.Variables.{local_word_below}
 use Rattle.frame_facts.specs.Facts.{offsets}
 use Rattle.frame_facts.specs.Listed.{IsFrame}
-use Rattle.frame_facts.proofs.Calls.{offsets_are}
-use Rattle.frame_facts.proofs.Guided.{law_of_frame}
+use Rattle.frame_facts.proofs.Prototypes.{offsets_are}
+use Rattle.frame_runs.proofs.Guided.{law_of_frame}
 use Rattle.plain_form.proofs.Spaces.{space_some}
 
 -- the stack pointer's entry word is an offset, and without one it is 0

@@ -25,7 +25,7 @@ use Rattle.pcode_model.specs.WellFormed.{IsArgument, IsWellFormed}
 use Rattle.instructions.proofs.Standing.{StandsIn, stands_in}
 use Rattle.pcode_laws.proofs.Rules.{breaks_none}
 use Rattle.stackvars.specs.Near.{HasNearAccesses, IsNearAccess}
-use Rattle.frame_facts.specs.Accesses.{IsVariableAccess, IsWithinLimits, Reach, frame_limit, only_memory, reach, reaches, stack_reaches, stack_width}
+use Rattle.frame_facts.specs.Accesses.{IsFrameAccess, IsWithinLimits, Reach, frame_limit, only_memory, reach, reaches, stack_reaches, stack_width}
 use Rattle.frame_facts.specs.Escapes.{is_of_memory}
 use Rattle.frame_facts.specs.Listed.{IsFrame}
 use Rattle.plain_form.proofs.Counted.{counted, of_three, third, with_output}
@@ -150,25 +150,27 @@ module _
     (good : first_bad l ≡ None)
     (t : List TableAt)
     (evaluated : List Place)
-    (f : Frame)
-    (frame : IsFrame l t evaluated f)
   where
-    framed_by : (a : FrameAccess) → IsVariableAccess l t evaluated a → IsKnown l a
-    framed_by a own =
-        let is = own.1.is_class.access in
-        let stand = stands_in l a.place is.instruction is.op is.does in
-        let few : IsFew is.by.size = reaches_few l read good is.instruction is.op stand is.by is.is_by in
-        let can = (is.fact.1.1).can a.place is.by.base is.base is.fact.1.0 in
-        record {
-          few = subst IsFew (sym is.size) few;
-          within = is.within;
-          pointer = can.stack;
-          is_pointer = can.is;
-        }
+  known_access : (a : FrameAccess) → IsFrameAccess l t evaluated a → IsKnown l a
+  known_access a is =
+      let stand = stands_in l a.place is.instruction is.op is.does in
+      let few : IsFew is.by.size = reaches_few l read good is.instruction is.op stand is.by is.is_by in
+      let can = (is.fact.1.1).can a.place is.by.base is.base is.fact.1.0 in
+      record {
+        few = subst IsFew (sym is.size) few;
+        within = is.within;
+        pointer = can.stack;
+        is_pointer = can.is;
+      }
 
+  -- An access of the frame has 1 to 16 bytes.
+  pub few_access : (a : FrameAccess) → IsFrameAccess l t evaluated a → IsFew a.size
+  few_access a is = (known_access a is).few
+
+  module _ (f : Frame) (frame : IsFrame l t evaluated f) where
     -- What is said of each access.
     pub framed : (a : FrameAccess) → IsIn a f.accesses → IsKnown l a
-    framed a is = framed_by a ((frame.accesses.each a).0 is)
+    framed a is = known_access a ((frame.accesses.each a).0 is).1.is_class.access
 
     near_by : (a : FrameAccess) → IsKnown l a → IsNearAccess a
     near_by a is =

@@ -15,7 +15,7 @@ use Rattle.pcode_model.specs.Spaces.{first_ram, kind_of}
 use Rattle.pcode_model.specs.WellFormed.{IsStackPointer, IsWellFormed}
 use Rattle.range_words.specs.Own.{centred, half, stack_size}
 use Rattle.frame_facts.specs.Accesses.{frame_limit, stack_width, width_in}
-use Rattle.frame_facts.proofs.Calls.{size_by}
+use Rattle.frame_facts.proofs.Prototypes.{size_by}
 use Rattle.plain_form.proofs.Memory.{memory_is}
 use Rattle.plain_form.proofs.Spaces.{differ, kind_of_first}
 

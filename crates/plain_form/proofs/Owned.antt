@@ -22,9 +22,9 @@ use Rattle.pcode_model.specs.WellFormed.{IsWellFormed}
 use Rattle.range_words.specs.Own.{centred, frame_range, half, stack_size}
 use Rattle.frame_facts.specs.Accesses.{Reach, reaches}
 use Rattle.frame_facts.specs.Listed.{IsFrame}
-use Rattle.frame_facts.proofs.Guided.{same_op}
+use Rattle.frame_facts.proofs.Reaches.{same_op}
 use Rattle.frame_facts.proofs.Numbers.{wrapped_below}
-use Rattle.frame_facts.proofs.Owned.{own_listed}
+use Rattle.frame_facts.proofs.Owns.{own_listed}
 use Rattle.op_code.specs.Cover.{HasCover}
 use Rattle.op_code.specs.Form.{IsFramed}
 use Rattle.op_code.specs.Lowered.{ranges_of}

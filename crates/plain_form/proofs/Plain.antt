@@ -51,8 +51,8 @@ use Rattle.plain_form.proofs.Formed.{IsInput, IsWritten}
 use Rattle.plain_form.proofs.Prototypes.{IsDeclared, callee_declared, own_declared}
 use Rattle.plain_form.proofs.Read.{output as written, register_home, register_kind, result_home, result_inside, storage_home, unique_home}
 use Rattle.frame_facts.specs.Accesses.{Reach, only_memory, reaches, stack_reaches}
-use Rattle.frame_facts.proofs.Calls.{offsets_are}
-use Rattle.frame_facts.proofs.Guided.{memory_reach, one_byte, reach_of}
+use Rattle.frame_facts.proofs.Prototypes.{offsets_are}
+use Rattle.frame_facts.proofs.Reaches.{memory_reach, one_byte, reach_of}
 use Rattle.plain_form.proofs.Accessed.{operand_input, pointer_storage}
 use Rattle.plain_form.proofs.Framed.{past_read}
 use Rattle.plain_form.proofs.Halves.{first_ram_is}

@@ -1,26 +1,23 @@
-//! The listing of an input that is run, and its frame.
+//! The listing of an input that is run, and its blocks.
 
-ghost use Rattle.std.specs.Prelude.{◌≡◌, ◌-◌, ◌^◌, ◌≤◌, length, IfErr, IfOk, None, OnOk, []};
-ghost use Rattle.frame_facts.specs.Listed.{IsFrame};
+ghost use Rattle.std.specs.Prelude.{◌≡◌, ◌-◌, ◌^◌, ◌≤◌, length, IfErr, IfOk, OnOk, []};
 ghost use Rattle.pcode_model.specs.Flow.{IsFlow, NoFault};
-ghost use Rattle.pcode_model.specs.Rules.{first_bad};
 ghost use Rattle.pcode_model.specs.WellFormed.{IsWellFormed};
 ghost use Rattle.refusals.specs.Good.{HasFewBlocks};
 ghost use Rattle.run_verdict.specs.Runs.{IsCause, Runs, StopsFlow};
 
 use crate::tables::is_runnable;
 use flow::follow;
-use frames::frame;
-use pcode_model::{Flow, Frame, Listing, Tables, check_ops};
+use pcode_model::{Flow, Listing, Tables, check_ops};
 use pcodetext::read_listing;
 use refusals::Refusal;
 use std::alloc::Global;
 
-/// A listing that is run, and its frame.
+/// A listing that is run, and its blocks.
 #[derive(Drop)]
 pub struct Accepted {
     pub listing: Listing,
-    pub frame: Frame,
+    pub flow: Flow,
 }
 
 // The blocks of a listing whose flow has no fault and few of them, or why not.
@@ -38,29 +35,13 @@ fn blocks(alloc: Global, listing: &Listing) -> Result<Flow, Refusal>
     }
 }
 
-// The frame of a listing whose flow has no fault and few blocks, or why not.
-fn checked_frame(alloc: Global, listing: &Listing) -> Result<Frame, Refusal>
-    requires formed { IsWellFormed listing.now }
-    requires ops { first_bad listing.now ≡ None }
-    ensures frame { IfOk result (IsFrame listing.now [] []) }
-    ensures no_fault { OnOk result (NoFault listing.now []) }
-    ensures few { OnOk result (HasFewBlocks listing.now) }
-    ensures stops { IfErr result (StopsFlow listing.now) }
-{
-    let flow = blocks(alloc, listing)?;
-    match frame(alloc, listing, &flow) {
-        Ok(frame) => Ok(frame),
-        Err(_) => Err(Refusal::Memory),
-    }
-}
-
-/// The listing of an input with its frame, or the first fault of the input: a fault of the text, an op that breaks a rule,
+/// The listing of an input with its blocks, or the first fault of the input: a fault of the text, an op that breaks a rule,
 /// a BRANCHIND, a fault of the flow, or too many blocks.
 pub fn accept(alloc: Global, bytes: &[u8]) -> Result<Accepted, Refusal>
     requires { length bytes.now ≤ 2 ^ 32 - 2 }
     ensures runs { IfOk result (λ accepted. Runs bytes.now accepted.listing) }
     ensures formed { IfOk result (λ accepted. IsWellFormed accepted.listing) }
-    ensures frame { IfOk result (λ accepted. IsFrame accepted.listing [] [] accepted.frame) }
+    ensures flow { IfOk result (λ accepted. IsFlow accepted.listing [] accepted.flow) }
     ensures refused { IfErr result (IsCause bytes.now) }
 {
     let listing = read_listing(alloc, bytes)?;
@@ -68,6 +49,6 @@ pub fn accept(alloc: Global, bytes: &[u8]) -> Result<Accepted, Refusal>
     if !is_runnable(&listing) {
         return Err(Refusal::NotBuilt);
     }
-    let frame = checked_frame(alloc, &listing)?;
-    Ok(Accepted { listing, frame })
+    let flow = blocks(alloc, &listing)?;
+    Ok(Accepted { listing, flow })
 }

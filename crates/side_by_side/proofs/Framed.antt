@@ -26,7 +26,7 @@ use Rattle.pcode_run.specs.Run.{LiesInRam, accesses, by_pointer, lies_in_ram}
 use Rattle.frame_facts.specs.Accesses.{IsFrameAccess, IsFrameVariable, Reach, Same, frame_limit, only_memory, reach, reaches, stack_width, width_in}
 use Rattle.frame_facts.specs.Escapes.{is_of_memory}
 use Rattle.frame_facts.specs.Listed.{InOrderBy, IsAccessBefore, IsFrame, IsVariableBefore}
-use Rattle.frame_facts.proofs.Calls.{offsets_are}
+use Rattle.frame_facts.proofs.Prototypes.{offsets_are}
 use Rattle.frame_facts.proofs.Classes.{joined_access, variables_same}
 use Rattle.frame_facts.proofs.Numbers.{more_by}
 

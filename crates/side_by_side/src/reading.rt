@@ -2,7 +2,7 @@
 
 ghost use Rattle.std.specs.Prelude.{◌≡◌, ◌≤◌, [], length, IfErr, IfOk};
 ghost use Rattle.exact_c.specs.Tree.{IsTreeOf};
-ghost use Rattle.frame_facts.specs.Listed.{IsFrame};
+ghost use Rattle.pcode_model.specs.Flow.{IsFlow};
 ghost use Rattle.pcode_model.specs.WellFormed.{IsWellFormed};
 ghost use Rattle.run_verdict.specs.Runs.{Runs};
 ghost use Rattle.entrytext.specs.Lies.{LiesIn};
@@ -17,18 +17,18 @@ use c_run::fits;
 use cmeaning::CFunction;
 use cread::{CFault, read_c};
 use entrytext::{EntryFault, read_entry};
-use pcode_model::{Frame, Listing};
+use pcode_model::{Flow, Listing};
 use refusals::Refusal;
 use run_verdict::{Accepted, accept};
 use run_world::Entry;
 use runwords::Inputs;
 use std::alloc::Global;
 
-/// What the inputs say, and the listing's frame.
+/// What the inputs say, and the listing's blocks.
 #[derive(Drop)]
 pub struct Parsed {
     pub listing: Listing,
-    pub frame: Frame,
+    pub flow: Flow,
     pub function: CFunction,
     pub entry: Entry,
 }
@@ -37,7 +37,7 @@ fn listing(alloc: Global, bytes: &[u8]) -> Result<Accepted, InputFault>
     requires { length bytes.now ≤ max_input }
     ensures runs { IfOk result (λ accepted. Runs bytes.now accepted.listing) }
     ensures formed { IfOk result (λ accepted. IsWellFormed accepted.listing) }
-    ensures frame { IfOk result (λ accepted. IsFrame accepted.listing [] [] accepted.frame) }
+    ensures flow { IfOk result (λ accepted. IsFlow accepted.listing [] accepted.flow) }
     ensures refused { IfErr result (IsListingFault bytes.now) }
 {
     match accept(alloc, bytes) {
@@ -78,10 +78,10 @@ pub fn parse(alloc: Global, inputs: &Inputs) -> Result<Parsed, InputFault>
     ensures parsed { IfOk result (λ p. IsParsed inputs.now p.listing p.function p.entry) }
     ensures formed { IfOk result (λ p. IsWellFormed p.listing) }
     ensures lies { IfOk result (λ p. LiesIn p.listing p.entry) }
-    ensures frame { IfOk result (λ p. IsFrame p.listing [] [] p.frame) }
+    ensures flow { IfOk result (λ p. IsFlow p.listing [] p.flow) }
     ensures refused { IfErr result (IsCause inputs.now) }
 {
-    let Accepted { listing, frame } = listing(alloc, inputs.listing.as_slice())?;
+    let Accepted { listing, flow } = listing(alloc, inputs.listing.as_slice())?;
     let function = function(alloc, inputs.c_text.as_slice())?;
     if !fits(&listing, &function) {
         return Err(InputFault::Misfit);
@@ -89,7 +89,7 @@ pub fn parse(alloc: Global, inputs: &Inputs) -> Result<Parsed, InputFault>
     let entry = entry(alloc, &listing, inputs.entry.as_slice())?;
     Ok(Parsed {
         listing,
-        frame,
+        flow,
         function,
         entry,
     })

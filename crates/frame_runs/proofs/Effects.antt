@@ -17,7 +17,7 @@ use Rattle.pcode_model.specs.Step.{State, Effect, Ends, Goes, Writes, Fetches, P
 use Rattle.range_words.specs.Ranges.{IsInside}
 use Rattle.range_words.proofs.Variables.{read_else}
 use Rattle.frame_facts.specs.Facts.{shares, writes}
-use Rattle.frame_facts.proofs.Words.{apart_from}
+use Rattle.frame_runs.proofs.Words.{apart_from}
 
 -- the effect writes to this output, if at all, and calls nothing
 abbrev pub WritesTo : Option Varnode → Effect → Type 0

@@ -24,12 +24,13 @@ use Rattle.pcode_model.specs.Step.{State, Writes, Calls, moved, in_world, local_
 use Rattle.range_words.specs.Ranges.{IsInside}
 use Rattle.range_words.proofs.Variables.{read_written}
 use Rattle.frame_facts.specs.Facts.{Known, offsets, CanHold, IsSum, IsDifference, Makes, Over, OverOp, OverOther, OverCall}
-use Rattle.frame_facts.specs.Laws.{HoldsOffset}
+use Rattle.frame_runs.specs.Laws.{HoldsOffset}
 use Rattle.frame_facts.proofs.Spaces.{register_is, unique_is}
 use Rattle.frame_facts.proofs.Ops.{output_inside}
-use Rattle.frame_facts.proofs.Calls.{offsets_are, proto_fine, call_holds}
-use Rattle.frame_facts.proofs.Made.{reads_local, reads_constant, first_read, two_read, sum_is, sum_is_right, difference_is}
-use Rattle.frame_facts.proofs.Effects.{IsCall, writes_to, effect_keeps}
+use Rattle.frame_facts.proofs.Prototypes.{offsets_are, proto_fine}
+use Rattle.frame_runs.proofs.Calls.{call_holds}
+use Rattle.frame_runs.proofs.Made.{reads_local, reads_constant, first_read, two_read, sum_is, sum_is_right, difference_is}
+use Rattle.frame_runs.proofs.Effects.{IsCall, writes_to, effect_keeps}
 
 -- ---- a run that goes on took an answer
 

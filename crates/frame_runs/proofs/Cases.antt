@@ -3,7 +3,7 @@ use Rattle.std.proofs.Common.{refl, inl, inr, arith}
 use Rattle.std.specs.Prelude.{pos, negsuc}
 use Rattle.std.proofs.lemmas.Int.{ints}
 use Rattle.bits_core.specs.Value.{limit, half}
-use Rattle.frame_facts.specs.Worked.{WorkedBytes, WorkedEscapes, WorkedFacts, WorkedOps}
+use Rattle.frame_runs.specs.Worked.{WorkedBytes, WorkedEscapes, WorkedFacts, WorkedOps}
 
 worked_ops : WorkedOps
 unfolding limit half

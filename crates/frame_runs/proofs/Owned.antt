@@ -1,7 +1,6 @@
 -- The accesses of a listing's frame variables lie where its frame says.
-use Rattle.std.proofs.Common.{◌≡◌, ℕ, zero, suc, ◌+◌, ◌%◌, ◌<◌, ◌≤◌, Bool, true, false, List, [], ◌∷◌, Some, refl, sym, ap, ◌∙◌, subst, inl, inr, arith}
-use Rattle.std.specs.Prelude.{◌==◌, ◌&&◌, cond, nat_lt, ℤ, pos, ◌+ℤ◌}
-use Rattle.std.proofs.lemmas.Bool.{and_parts, eqb-true}
+use Rattle.std.proofs.Common.{◌≡◌, ℕ, zero, suc, ◌+◌, ◌%◌, ◌<◌, ◌≤◌, Bool, true, false, List, [], ◌∷◌, refl, sym, ap, ◌∙◌, subst, inl, inr, arith}
+use Rattle.std.specs.Prelude.{nat_lt, ℤ, pos, ◌+ℤ◌}
 use Rattle.std.proofs.lemmas.Bool.Decides.{nat_tests}
 use Rattle.std.proofs.lemmas.Int.{ints}
 use Rattle.bits_core.specs.Value.{limit}
@@ -14,54 +13,17 @@ use Rattle.pcode_model.specs.Spaces.{or, first_ram}
 use Rattle.pcode_model.specs.Memory.{Bytes, offset_from}
 use Rattle.pcode_model.specs.World.{Entry}
 use Rattle.pcode_model.specs.Step.{layout, local_word, stack0}
-use Rattle.pcode_model.specs.Frame.{frame_of, framed_in, is_byte_of, own_in, wrapped}
+use Rattle.pcode_model.specs.Frame.{frame_of, framed_in, is_byte_of, wrapped}
 use Rattle.pcode_model.specs.Flow.{IsIn}
-use Rattle.pcode_model.proofs.Members.{same_place}
 use Rattle.frame_law.specs.Aligned.{AllFramed, IsOwn}
 use Rattle.frame_facts.specs.Facts.{offsets}
 use Rattle.frame_facts.specs.Accesses.{IsByte, IsFrameAccess, IsVariableAccess, Same, signed_offset, stack_width, width_in}
 use Rattle.frame_facts.specs.Listed.{IsFrame}
-use Rattle.frame_facts.specs.Laws.{IsRun}
-use Rattle.frame_facts.proofs.Words.{sum_again}
-use Rattle.frame_facts.proofs.Calls.{offsets_are}
-use Rattle.frame_facts.proofs.Runs.{Stands}
+use Rattle.frame_runs.specs.Laws.{IsRun}
+use Rattle.frame_runs.proofs.Words.{sum_again}
+use Rattle.frame_facts.proofs.Prototypes.{offsets_are}
+use Rattle.frame_runs.proofs.Runs.{Stands}
 use Rattle.frame_facts.proofs.Numbers.{lies_above, more_by, next_sum, offset_back, wrapped_below, wrapped_signed, wrapped_sum}
-
--- ---- the access that a frame lists
-
--- the access of this number at this place
-pub record Listed (xs : List FrameAccess) (size : ℕ) (p : Place) (n c : ℕ) : Type 0 where
-  pub access : FrameAccess
-  pub has : IsIn access xs
-  pub at : access.place ≡ p
-  pub number : access.argument ≡ n
-  pub offset : c ≡ wrapped size access.offset
-
-pub own_listed : (size : ℕ) (xs : List FrameAccess) (p : Place) (n c : ℕ)
-    → own_in size xs p n ≡ Some c
-    → Listed xs size p n c
-own_listed size [] p n c h = absurd (cc)
-own_listed size (a ∷ xs) p n c h =
-    by (a.place.address == p.address && (a.place.index == p.index && a.argument == n)) refl h (own_listed size xs p n c)
-  where
-    by : (b : Bool)
-        → (a.place.address == p.address && (a.place.index == p.index && a.argument == n)) ≡ b
-        → cond b (Some (wrapped size a.offset)) (own_in size xs p n) ≡ Some c
-        → (own_in size xs p n ≡ Some c → Listed xs size p n c)
-        → Listed (a ∷ xs) size p n c
-    by true e h rest =
-        let one = and_parts _ _ e in
-        let two = and_parts _ _ one.1 in
-        record {
-          access = a;
-          has = inl refl;
-          at = same_place a.place p (eqb-true _ _ one.0) (eqb-true _ _ two.0);
-          number = eqb-true _ _ two.1;
-          offset = let x : wrapped size a.offset ≡ c = cc in sym x;
-        }
-    by false e h rest =
-        let r = rest h in
-        record { access = r.access; has = inr r.has; at = r.at; number = r.number; offset = r.offset }
 
 -- ---- bytes of variables
 

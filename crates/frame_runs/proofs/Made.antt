@@ -12,7 +12,7 @@ use Rattle.pcode_model.specs.Atoms.{IsLocal}
 use Rattle.pcode_model.specs.Step.{State, local_word, read_varnode, read_all, with_first, all_read}
 use Rattle.frame_facts.specs.Facts.{IsConstant}
 use Rattle.frame_facts.proofs.Spaces.{register_is, unique_is}
-use Rattle.frame_facts.proofs.Words.{sum_again}
+use Rattle.frame_runs.proofs.Words.{sum_again}
 
 module _ {M : Type 0} (m : Acts M) (l : Listing) (s : State M) where
   -- a register or unique range reads as its word

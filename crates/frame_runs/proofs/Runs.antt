@@ -16,9 +16,9 @@ use Rattle.pcode_model.specs.World.{Entry, unless_over}
 use Rattle.pcode_model.specs.Step.{State, first_place, local_word, stack0, stack_word, step, step_at}
 use Rattle.pcode_model.specs.Flow.{IsIn, Fails, First, LeadsTo, Next, NoFault, Reached, standing_ways, turn_at, turn_in, turn_of, turn_ways}
 use Rattle.frame_facts.specs.Facts.{offsets}
-use Rattle.frame_facts.specs.Laws.{FactsHold}
-use Rattle.frame_facts.proofs.Steps.{at_holds}
-use Rattle.frame_facts.proofs.Edges.{step_leads}
+use Rattle.frame_runs.specs.Laws.{FactsHold}
+use Rattle.frame_runs.proofs.Steps.{at_holds}
+use Rattle.frame_runs.proofs.Edges.{step_leads}
 
 -- what holds of a place and of register and unique bytes at each step: the place is reached, and its facts hold
 pub record Stands (l : Listing) (t : List TableAt) (entry : ℕ) (p : Place) (b : Bytes) : Type 0 where

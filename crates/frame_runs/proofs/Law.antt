@@ -5,8 +5,8 @@ use Rattle.pcode_model.specs.declared.listing.Listing.{Listing}
 use Rattle.pcode_model.specs.Memory.{Acts, Frame, whole, apart}
 use Rattle.pcode_model.specs.World.{Entry}
 use Rattle.pcode_model.specs.Step.{stack0, layout, first_whole, first_apart, start, step}
-use Rattle.frame_facts.specs.Laws.{FactsHold, FactsLaw, IsRun}
-use Rattle.frame_facts.proofs.Runs.{never_switches, run_stands, start_stands}
+use Rattle.frame_runs.specs.Laws.{FactsHold, FactsLaw, IsRun}
+use Rattle.frame_runs.proofs.Runs.{never_switches, run_stands, start_stands}
 
 module _ (l : Listing) (e : Entry) (f : Frame) (n : ℕ) (is : IsRun l e) where
   -- over any memory
