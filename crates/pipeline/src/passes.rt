@@ -8,7 +8,7 @@ use bits_core::Memory;
 use cmeaning::CFunction;
 use ctext::print_c;
 use layout::{callees, laid_out, plain_head};
-use pcode_model::{Frame, Name, Text};
+use pcode_model::{Name, Text};
 use plaincode::{plain, result_width};
 use refusals::Refusal;
 use std::alloc::Global;
@@ -29,11 +29,16 @@ pub fn decompile(alloc: Global, bytes: &[u8]) -> Result<Text, Refusal>
 /// The C function of a listing that is accepted: the plain lowering, and its layout.
 pub fn lower(alloc: Global, accepted: &Accepted) -> Result<CFunction, Memory>
     requires { HasPassed accepted.now }
-    ensures { IfOk result (Lowers accepted.now.listing) }
+    ensures { IfOk result (Lowers accepted.now.listing accepted.now.frame) }
 {
     let listing = &accepted.listing;
-    let frame = Frame::empty(alloc);
-    let code = plain(alloc, listing, &frame, &accepted.flow, &accepted.atoms)?;
+    let code = plain(
+        alloc,
+        listing,
+        &accepted.frame,
+        &accepted.flow,
+        &accepted.atoms,
+    )?;
     let name = Name::from_slice(alloc, listing.func.name.as_slice())?;
     let callees = callees(alloc, listing, &code)?;
     let head = plain_head(
