@@ -1,12 +1,13 @@
--- What stands for a call does what the call does: it is recorded, takes an answer, and leaves what the answer has.
+-- What stands for a call does what the call does: it is recorded, takes an answer, leaves what the answer has, and pops
+-- the stack pointer.
 -- The range of each variable of a register lies in a range that the call spares, or meets none (Spared.antt). The
 -- result's variables have their old words until its parts are assigned, so before that the variables hold the words of
 -- bytes that spare the result too (Kept.antt). What takes what is left assigns no variable of the result, so that the
 -- call's own assignment may be thought of behind it (Extras.antt), where it and the parts are one write of the result
 -- (Writing.antt).
-use Rattle.std.proofs.Common.{◌≡◌, ℕ, zero, suc, ◌+◌, ◌%◌, ◌<◌, ◌≤◌, Bool, true, List, [], ◌∷◌, ◌++◌, length, Option, Some, None, refl, sym, ap, ◌∙◌, subst, arith}
+use Rattle.std.proofs.Common.{◌≡◌, ℕ, ◌+◌, ◌%◌, ◌<◌, ◌≤◌, Bool, true, List, [], ◌∷◌, ◌++◌, length, Option, Some, None, refl, sym, ap, ◌∙◌, subst, arith}
 use Rattle.std.specs.Prelude.{IfSome}
-use Rattle.std.proofs.Math.Nat.{mod-eq_of_lt, mod-lt}
+use Rattle.std.proofs.Math.Nat.{mod-lt}
 use Rattle.std.proofs.lemmas.Option.{slice_get_past}
 use Rattle.machine.specs.Trace.{Event}
 use Rattle.bits_core.specs.Value.{limit}
@@ -23,25 +24,24 @@ use Rattle.pcode_model.specs.Step as listing
 use Rattle.pcode_laws.specs.AsBytes.{AsBytes, seen_over, taken_over}
 use Rattle.range_words.specs.Own.{HasOwn, with_own}
 use Rattle.range_words.specs.Ranges.{AreBytes, Holds}
-use Rattle.range_words.proofs.Variables.{bytes_written, local_word_below, written_same}
+use Rattle.range_words.proofs.Variables.{bytes_written}
 use Rattle.cmeaning.specs.declared.tree.Expr.{Expr}
 use Rattle.cmeaning.specs.declared.tree.Stmt.{Stmt}
-use Rattle.cmeaning.specs.declared.tree.Stmt.TheVariants as S
 use Rattle.cmeaning.specs.Do.{Local, assigned, do_simple, values_of, with_words}
 use Rattle.cmeaning.specs.Do as code
 use Rattle.blockcode.proofs.Straight.{run_all, run_over}
 use Rattle.op_code.specs.Cover.{cover}
 use Rattle.op_code.specs.Words.{target, write_range}
 use Rattle.op_code.specs.Left.{extras, spared}
-use Rattle.op_code.specs.Made.{Asking, above, answered, gives_back, local_for, pops, pops_by}
+use Rattle.op_code.specs.Made.{Asking, answered, gives_back, local_for, pops}
 use Rattle.op_code.specs.Form.{IsCallable, IsGiven}
 use Rattle.op_code.proofs.Extras.{extras_hold, extras_swap}
-use Rattle.op_code.proofs.Kept.{left_alone, pop_own, replaced, replaced_bytes, result_over, result_own}
+use Rattle.op_code.proofs.Kept.{left_alone, replaced, replaced_bytes, result_over, result_own}
 use Rattle.op_code.proofs.Operands.{AllHave, run_append, run_one}
-use Rattle.op_code.proofs.Pointer.{above_means}
+use Rattle.op_code.proofs.Popped.{pops_meet}
 use Rattle.op_code.proofs.Reading.{cover_inside}
 use Rattle.op_code.proofs.Sees.{AreWide, Meets, Sees, Setting, seen_bytes, wide_back, wide_front}
-use Rattle.op_code.proofs.Sets.{assign_makes, range_meets, target_wide}
+use Rattle.op_code.proofs.Sets.{target_wide}
 use Rattle.op_code.proofs.Spared.{spared_alone, spared_off, target_other}
 use Rattle.op_code.proofs.Taken.{IsStopped, IsTaken, IsTakenSo, left_by, stops_meets, takes_same, takes_so}
 use Rattle.op_code.proofs.Writing.{write_wrote}
@@ -100,178 +100,124 @@ module _
         ∙ ap (λ t. code.answered ws v t (code.in_world (recorded e x.world) x))
         (takes_same m l look own is has ranges s x sees e)
 
-    pub taken_so : (e : Event) (x : Local) → Sees l ranges look own s x → IsTakenSo m l look own is has (own s.world.memory) (taken_after e)
+    pub taken_so : (e : Event) (x : Local)
+        → Sees l ranges look own s x
+        → IsTakenSo m l look own is has (own s.world.memory) (taken_after e)
     taken_so e x sees = takes_so m l look own is has (recorded e s.world) go sees.memory sees.answers
 
     -- ---- a call that returns
 
     module _ (p : Proto) (call : IsCallable l (f.own s.at) ranges p) where
-      -- the word of a range of registers that a call leaves
-      abbrev IsRegister : Varnode → Type 0
-      IsRegister z = z.space ≡ register_space l
-
-      given_registers : (given : Option Varnode) → IfSome given (IsGiven l ranges) → IfSome given IsRegister
+      given_registers : (given : Option Varnode)
+          → IfSome given (IsGiven l ranges)
+          → IfSome given (λ z. z.space ≡ register_space l)
       given_registers None h = tt
       given_registers (Some z) h = h.0
 
-      module _ (a : Answer) (w : World M) where
-        -- the bytes with the answer's, and then with the stack pointer popped
-        abbrev before : Bytes
-        before = listing.with_result l p.gives a.word (after_callee l p a s.local)
+      -- the state with the answer's bytes, before the pop
+      abbrev mid : Answer → World M → State M
+      mid a w = record {
+        at = next;
+        local = listing.with_result l p.gives a.word (after_callee l p a s.local);
+        world = w;
+      }
 
-        abbrev mid : State M
-        mid = record { at = next; local = before; world = w }
+      module _
+          (a : Answer)
+          (w : World M)
+          (x : Local)
+          (sees : Sees l ranges look own s x)
+          (taken : IsTaken m l look own is has (own s.world.memory) a w)
+        where
+          -- the code before and behind what it takes of the registers
+          abbrev first : Local
+          first = left_by m l look own is has a (seen_over look w) x
 
-        abbrev there : State M
-        there = record { at = next; local = after_call l p a s.local; world = w }
+          abbrev alone : Bytes
+          alone = replaced l (left_alone l p) a.registers (seen_bytes l own s)
 
-        -- ---- the pop
+          alone_bytes : AreBytes alone
+          alone_bytes =
+              replaced_bytes l (left_alone l p) a.registers (seen_bytes l own s) taken.answer.registers sees.bytes
 
-        module _ (returns : List Stmt → Bool) (k : ℕ) (behind : length ranges ≤ k) (y : Local)
-            (on : y.world.over ≡ None) (seen : Sees l ranges look own mid y) where
-          -- the state with the pop of a stack pointer, where there is one
-          abbrev popped : Option Varnode → ℕ → State M
-          popped st pop = record { at = next; local = with_pop l st pop before; world = w }
+          mid_bytes : seen_bytes l own (mid a w) ≡ listing.with_result l p.gives a.word alone
+          mid_bytes =
+              ap (λ g. with_own l g (mid a w).local) taken.frame
+              ∙ result_own l (own s.world.memory) set.registers p a s.local (given_registers p.gives call.gives)
 
-          abbrev Pops : Option Varnode → ℕ → Type 0
-          Pops st pop = AreWide ws k (pops_by st pop l ranges k).locals
-              → Meets l ranges look own next (popped st pop)
-              (run_all l ws returns (pops_by st pop l ranges k).statements y)
-
-          -- 0 leaves the bytes
-          none_popped : (sp : Varnode) → IsGiven l ranges sp → seen_bytes l own (popped (Some sp) 0) ≡ seen_bytes l own mid
-          none_popped sp given =
-              let bytes : Bytes = seen_bytes l own mid in
-              let n = local_word l sp bytes in
-              let none : n + 0 ≡ n = omega arith in
-              pop_own l (own w.memory) set.registers sp 0 before given.0
-              ∙ ap (λ j. with_word l sp (j % limit sp.size) bytes) none
-              ∙ ap (λ j. with_word l sp j bytes) (mod-eq_of_lt (local_word_below l sp bytes seen.bytes))
-              ∙ written_same l sp bytes seen.bytes
-
-          pops_so : (st : Option Varnode) (pop : ℕ) → IfSome st (IsGiven l ranges) → Pops st pop
-          pops_so None pop given wide = record { sees = seen; at = λ g. refl }
-          pops_so (Some sp) zero given wide =
-              let same = none_popped sp given in
-              let H : Bytes → Type 0 = λ b. Holds l ranges b y.env in
-              let B : Bytes → Type 0 = λ b. AreBytes b in
+          sees_after : (b : Bytes) (y : Local)
+              → listing.with_result l p.gives a.word alone ≡ b
+              → AreBytes b
+              → y.world ≡ seen_over look w
+              → Holds l ranges b y.env
+              → Sees l ranges look own (mid a w) y
+          sees_after b y after are world holds =
+              let B : Bytes → Type 0 = λ c. AreBytes c in
+              let H : Bytes → Type 0 = λ c. Holds l ranges c y.env in
               record {
-                sees = record {
-                  world = seen.world;
-                  holds = subst H (sym same) seen.holds;
-                  bytes = subst B (sym same) seen.bytes;
-                  memory = seen.memory;
-                  answers = seen.answers;
-                };
-                at = λ g. refl;
+                world = sym world;
+                holds = subst H (sym (mid_bytes ∙ after)) holds;
+                bytes = subst B (sym (mid_bytes ∙ after)) are;
+                memory = taken.memory;
+                answers = taken.answers;
               }
-          pops_so (Some sp) (suc n) given wide =
-              let bytes : Bytes = seen_bytes l own mid in
-              let e = above l ranges sp (suc n) in
-              let word = (local_word l sp bytes + suc n) % limit sp.size in
-              range_meets m l look own ranges ws is has set next mid y y on on seen returns (λ u. S.Assign u e) k sp word
-              (popped (Some sp) (suc n)) given.1.0 given.1.1
-              (mod-lt (local_word l sp bytes + suc n) (limit_pos sp.size)) behind wide
-              (assign_makes l ws y e sp.size word
-              (above_means l ranges ws set bytes y.env seen.holds seen.bytes sp given.1.0 given.1.1 (suc n)))
-              (pop_own l (own w.memory) set.registers sp (suc n) before given.0) refl refl
 
-          pops_meet : AreWide ws k (pops l ranges k p).locals
-              → Meets l ranges look own next there (run_all l ws returns (pops l ranges k p).statements y)
-          pops_meet wide = pops_so l.stack p.pop call.stack wide
+          -- without a result
+          none_sees : (returns : List Stmt → Bool)
+              → p.gives ≡ None
+              → Sees l ranges look own (mid a w) (run_all l ws returns (extras l p ranges) first)
+          none_sees returns none =
+              let y : Local = run_all l ws returns (extras l p ranges) first in
+              let r = extras_hold l p ws returns ranges (seen_bytes l own s) first (f.own s.at) set call taken.over
+              sees.holds in
+              let H : List Varnode → Type 0 =
+              λ vs. Holds l ranges (replaced l vs a.registers (seen_bytes l own s)) y.env in
+              sees_after alone y (ap (λ gives. listing.with_result l gives a.word alone) none) alone_bytes r.world
+              (subst H (spared_alone l ranges set.table p (f.own s.at) call none) r.holds)
 
-        -- ---- what is left, and the result
-
-        module _ (x : Local) (sees : Sees l ranges look own s x) (taken : IsTaken m l look own is has (own s.world.memory) a w)
-          where
-            -- the code before and behind what it takes of the registers
-            abbrev first : Local
-            first = left_by m l look own is has a (seen_over look w) x
-
-            abbrev alone : Bytes
-            alone = replaced l (left_alone l p) a.registers (seen_bytes l own s)
-
-            alone_bytes : AreBytes alone
-            alone_bytes =
-                replaced_bytes l (left_alone l p) a.registers (seen_bytes l own s) taken.answer.registers sees.bytes
-
-            mid_bytes : seen_bytes l own mid ≡ listing.with_result l p.gives a.word alone
-            mid_bytes =
-                ap (λ g. with_own l g before) taken.frame
-                ∙ result_own l (own s.world.memory) set.registers p a s.local (given_registers p.gives call.gives)
-
-            sees_after : (b : Bytes) (y : Local)
-                → listing.with_result l p.gives a.word alone ≡ b
-                → AreBytes b
-                → y.world ≡ seen_over look w
-                → Holds l ranges b y.env
-                → Sees l ranges look own mid y
-            sees_after b y after are world holds =
-                let B : Bytes → Type 0 = λ c. AreBytes c in
-                let H : Bytes → Type 0 = λ c. Holds l ranges c y.env in
-                record {
-                  world = sym world;
-                  holds = subst H (sym (mid_bytes ∙ after)) holds;
-                  bytes = subst B (sym (mid_bytes ∙ after)) are;
-                  memory = taken.memory;
-                  answers = taken.answers;
-                }
-
-            -- without a result
-            none_sees : (returns : List Stmt → Bool)
-                → p.gives ≡ None
-                → Sees l ranges look own mid (run_all l ws returns (extras l p ranges) first)
-            none_sees returns none =
-                let y : Local = run_all l ws returns (extras l p ranges) first in
-                let r = extras_hold l p ws returns ranges (seen_bytes l own s) first (f.own s.at) set call taken.over
-                sees.holds in
-                let H : List Varnode → Type 0 = λ vs. Holds l ranges (replaced l vs a.registers (seen_bytes l own s)) y.env in
-                sees_after alone y (ap (λ gives. listing.with_result l gives a.word alone) none) alone_bytes r.world
-                (subst H (spared_alone l ranges set.table p (f.own s.at) call none) r.holds)
-
-            -- with one
-            some_sees : (returns : List Stmt → Bool) (k : ℕ) (z : Varnode)
-                → p.gives ≡ Some z
-                → IsGiven l ranges z
-                → length ranges ≤ k
-                → AreWide ws k (local_for (cover ranges z) z)
-                → (let t = target ranges k z in
-                Sees l ranges look own mid
-                (run_all l ws returns (extras l p ranges ++ write_range (is_big l z.space) ranges z k)
-                (assigned t (a.word % limit (ws t)) first)))
-            some_sees returns k z gives given behind wide =
-                let t = target ranges k z in
-                let n = a.word % limit z.size in
-                let parts = write_range (is_big l z.space) ranges z k in
-                let ahead = λ (ss : List Stmt). returns (ss ++ parts) in
-                let free = slice_get_past ranges k behind in
-                let narrow = given.1.0 in
-                let covers = given.1.1 in
-                let width = target_wide l ranges ws k z (cover ranges z) set narrow covers wide in
-                let below : n < limit z.size = mod-lt a.word (limit_pos z.size) in
-                let y : Local = run_all l ws ahead (extras l p ranges) first in
-                let r = extras_hold l p ws ahead ranges (seen_bytes l own s) first (f.own s.at) set call taken.over
-                sees.holds in
-                let on : y.world.over ≡ None = ap (λ (v : World Bytes). v.over) r.world ∙ taken.over in
-                let bytes : Bytes = replaced l (spared l p) a.registers (seen_bytes l own s) in
-                let wrote = write_wrote l ranges set.table ws returns z narrow.0 narrow.1 n below k bytes y covers free
-                width r.holds on in
-                let end : Local = run_all l ws returns parts (assigned t n y) in
-                let ran : run_all l ws returns (extras l p ranges ++ parts) (assigned t (a.word % limit (ws t)) first)
-                ≡ end =
-                ap (λ j. run_all l ws returns (extras l p ranges ++ parts) (assigned t (a.word % limit j) first)) width
-                ∙ run_append l ws returns (extras l p ranges) parts (assigned t n first)
-                ∙ ap (run_all l ws returns parts)
-                (extras_swap l p ws ahead ranges t n first taken.over
-                (target_other l ranges set.table p (f.own s.at) call k z gives narrow.0 covers free)) in
-                let over = result_over l (left_alone l p) (spared l p) a.registers z n (seen_bytes l own s) given.0
-                (cover_inside l ranges z set.table narrow.0 covers)
-                (spared_off l ranges set.table p (f.own s.at) call z gives) in
-                let H : Bytes → Type 0 = λ b. Holds l ranges b end.env in
-                let P : Local → Type 0 = λ u. Sees l ranges look own mid u in
-                subst P (sym ran)
-                (sees_after (with_word l z n alone) end (ap (λ g. listing.with_result l g a.word alone) gives)
-                (bytes_written l z n alone alone_bytes) (wrote.world ∙ r.world) (subst H over wrote.holds))
+          -- with one
+          some_sees : (returns : List Stmt → Bool) (k : ℕ) (z : Varnode)
+              → p.gives ≡ Some z
+              → IsGiven l ranges z
+              → length ranges ≤ k
+              → AreWide ws k (local_for (cover ranges z) z)
+              → (let t = target ranges k z in
+              Sees l ranges look own (mid a w)
+              (run_all l ws returns (extras l p ranges ++ write_range (is_big l z.space) ranges z k)
+              (assigned t (a.word % limit (ws t)) first)))
+          some_sees returns k z gives given behind wide =
+              let t = target ranges k z in
+              let n = a.word % limit z.size in
+              let parts = write_range (is_big l z.space) ranges z k in
+              let ahead = λ (ss : List Stmt). returns (ss ++ parts) in
+              let free = slice_get_past ranges k behind in
+              let narrow = given.1.0 in
+              let covers = given.1.1 in
+              let width = target_wide l ranges ws k z (cover ranges z) set narrow covers wide in
+              let below : n < limit z.size = mod-lt a.word (limit_pos z.size) in
+              let y : Local = run_all l ws ahead (extras l p ranges) first in
+              let r = extras_hold l p ws ahead ranges (seen_bytes l own s) first (f.own s.at) set call taken.over
+              sees.holds in
+              let on : y.world.over ≡ None = ap (λ (v : World Bytes). v.over) r.world ∙ taken.over in
+              let bytes : Bytes = replaced l (spared l p) a.registers (seen_bytes l own s) in
+              let wrote = write_wrote l ranges set.table ws returns z narrow.0 narrow.1 n below k bytes y covers free
+              width r.holds on in
+              let end : Local = run_all l ws returns parts (assigned t n y) in
+              let ran : run_all l ws returns (extras l p ranges ++ parts) (assigned t (a.word % limit (ws t)) first)
+              ≡ end =
+              ap (λ j. run_all l ws returns (extras l p ranges ++ parts) (assigned t (a.word % limit j) first)) width
+              ∙ run_append l ws returns (extras l p ranges) parts (assigned t n first)
+              ∙ ap (run_all l ws returns parts)
+              (extras_swap l p ws ahead ranges t n first taken.over
+              (target_other l ranges set.table p (f.own s.at) call k z gives narrow.0 covers free)) in
+              let over = result_over l (left_alone l p) (spared l p) a.registers z n (seen_bytes l own s) given.0
+              (cover_inside l ranges z set.table narrow.0 covers)
+              (spared_off l ranges set.table p (f.own s.at) call z gives) in
+              let H : Bytes → Type 0 = λ b. Holds l ranges b end.env in
+              let P : Local → Type 0 = λ u. Sees l ranges look own (mid a w) u in
+              subst P (sym ran)
+              (sees_after (with_word l z n alone) end (ap (λ g. listing.with_result l g a.word alone) gives)
+              (bytes_written l z n alone alone_bytes) (wrote.world ∙ r.world) (subst H over wrote.holds))
 
       module _
           (make : Asking)
@@ -353,8 +299,8 @@ module _
               let going : y.world.over ≡ None = ap (λ (v : World Bytes). v.over) (sym seen.world) ∙ so.over in
               let P : Local → Type 0 = λ u. Meets l ranges look own next (called (Took a w)) u in
               subst P (sym (run_append l ws returns back.statements pop.statements x))
-              (pops_meet a w returns j (omega (arith, behind)) y going seen
-              (wide_back ws k back.locals pop.locals wide))
+              (pops_meet m l look own ranges ws is has set next (mid a w).local w returns j (omega (arith, behind)) y
+              going seen p call.stack (wide_back ws k back.locals pop.locals wide))
 
           -- A call that returns.
           pub call_meets : Records l ws make e x

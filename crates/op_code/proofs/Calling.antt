@@ -45,7 +45,8 @@ module _ {M : Type 0} (m : Acts M) (l : Listing) (f : Frame) (ws : ℕ → ℕ) 
       → Records l ws (λ v. S.Call v to es) (Call to ns) x
   call_records to xs es ns have v q all =
       do_call l ws q v to es x
-      ∙ words_run m l f ws s x xs es ns (λ ks. code.called l ws v (q to) (code.in_world (recorded (Call to ks) x.world) x))
+      ∙ words_run m l f ws s x xs es ns
+      (λ ks. code.called l ws v (q to) (code.in_world (recorded (Call to ks) x.world) x))
       have
       ∙ ap (λ b. code.called l ws v b (code.in_world (recorded (Call to ns) x.world) x)) (all to)
 
@@ -66,7 +67,8 @@ module _ {M : Type 0} (m : Acts M) (l : Listing) (f : Frame) (ws : ℕ → ℕ) 
       ≡ code.asks l ws v (code.in_world (recorded (Other index ns) x.world) x)
   other_any index xs es ns v q have =
       do_other l ws q v index es x
-      ∙ words_run m l f ws s x xs es ns (λ ks. code.asks l ws v (code.in_world (recorded (Other index ks) x.world) x)) have
+      ∙ words_run m l f ws s x xs es ns
+      (λ ks. code.asks l ws v (code.in_world (recorded (Other index ks) x.world) x)) have
 
   -- A callee that doesn't return ends the run behind the event.
   call_ends : (to : ℕ) (xs : List Operand) (es : List Expr) (ns : List ℕ) (q : ℕ → Bool)
@@ -126,7 +128,8 @@ module _
         → AllHave m l f ws s y.env xs (reads l (f.own s.at) ranges n xs).words ns
         → read_all m l f s xs ≡ Ok ns
         → Records l ws make (event ns) y × (t ≡ called m l p true (noted (event ns))))
-        → Meets l ranges look own at t (run_all l ws returns' (calls l ranges n p (reads l (f.own s.at) ranges n xs) make).statements x)
+        → Meets l ranges look own at t
+        (run_all l ws returns' (calls l ranges n p (reads l (f.own s.at) ranges n xs) make).statements x)
     calls_meet p xs make event t call ops wide all does =
         let reading = reads l (f.own s.at) ranges n xs in
         let k = n + length reading.locals in
@@ -153,14 +156,15 @@ module _
         → AreWide ws n (call_made b l (f.own s.at) ranges n to.offset (proto_of l (callee_at l to.offset))).locals
         → ((ss : List Stmt) → returns' ss ≡ true)
         → Meets l ranges look own at (done O.Call None (to ∷ []))
-        (run_all l ws returns' (call_made b l (f.own s.at) ranges n to.offset (proto_of l (callee_at l to.offset))).statements x)
+        (run_all l ws returns'
+        (call_made b l (f.own s.at) ranges n to.offset (proto_of l (callee_at l to.offset))).statements x)
     call_by false to returning turn call wide all = absurd (cc)
     call_by true to returning turn call wide all =
         let p = proto_of l (callee_at l to.offset) in
         let xs = arguments 0 p.args in
         let es = (passed l (f.own s.at) ranges n p).words in
-        calls_meet p xs (λ v. S.Call v to.offset es) (λ ns. Call to.offset ns) (done O.Call None (to ∷ [])) call call.args
-        wide all
+        calls_meet p xs (λ v. S.Call v to.offset es) (λ ns. Call to.offset ns) (done O.Call None (to ∷ [])) call
+        call.args wide all
         (λ y ns have read. (
           call_records m l f ws s y to.offset xs es ns have,
           call_step m l f i s to ns read ∙ ap (λ b. called m l p b (noted (Call to.offset ns))) returning,
@@ -183,7 +187,8 @@ module _
         → returns' [] ≡ false
         → ((done O.Call None (to ∷ [])).world.over ≡ Some NoReturn)
         × Meets l ranges look own at (done O.Call None (to ∷ []))
-        (run_all l ws returns' (call_made b l (f.own s.at) ranges n to.offset (proto_of l (callee_at l to.offset))).statements x)
+        (run_all l ws returns'
+        (call_made b l (f.own s.at) ranges n to.offset (proto_of l (callee_at l to.offset))).statements x)
     never_by true to returning turn call wide never = absurd (cc)
     never_by false to returning turn call wide never =
         let p = proto_of l (callee_at l to.offset) in
@@ -379,8 +384,8 @@ module _
         let es = (reads l (f.own s.at) ranges n (all_read vs)).words in
         let make : Asking = λ u. S.Other u index.offset es in
         let after = done O.CallOther (Some z) (index ∷ vs) in
-        computes_meets m l f look own ranges ws is has set at s go n free (all_read vs) z returns' (λ v. make (Some v)) x
-        after output ops wide sees
+        computes_meets m l f look own ranges ws is has set at s go n free (all_read vs) z returns' (λ v. make (Some v))
+        x after output ops wide sees
         (λ y r. let e = Other index.offset r.words in
         output_made e y r.sees (λ v. make (Some v)) after z
         (taken_after m l f look own ranges ws is has set at s go e)

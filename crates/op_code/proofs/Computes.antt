@@ -185,7 +185,8 @@ module _
         → read_all m l f s (all_read (v ∷ w ∷ [])) ≡ Ok (a ∷ b ∷ [])
         → t ≡ in_world (store m at (byte_address l at a) (bytes_in l at w.size b) s.world) (moved next s))
         → Meets l ranges look own next t
-        (run_all l ws returns (stores l at v.size (reads l (f.own s.at) ranges n (Reads v ∷ Reads w ∷ []))).statements x)
+        (run_all l ws returns (stores l at v.size (reads l (f.own s.at) ranges n (Reads v ∷ Reads w ∷ []))).statements
+        x)
     stores_meet at v w returns x t mem ops wide sees step =
         let reading = reads l (f.own s.at) ranges n (Reads v ∷ Reads w ∷ []) in
         let d = word_at reading 0 in

@@ -64,7 +64,8 @@ module _
     load_done : (z from v : Varnode)
         → IsLoad (Some c) l ranges from z
         → done O.Load (Some z) (from ∷ v ∷ [])
-        ≡ write_varnode m l (kind_of l z.space) z (local_word l (frame_range l c z.size) (seen_bytes l own s)) (moved at s)
+        ≡ write_varnode m l (kind_of l z.space) z (local_word l (frame_range l c z.size) (seen_bytes l own s))
+        (moved at s)
     load_done z from v h =
         let a = address_read v in
         let to = byte_address l from.offset a.0 in
@@ -109,7 +110,8 @@ module _
         let a = address_read v in
         let address = byte_address l to.offset a.0 in
         own_store_step m l f i s c to v w a.0 b
-        (ap (λ r. with_first r (read_all m l f s (all_read (w ∷ [])))) a.1 ∙ ap (λ r. with_first (Ok a.0) r) read) access
+        (ap (λ r. with_first r (read_all m l f s (all_read (w ∷ [])))) a.1
+        ∙ ap (λ r. with_first (Ok a.0) r) read) access
         ∙ ap (λ r. written address (bytes_in l r w.size b)) h.0
 
     pub store_framed : (to v w : Varnode)

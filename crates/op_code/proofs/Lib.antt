@@ -1,4 +1,5 @@
 pub mod Access
+pub mod Adds
 pub mod Rows
 pub mod Bytes
 pub mod Reading
@@ -14,6 +15,7 @@ pub mod Numbers
 pub mod Operands
 pub mod Pointer
 pub mod Framed
+pub mod Popped
 pub mod Ops
 pub mod Sees
 pub mod Taken

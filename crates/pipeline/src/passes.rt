@@ -8,7 +8,7 @@ use bits_core::Memory;
 use cmeaning::CFunction;
 use ctext::print_c;
 use layout::{callees, laid_out, plain_head};
-use pcode_model::{Name, Text};
+use pcode_model::{Frame, Name, Text};
 use plaincode::{plain, result_width};
 use refusals::Refusal;
 use std::alloc::Global;
@@ -35,8 +35,8 @@ pub fn lower(alloc: Global, accepted: &Accepted) -> Result<CFunction, Memory>
     let code = plain(
         alloc,
         listing,
-        &accepted.flow,
         &accepted.frame,
+        &accepted.flow,
         &accepted.atoms,
     )?;
     let name = Name::from_slice(alloc, listing.func.name.as_slice())?;

@@ -86,7 +86,8 @@ module _
         → length ranges ≤ n
         → AreWide ws n (made_in l (f.own s.at) ranges n here).locals
         → ((ss : List Stmt) → returns ss ≡ true)
-        → Meets l ranges look own q (step_at m l f here s) (run_all l ws returns (made_in l (f.own s.at) ranges n here).statements x)
+        → Meets l ranges look own q (step_at m l f here s)
+        (run_all l ws returns (made_in l (f.own s.at) ranges n here).statements x)
     goes_to Nothing q s x n h turn next go sees free wide all = absurd h
     goes_to (Passes i) q s x n h turn next go sees free wide all = record {
       sees = record {
@@ -144,7 +145,8 @@ module _
         → length ranges ≤ n
         → AreWide ws n (made_in l (f.own s.at) ranges n here).locals
         → IsBefore (way_out l ranges k here e).exit
-        → u.local ≡ run_all l ws returns ((made_in l (f.own s.at) ranges n here).statements ++ (way_out l ranges k here e).loads) x
+        → u.local
+        ≡ run_all l ws returns ((made_in l (f.own s.at) ranges n here).statements ++ (way_out l ranges k here e).loads) x
         → Leaving ws (way_out l ranges k here e).exit u v
         → Left l ranges look own starts (step_at m l f here s) v
     leaves_on here F.Return s x u v n k h turn jump go sees free wide before ran leaving = absurd jump
@@ -218,7 +220,9 @@ module _
     call_left i to false t e s x u v n k h never by go sees free wide before ran leaving =
         stop_left i to e s x u v n k h never by go sees free wide before ran leaving
 
-    sees_moved : (p : Place) (s : State M) (x : Local) → Sees l ranges look own s x → Sees l ranges look own (moved p s) x
+    sees_moved : (p : Place) (s : State M) (x : Local)
+        → Sees l ranges look own s x
+        → Sees l ranges look own (moved p s) x
     sees_moved p s x sees =
         record {
           world = sees.world;
@@ -336,7 +340,8 @@ module _
     test_flag i to c a b false s x u v k flag h sa sb go sees free wide ran leaving =
         let one = read_one l ranges k c in
         let y : Local = run_all l ws returns one.loads x in
-        let r = reads_by m l f look own ranges ws is has set s go (kind_of l c.space) returns k c x refl h.0 h.1 free wide sees in
+        let r = reads_by m l f look own ranges ws is has set s go (kind_of l c.space) returns k c x refl h.0 h.1 free
+        wide sees in
         let has = r.has y.env r.sees.holds (λ j lt. refl) in
         let there = sees_at s y u.local ran r.sees in
         let next = Some (next_place i s.at.index) in

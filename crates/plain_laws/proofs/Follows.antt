@@ -110,8 +110,8 @@ record MadeAt (l : Listing) (owns : Place → Own) (ranges : List Varnode) (ws :
   get : slice_get blocks n ≡ Some (block_made l owns ranges next b).block
   wide : AreWide ws next (block_made l owns ranges next b).locals
 
-made_at : (l : Listing) (owns : Place → Own) (ranges : List Varnode) (ws : ℕ → ℕ) (blocks : List flow_block.Block) (first n : ℕ)
-    (b : flow_block.Block)
+made_at : (l : Listing) (owns : Place → Own) (ranges : List Varnode) (ws : ℕ → ℕ) (blocks : List flow_block.Block)
+    (first n : ℕ) (b : flow_block.Block)
     → slice_get blocks n ≡ Some b
     → AreWide ws first (blocks_made l owns ranges first blocks).locals
     → MadeAt l owns ranges ws first (blocks_made l owns ranges first blocks).blocks b n
@@ -184,7 +184,8 @@ module _ (l : Listing) (owns : Place → Own) (ranges : List Varnode) where
       in_it r.loads way (S.Call None address r.words) ss
       (ap (λ zs. ss ++ zs) (sym (append_assoc r.loads (S.Call None address r.words ∷ []) way)) ∙ e)
 
-  stops_some : (own : Own) (next : ℕ) (code : Opcode) (out : Option Varnode) (vs : List Varnode) (way : List Stmt) (ss : List Stmt)
+  stops_some : (own : Own) (next : ℕ) (code : Opcode) (out : Option Varnode) (vs : List Varnode)
+      (way ss : List Stmt)
       → IsPlainOp l own ranges code out vs
       → turn_of l code vs ≡ Stops
       → ss ++ ((op_made l own ranges next code out vs).statements ++ way) ≡ []
@@ -214,7 +215,8 @@ module _ (l : Listing) (owns : Place → Own) (ranges : List Varnode) where
   last_by t starts p next k i op Stops (F.Switch table ns) h is by ss = absurd (cc)
   last_by t starts p next k i op (Branches to) (F.Switch table ns) h is by ss = absurd by
   last_by t starts p next k i op (Tests to) (F.Switch table ns) h is by ss = absurd by
-  last_by t starts p next k i op Switches F.Stop h is by ss = absurd (switches_none (owns p) op.code op.out op.inputs h is)
+  last_by t starts p next k i op Switches F.Stop h is by ss =
+      absurd (switches_none (owns p) op.code op.out op.inputs h is)
   last_by t starts p next k i op GoesOn F.Stop h is by ss = absurd by
   last_by t starts p next k i op Returns F.Stop h is by ss = absurd (cc)
   last_by t starts p next k i op Stops F.Stop h is by ss =
