@@ -8,7 +8,7 @@ use bits_core::Memory;
 use cmeaning::CFunction;
 use ctext::print_c;
 use layout::{callees, laid_out, plain_head};
-use pcode_model::{Frame, Name, Text};
+use pcode_model::{Name, Text};
 use plaincode::{plain, result_width};
 use refusals::Refusal;
 use std::alloc::Global;
