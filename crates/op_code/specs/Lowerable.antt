@@ -31,12 +31,12 @@ AreNarrow (a ∷ rest) = ((0 < a.size) × (a.size ≤ 16)) × AreNarrow rest
 -- even: the first ram space has two halves.
 -- registers, uniques: and it is neither the register space nor the unique space.
 pub record IsLowerable (l : Listing) (t : List TableAt) (f : Frame) (blocks : List Block) (atoms : List Atom) : Type 0
-    where
-  pub flow : IsFlow l t blocks
-  pub few : length blocks < 2 ^ 32 - 1
-  pub table : IsTable l (ranges_of l atoms)
-  pub narrow : AreNarrow atoms
-  pub even : half (stack_size l) + half (stack_size l) ≡ stack_size l
-  pub registers : register_space l ≢ first_ram l
-  pub uniques : unique_space l ≢ first_ram l
-  pub plain : (p : Place) → Reached l t p → IsPlain l (f.own p) (ranges_of l atoms) (standing l p)
+  where
+    pub flow : IsFlow l t blocks
+    pub few : length blocks < 2 ^ 32 - 1
+    pub table : IsTable l (ranges_of l atoms)
+    pub narrow : AreNarrow atoms
+    pub even : half (stack_size l) + half (stack_size l) ≡ stack_size l
+    pub registers : register_space l ≢ first_ram l
+    pub uniques : unique_space l ≢ first_ram l
+    pub plain : (p : Place) → Reached l t p → IsPlain l (f.own p) (ranges_of l atoms) (standing l p)
