@@ -17,6 +17,7 @@ use Rattle.pcode_model.specs.Rules.{first_bad}
 use Rattle.pcode_model.specs.Spaces.{first_ram}
 use Rattle.pcode_model.specs.Step.{varnode_at}
 use Rattle.pcode_model.specs.WellFormed.{IsWellFormed}
+use Rattle.pcodetext.specs.Meaning.{Good, reading}
 use Rattle.supported.specs.Supported.{IsSupported}
 use Rattle.flow.specs.Answer.{IsFlowFault}
 use Rattle.flow.specs.declared.answer.FlowFault.{FlowFault}
@@ -175,14 +176,18 @@ laid_is l blocks atoms name gives callees h k f is headed named given called mad
 
 -- ---- what may be printed
 
--- The text of a function that a listing which is accepted was lowered to.
+-- The text of a function that a listing which was read and is built was lowered to.
 pub may_print : (bytes text : List ℕ) (l : Listing) (f : CFunction)
-    → Accepts bytes l → Lowers l f → text ≡ text_of f → MayPrint bytes text
-may_print bytes text l f accepted lowers is = record {
+    → reading bytes ≡ Good l
+    → IsSupported l
+    → Lowers l f
+    → text ≡ text_of f
+    → MayPrint bytes text
+may_print bytes text l f read built lowers is = record {
   listing = l;
-  read = accepted.good.read;
+  read = read;
   frame = no_variables;
-  is_frame = NoStackPointer accepted.built.stack refl;
+  is_frame = NoStackPointer built.stack refl;
   function = f;
   valid = lowers.valid;
   fits = lowers.fits;
