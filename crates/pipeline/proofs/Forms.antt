@@ -177,7 +177,7 @@ laid_is l blocks atoms name gives callees h k f is headed named given called mad
 -- ---- what may be printed
 
 -- The text of a function that a listing which was read and is built was lowered to.
-pub may_print : (bytes text : List ℕ) (l : Listing) (f : CFunction)
+unfoldable pub may_print : (bytes text : List ℕ) (l : Listing) (f : CFunction)
     → reading bytes ≡ Good l
     → IsSupported l
     → Lowers l f

@@ -92,6 +92,7 @@ pub numbers_of : (number : ℕ) (a : Accepted) (lines : List ℕ) (f : CFunction
     → Lowers a.listing f
     → lines ≡ lines_of (counts_of a.listing (length a.flow) (length a.atoms) f (text_of f))
     → AreNumbersOf number lines
+unfolding may_print
 numbers_of number a lines f is passed lowers are = record {
   blocks = a.flow;
   are_blocks = subst (λ (l : Listing). IsFlow l [] a.flow) is passed.blocks;

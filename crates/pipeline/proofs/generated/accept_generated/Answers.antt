@@ -4,7 +4,7 @@ use Rattle.pipeline.proofs.Numbered.{built, formed, never_stops, obeys}
 use Rattle.pipeline.proofs.generated.accept_generated.Goals as goal
 
 pub blocks-requires : goal.blocks-requires
-blocks-requires c = formed c.args.number c.in_ok-listing.listing c.in_ok-listing.ensures
+blocks-requires c = record { formed = formed c.args.number c.in_ok-listing.listing c.in_ok-listing.ensures }
 
 pub variables-requires-clause-formed : goal.variables-requires-clause-formed
 variables-requires-clause-formed c = formed c.args.number c.in_ok-listing.listing c.in_ok-listing.ensures
@@ -14,11 +14,15 @@ variables-requires-clause-ops c = obeys c.args.number c.in_ok-listing.listing c.
 
 pub returns-in_err-flow-clause-memory : goal.returns-in_err-flow-clause-memory
 returns-in_err-flow-clause-memory c =
-    never_stops c.args.number c.in_ok-listing.listing c.in_ok-listing.ensures _ c.in_err-flow.ensures.stops
+    let memory =
+    never_stops c.args.number c.in_ok-listing.listing c.in_ok-listing.ensures _ c.in_err-flow.ensures.stops in
+    search (rules, memory)
 
 pub returns-in_err-atoms-clause-memory : goal.returns-in_err-atoms-clause-memory
 returns-in_err-atoms-clause-memory c =
-    never_stops c.args.number c.in_ok-listing.listing c.in_ok-listing.ensures _ c.in_err-atoms.ensures.stops
+    let memory =
+    never_stops c.args.number c.in_ok-listing.listing c.in_ok-listing.ensures _ c.in_err-atoms.ensures.stops in
+    search (rules, memory)
 
 pub returns-clause-passed : goal.returns-clause-passed
 returns-clause-passed c =
