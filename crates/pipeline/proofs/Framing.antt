@@ -1,5 +1,5 @@
 -- The frame law of an accepted listing: for every entry its stack pointer is an address.
-use Rattle.std.proofs.Common.{◌≡◌, ◌∙◌, ◌<◌, List, [], Option, Some, None, ap, subst, sym, arith}
+use Rattle.std.proofs.Common.{◌≡◌, ◌∙◌, ◌<◌, List, [], Option, Some, None, refl, ap, subst, sym, arith}
 use Rattle.machine.specs.Agree.{FrameLaw}
 use Rattle.pcode_model.specs.declared.frame.Frame.{Frame}
 use Rattle.pcode_model.specs.declared.listing.Listing.{Listing}

@@ -1,5 +1,5 @@
 -- Each access of a listing's frame has ends that are offsets of 32 bits of a stack.
-use Rattle.std.proofs.Common.{◌≡◌, ◌≤◌, ◌^◌, Option, Some, None, arith, sym, subst}
+use Rattle.std.proofs.Common.{◌≡◌, ◌≤◌, ◌^◌, Option, Some, arith, refl, sym, subst}
 use Rattle.std.specs.Prelude.{IsSome}
 use Rattle.std.proofs.lemmas.Int.{ints}
 use Rattle.pcode_model.specs.declared.frame.FrameAccess.{FrameAccess}
@@ -10,7 +10,7 @@ use Rattle.plain_form.proofs.Framed.{IsKnown, limit_near}
 use Rattle.plain_valid.specs.Long.{IsLongAccess}
 
 has_one : (o : Option Varnode) (sp : Varnode) → o ≡ Some sp → IsSome o
-has_one o sp is = subst (λ (x : Option Varnode). IsSome x) (sym is) tt
+has_one o sp is = subst (λ (x : Option Varnode). IsSome x) (sym is) refl
 
 pub long_access : (l : Listing) (a : FrameAccess) → IsKnown l a → IsLongAccess l a
 long_access l a known =
