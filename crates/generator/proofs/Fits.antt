@@ -1,7 +1,7 @@
 -- What is drawn fits.
 use Rattle.std.proofs.Common.{◌<◌, ◌^◌, ◌/◌, ◌%◌, ◌+◌, ◌*◌, ℕ, arith}
 use Rattle.generator.specs.Draws.{before, drawn_after, drawn_at, next}
-use Rattle.generator_laws.specs.Fit.{AreFit, IsFit}
+use Rattle.generator.specs.Fit.{AreFit, IsFit}
 
 -- the upper bits of what is below 2^64
 top_small : (x : ℕ) → x % 2 ^ 64 / 2 ^ 33 < 2 ^ 31
