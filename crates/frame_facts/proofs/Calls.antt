@@ -101,7 +101,7 @@ in_it : (v : Varnode) (o : ℕ) → v.offset ≤ o → o < v.offset + v.size →
 in_it v o a b = grind (arith, nat_tests)
 
 -- a byte of ranges that share nothing with another range isn't one of that
-kept_meets : (Q : Varnode → Type 0) (g : Varnode) (o : ℕ)
+pub kept_meets : (Q : Varnode → Type 0) (g : Varnode) (o : ℕ)
     → ((x : Varnode) → Q x → ShareNothing x g)
     → in_range g o ≡ true
     → (keep : List Varnode)
@@ -120,7 +120,7 @@ kept_meets Q g o sel here (x ∷ keep) all h = by (in_range x o) refl (kept_meet
       cc
   by false e rest h = rest h
 
-some_is : {A : Type 0} {x y : A} → Some x ≡ Some y → x ≡ y
+pub some_is : {A : Type 0} {x y : A} → Some x ≡ Some y → x ≡ y
 some_is e = cc
 
 both_false : (a b : Bool) → b ≡ false → (a && b) ≡ false

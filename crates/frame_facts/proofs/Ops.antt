@@ -17,9 +17,9 @@ use Rattle.pcode_model.proofs.Members.{member_at}
 use Rattle.pcode_laws.proofs.Rules.{breaks_none, neither}
 
 -- the op that stands here is one of these instructions'
-record StandsIn (code : List Instruction) (i : Instruction) (op : Op) : Type 0 where
-  code_has : IsIn i code
-  ops_have : IsIn op i.ops
+pub record StandsIn (code : List Instruction) (i : Instruction) (op : Op) : Type 0 where
+  pub code_has : IsIn i code
+  pub ops_have : IsIn op i.ops
 
 found : (code : List Instruction) (a : ℕ) (i : Instruction) → instruction_in code a ≡ Some i → IsIn i code
 found [] a i e = absurd (cc)
@@ -53,7 +53,7 @@ of_option code (Some i) n j op is h =
     let Q : Instruction → Type 0 = λ x. IsIn op x.ops in
     record { code_has = subst P b.0 (is i refl); ops_have = subst Q b.0 b.1 }
 
-stands_in : (l : Listing) (p : Place) (i : Instruction) (op : Op) → standing l p ≡ Does i op → StandsIn l.code i op
+pub stands_in : (l : Listing) (p : Place) (i : Instruction) (op : Op) → standing l p ≡ Does i op → StandsIn l.code i op
 stands_in l p i op h = of_option l.code (instruction_in l.code p.address) p.index i op (found l.code p.address) h
 
 both : (a b : Bool) → not (a && b) ≡ false → (a ≡ true) × (b ≡ true)
