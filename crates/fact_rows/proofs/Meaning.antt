@@ -121,7 +121,7 @@ module _ (l : Listing) (read : IsWellFormed l) (s : Slots) (slots : AreSlots l s
   k = knows s row
 
   -- what is known can hold an address
-  can_from : (r : Row) → IsRow s r → (v : Varnode) (c : ℕ) → Held s r v c → CanHold l v c
+  pub can_from : (r : Row) → IsRow s r → (v : Varnode) (c : ℕ) → Held s r v c → CanHold l v c
   can_from r good v c h =
       let low : c < offsets l =
       subst (λ (m : ℕ). c < m) slots.count (entry_below s.offsets s.keys.items r (key v) c good.below h.entry) in
