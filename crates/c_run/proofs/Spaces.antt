@@ -3,44 +3,22 @@ use Rattle.std.proofs.Common.{◌≡◌, ℕ, ◌+◌, ◌<◌, ◌≤◌, ◌^�
 use Rattle.std.specs.Prelude.{IfSome, nat_lt, slice_get}
 use Rattle.std.proofs.lemmas.Bool.Decides.{nat_tests}
 use Rattle.pcode_model.specs.declared.listing.Listing.{Listing}
-use Rattle.pcode_model.specs.declared.listing.Space.{Space}
 use Rattle.pcode_model.specs.declared.listing.SpaceKind.{SpaceKind}
 use Rattle.pcode_model.specs.declared.listing.SpaceKind.TheVariants.{Constant, Ram, Register, Unique}
 use Rattle.pcode_model.specs.declared.listing.Varnode.{Varnode}
-use Rattle.pcode_model.specs.Spaces.{kind_in, kind_of, number_of, register_space, same_kind, size_of, unique_space}
-use Rattle.pcode_model.specs.WellFormed.{IsRegister, IsStackPointer, IsWellFormed, how_many}
+use Rattle.pcode_model.specs.Spaces.{kind_of, register_space, same_kind, size_of, unique_space}
+use Rattle.pcode_model.specs.WellFormed.{IsRegister, IsStackPointer, IsWellFormed}
+use Rattle.pcode_laws.proofs.SpaceKinds.{first_is, same_is}
 use Rattle.cmeaning.specs.Do.{accessed, space_named}
 use Rattle.run_world.specs.Setting.{HasShape}
 use Rattle.run_world.specs.declared.shape.Shape.{Shape}
-use Rattle.run_world.proofs.Declared.{kind_at, size_most}
+use Rattle.run_world.proofs.Declared.{size_most}
 use Rattle.cmeaning.specs.Fits.{lies_in, names_ram}
 
 pub both : (a b : Bool) → a && b ≡ true → (a ≡ true) × (b ≡ true)
 both true true h = (refl, refl)
 both true false h = absurd cc
 both false b h = absurd cc
-
-same_is : (j k : SpaceKind) → same_kind j k ≡ true → k ≡ j
-same_is Constant Constant h = refl
-same_is Ram Ram h = refl
-same_is Register Register h = refl
-same_is Unique Unique h = refl
-same_is Constant Ram h = absurd cc
-same_is Constant Register h = absurd cc
-same_is Constant Unique h = absurd cc
-same_is Ram Constant h = absurd cc
-same_is Ram Register h = absurd cc
-same_is Ram Unique h = absurd cc
-same_is Register Constant h = absurd cc
-same_is Register Ram h = absurd cc
-same_is Register Unique h = absurd cc
-same_is Unique Constant h = absurd cc
-same_is Unique Ram h = absurd cc
-same_is Unique Register h = absurd cc
-
--- the first space of a kind is of that kind
-first_is : (k : SpaceKind) (ss : List Space) → 1 ≤ how_many k ss → kind_in (slice_get ss (number_of k ss)) ≡ k
-first_is k ss some = same_is k (kind_in (slice_get ss (number_of k ss))) (kind_at k ss some)
 
 pub ram_accessed : (l : Listing) (space : Option (List ℕ))
     → IsWellFormed l

@@ -38,17 +38,13 @@ pub record Written (sc : Scope) (t : Expr) : Type 0 where
   pub test_head : AllBegun (form sc t).test
   pub signed_head : AllBegun (form sc t).signed
 
-shaped : (o : Option Shape) → is_right o ≡ true → (s : Shape) × (o ≡ Some s)
-shaped None h = absurd cc
-shaped (Some x) h = (x, refl)
-
-of_width : (w : ℕ) (o : Option Shape) → has_width w o ≡ true → (s : Shape) × (o ≡ Some s)
-of_width w None h = absurd cc
-of_width w (Some x) h = (x, refl)
-
-of_test : (o : Option Shape) → is_condition o ≡ true → (s : Shape) × (o ≡ Some s)
-of_test None h = absurd cc
-of_test (Some x) h = (x, refl)
+-- A test that nothing passes is passed by a shape.
+passes : (test : Option Shape → Bool) (o : Option Shape)
+    → test None ≡ false
+    → test o ≡ true
+    → (s : Shape) × (o ≡ Some s)
+passes test None none h = let e : true ≡ false = sym h ∙ none in absurd (cc)
+passes test (Some x) none h = (x, refl)
 
 -- an expression at the end of a line
 pub value_again : (sc : Scope) (t : Expr) (text rest : List ℕ)
@@ -80,13 +76,13 @@ module _ (sc : Scope) (ws : ℕ → ℕ) (ok : Context sc ws) where
       }
 
   pub written_right : (t : Expr) → is_right (shape_of ws t) ≡ true → Written sc t
-  written_right t h = let s = shaped (shape_of ws t) h in written t s.0 s.1
+  written_right t h = let s = passes is_right (shape_of ws t) refl h in written t s.0 s.1
 
   pub written_width : (w : ℕ) (t : Expr) → has_width w (shape_of ws t) ≡ true → Written sc t
-  written_width w t h = let s = of_width w (shape_of ws t) h in written t s.0 s.1
+  written_width w t h = let s = passes (has_width w) (shape_of ws t) refl h in written t s.0 s.1
 
   pub written_test : (t : Expr) → is_condition (shape_of ws t) ≡ true → Written sc t
-  written_test t h = let s = of_test (shape_of ws t) h in written t s.0 s.1
+  written_test t h = let s = passes is_condition (shape_of ws t) refl h in written t s.0 s.1
 
   -- ---- arguments
 

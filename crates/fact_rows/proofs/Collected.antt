@@ -22,7 +22,7 @@ use Rattle.pcode_model.specs.WellFormed.{IsWellFormed}
 use Rattle.pcode_model.specs.Atoms.{IsLocal}
 use Rattle.pcode_model.proofs.Members.{behind, in_either, in_front}
 use Rattle.pcode_laws.proofs.Rules.{either}
-use Rattle.frame_facts.proofs.Ops.{stands_in}
+use Rattle.instructions.proofs.Standing.{stands_in}
 use Rattle.frame_facts.specs.Facts.{CanHold, offsets}
 use Rattle.frame_facts.specs.Accesses.{stack_width, width_in}
 use Rattle.fact_rows.specs.declared.slots.Slots.{Slots}

@@ -22,8 +22,9 @@ use Rattle.pcode_model.specs.WellFormed.{IsProto, IsStackPointer, IsWellFormed, 
 use Rattle.pcode_laws.proofs.Rules.{either}
 use Rattle.frame_facts.specs.Facts.{CanHold, IsConstant, IsDifference, IsKept, IsSum, Known, Makes, Over, OverCall, OverOp, OverOther, offsets, writes}
 use Rattle.frame_facts.specs.Escapes.{is_constant}
-use Rattle.frame_facts.proofs.Spaces.{kind_is, spaces_differ}
-use Rattle.frame_facts.proofs.Calls.{kept_meets, proto_fine, some_is}
+use Rattle.frame_facts.proofs.Spaces.{spaces_differ}
+use Rattle.pcode_laws.proofs.SpaceKinds.{same_is}
+use Rattle.frame_facts.proofs.Prototypes.{kept_meets, proto_fine, some_is}
 use Rattle.fact_rows.specs.declared.slots.Slots.{Slots}
 use Rattle.fact_rows.specs.Slots.{AreSlots, is_wide, key, makes_address, range_of}
 use Rattle.fact_rows.specs.Rows.{IsRow, Row, after, after_call, after_other, all_kept, first_of, is_at, is_offset, keeps, knows, made, offset_in, offset_of, over_row, plus, plus_if}
@@ -148,7 +149,7 @@ module _ (l : Listing) (read : IsWellFormed l) (s : Slots) (slots : AreSlots l s
     by true None e f h = absurd (cc)
     by true (Some b) e f h =
         let g : c ≡ (b + n.offset) % s.offsets = sym (some_is h) in (
-          kind_is Constant (kind_of l n.space) e,
+          same_is Constant (kind_of l n.space) e,
           (b, (offset_is (offset_of s row base) b f, g ∙ ap (λ m. (b + n.offset) % m) slots.count)),
         )
     by false r e f h = absurd (cc)
@@ -178,7 +179,7 @@ module _ (l : Listing) (read : IsWellFormed l) (s : Slots) (slots : AreSlots l s
     by true None e f h = absurd (cc)
     by true (Some b) e f h =
         let g : c ≡ (b + (s.offsets - n.offset)) % s.offsets = sym (some_is h) in (
-          kind_is Constant (kind_of l n.space) e,
+          same_is Constant (kind_of l n.space) e,
           (b, (offset_is (offset_of s row base) b f, g ∙ ap (λ m. (b + (m - n.offset)) % m) slots.count)),
         )
     by false r e f h = absurd (cc)
@@ -214,7 +215,7 @@ module _ (l : Listing) (read : IsWellFormed l) (s : Slots) (slots : AreSlots l s
   known_constant : (v : Varnode) (b : ℕ) → k v b ≡ true → is_constant l v ≡ false
   known_constant v b h = by (is_constant l v) refl where
     by : (t : Bool) → is_constant l v ≡ t → t ≡ false
-    by true e = absurd (not_constant l read v.space (is_held v b h).is_local (kind_is Constant (kind_of l v.space) e))
+    by true e = absurd (not_constant l read v.space (is_held v b h).is_local (same_is Constant (kind_of l v.space) e))
     by false e = refl
 
   made_complete : (code : Opcode) (vs : List Varnode) (c : ℕ) → Makes l k code vs c → made l s row code vs ≡ Some c
@@ -340,7 +341,7 @@ module _ (l : Listing) (read : IsWellFormed l) (s : Slots) (slots : AreSlots l s
         (λ x q. let P : Option Varnode → Type 0 = λ o. IfSome o (ShareNothing x) in subst P is q.0)
         here p.keep proto.kept_apart (h.each v.offset (omega arith) (omega (arith, some)))
     stack_moves v is (inr e) =
-        spaces_differ l read v.space (kind_is _ (kind_of l v.space) (pointer v is).register.kind) e
+        spaces_differ l read v.space (same_is _ (kind_of l v.space) (pointer v is).register.kind) e
 
     call_sound : (v : Varnode) (c : ℕ)
         → v.size ≡ s.width

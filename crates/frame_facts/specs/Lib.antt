@@ -2,5 +2,3 @@ pub mod Facts
 pub mod Escapes
 pub mod Accesses
 pub mod Listed
-pub mod Laws
-pub mod Worked

@@ -8,9 +8,6 @@ use Rattle.generator.specs.declared.draws.Drawn.{Drawn}
 use Rattle.generator.specs.Generated.{listing_of}
 use Rattle.generator_laws.proofs.Spots.{IsFirst, IsSpot, Leading, first_spot, l, spot_leads}
 
-same_place : (p q : Place) → Leads p ≡ Leads q → p ≡ q
-same_place p q e = cc
-
 never_fails : (why : FlowWhy) (q : Place) → Fails why ≡ Leads q → ⊥
 never_fails why q e = cc
 
@@ -26,7 +23,8 @@ module _ (draws : ℕ → Drawn) where
   reached_spot p First = first_spot draws 0 (omega arith)
   reached_spot p (Next q r reached step) =
       let lead = among _ (Leads p) (ways (l draws) [] q) step (spot_leads draws q (reached_spot q reached)) in
-      subst (IsSpot draws) (sym (same_place p lead.to lead.is)) lead.spot
+      let same : p ≡ lead.to = let is = lead.is in cc in
+      subst (IsSpot draws) (sym same) lead.spot
 
   -- No place of the flow has a fault.
   pub no_fault : NoFault (listing_of draws) []
@@ -42,7 +40,8 @@ module _ (draws : ℕ → Drawn) where
   begins_first p Entry = record { number = 0; few = omega arith; at = refl }
   begins_first p (Led q r reached branches step) =
       let lead = among _ (Leads p) (ways (l draws) [] q) step (spot_leads draws q (reached_spot q reached)) in
-      subst IsFirst (sym (same_place p lead.to lead.is)) (lead.first branches)
+      let same : p ≡ lead.to = let is = lead.is in cc in
+      subst IsFirst (sym same) (lead.first branches)
 
 -- ---- how many rising places there are
 

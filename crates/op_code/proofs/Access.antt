@@ -16,6 +16,7 @@ use Rattle.pcode_model.specs.World.{AllAnswers, World, store, stored_as}
 use Rattle.pcode_model.specs.Step.{State, as_word, byte_address, bytes_in, in_world, moved, word_in_bytes}
 use Rattle.pcode_laws.specs.AsBytes.{AsBytes, seen_over}
 use Rattle.pcode_laws.proofs.AsBytes.{store_over}
+use Rattle.range_words.specs.Own.{HasOwn}
 use Rattle.range_words.specs.Ranges.{AreBytes}
 use Rattle.range_words.proofs.Variables.{bytes_stored}
 use Rattle.cmeaning.specs.declared.tree.Expr.{Expr}
@@ -28,7 +29,7 @@ use Rattle.op_values.proofs.Means.{Means, constant_means}
 use Rattle.op_values.proofs.Addresses.{address_means}
 use Rattle.op_code.specs.Made.{address, address_of, name_of, offset_bytes}
 use Rattle.op_code.specs.Form.{IsDirect, IsMemory}
-use Rattle.op_code.proofs.Sees.{Meets, Sees}
+use Rattle.op_code.proofs.Sees.{Meets, Sees, sees_on}
 
 -- ---- addresses
 
@@ -126,23 +127,32 @@ module _ {M : Type 0} (m : Acts M) (l : Listing) (look : M → Bytes) (is : AsBy
   pub read_is : (s a k : ℕ) (w : M) → as_word l s (m.read s a k w) ≡ Ok (word_in_bytes l s a k (look w))
   read_is s a k w = ap (as_word l s) (is.read s a k w)
 
-  -- the same store is made on both sides
-  pub store_meets : (ranges : List Varnode) (next : Place) (at a k n : ℕ) (s : State M) (x : Local)
-      → Sees l ranges look s x
-      → Meets l ranges look next (in_world (store m at a (bytes_in l at k n) s.world) (moved next s))
-      (code.in_world (store (plain l) at a (bytes_in l at k n) x.world) x)
-  store_meets ranges next at a k n s x sees =
-      let bs = bytes_in l at k n in
-      let same = store_over m l look is at a bs s.world in
-      let fixed = any_fixed l at a (length bs) in
-      let P : World Bytes → Type 0 = λ w. AreBytes w.memory in
-      record {
-        sees = record {
-          world = same ∙ ap (store (plain l) at a bs) sees.world;
-          holds = sees.holds;
-          bytes = sees.bytes;
-          memory = subst P (sym same) (stored_bytes l at a k n fixed (seen_over look s.world) sees.memory);
-          answers = stored_answers l (Store at a bs) (m.write at a bs s.world.memory) s.world sees.answers;
-        };
-        at = λ _. refl;
-      }
+  module _ (own : M → ℕ → ℕ) (has : HasOwn m l look own) where
+    -- a store leaves the bytes of the frame
+    own_stored : (s a : ℕ) (bs : List ℕ) (w : World M) → own (store m s a bs w).memory ≡ own w.memory
+    own_stored s a bs w = by (m.write s a bs w.memory) refl
+      where
+        by : (r : Result M End)
+            → m.write s a bs w.memory ≡ r
+            → own (stored_as (Store s a bs) r w).memory ≡ own w.memory
+        by (Ok v) e = has.write s a bs w.memory v e
+        by (Err h) e = refl
+
+    -- the same store is made on both sides
+    pub store_meets : (ranges : List Varnode) (next : Place) (at a k n : ℕ) (s : State M) (x : Local)
+        → Sees l ranges look own s x
+        → Meets l ranges look own next (in_world (store m at a (bytes_in l at k n) s.world) (moved next s))
+        (code.in_world (store (plain l) at a (bytes_in l at k n) x.world) x)
+    store_meets ranges next at a k n s x sees =
+        let bs = bytes_in l at k n in
+        let same = store_over m l look is at a bs s.world in
+        let fixed = any_fixed l at a (length bs) in
+        let P : World Bytes → Type 0 = λ w. AreBytes w.memory in
+        record {
+          sees = sees_on l ranges look own s (in_world (store m at a bs s.world) (moved next s)) x
+              (code.in_world (store (plain l) at a bs x.world) x) sees refl (own_stored at a bs s.world)
+              (same ∙ ap (store (plain l) at a bs) sees.world) refl
+              (subst P (sym same) (stored_bytes l at a k n fixed (seen_over look s.world) sees.memory))
+              (stored_answers l (Store at a bs) (m.write at a bs s.world.memory) s.world sees.answers);
+          at = λ _. refl;
+        }

@@ -2,6 +2,7 @@
 use Rattle.std.proofs.Common.{◌≡◌, ◌≢◌, ℕ, zero, suc, ◌+◌, ◌-◌, ◌<◌, ◌≤◌, List, [], ◌∷◌, Some, refl, sym, ap, ◌∙◌, subst, inl, inr, ⊎_elim, ◌⊎◌, arith}
 use Rattle.std.specs.Prelude.{slice_get, ℤ, pos, ◌+ℤ◌}
 use Rattle.std.proofs.lemmas.Bool.{cases_eq, cases_lt}
+use Rattle.std.proofs.lemmas.Int.{ints}
 use Rattle.pcode_model.specs.declared.listing.Varnode.{Varnode}
 use Rattle.pcode_model.specs.declared.listing.Listing.{Listing}
 use Rattle.pcode_model.specs.declared.storage.ParamStorage.{ParamStorage}
@@ -116,6 +117,7 @@ module _
 
 -- ---- the atoms of an area
 
+-- The area's ranges are those of a space, whose offset 0 is this offset of the area.
 module _
     (l : Listing)
     (t : List TableAt)
@@ -126,8 +128,9 @@ module _
     (area : Area)
     (space : ℕ)
     (at : ℕ → ParamStorage)
+    (base : ℤ)
     (area_is : (o : ℕ) → area_of (at o) ≡ area)
-    (offset_is : (o : ℕ) → offset_of (at o) ≡ pos o)
+    (offset_is : (o : ℕ) → offset_of (at o) ≡ pos o +ℤ base)
     (tell_one : (a : Atom) (o k : ℕ) → (range (at o) k ≡ a) ⊎ (range (at o) k ≢ a))
     (named : (o k : ℕ) → IsIn (range (at o) k) atoms → IsIn (varnode space o k) ranges)
   where
@@ -139,10 +142,10 @@ module _
         (tell_one x o k)
 
     abbrev CutAt : ℕ → Type 0
-    CutAt o = IsCut l t f area (pos o)
+    CutAt o = IsCut l t f area (pos o +ℤ base)
 
-    ahead : (o d : ℕ) → offset_of (at o) +ℤ pos d ≡ pos (o + d)
-    ahead o d = ap (λ z. z +ℤ pos d) (offset_is o)
+    ahead : (o d : ℕ) → offset_of (at o) +ℤ pos d ≡ pos (o + d) +ℤ base
+    ahead o d = let e = offset_is o in omega (arith, ints)
 
     cut_here : (o : ℕ) → CutAt o → IsCut l t f (area_of (at o)) (offset_of (at o))
     cut_here o cut =
@@ -184,7 +187,10 @@ module _
               area_is o ∙ sym (area_is offset),
               (
                 o - offset,
-                (offset_is o ∙ ap pos (sym back) ∙ sym (ahead offset (o - offset)), omega (arith, from, to)),
+                (
+                  offset_is o ∙ ap (λ n. pos n +ℤ base) (sym back) ∙ sym (ahead offset (o - offset)),
+                  omega (arith, from, to),
+                ),
               ),
             );
           })
@@ -198,7 +204,8 @@ module _
       last : CutAt (offset + size)
       last = (range (at offset) size, (inl accessed, (area_is offset, inr (sym (ahead offset size)))))
 
-      accessed_row : (ps : List Piece) × IsRow ranges space offset ps (offset + size)
+      -- What is accessed of the area has a row.
+      pub accessed_row : (ps : List Piece) × IsRow ranges space offset ps (offset + size)
       accessed_row =
           row_to (λ o k. IsIn (range (at o) k) atoms) (tell_in atoms) ranges space offset (offset + size) named CutAt
           makes ends last size size offset (omega arith) (omega arith) refl first
@@ -247,14 +254,14 @@ accessed_cover l t f atoms ranges are has table some v accesses = ⊎_elim
     (λ (in_registers : v.space ≡ register_space l).
     let A : ℕ → Type 0 = λ s. Accesses l t (varnode s v.offset v.size) in
     let R : ℕ → Type 0 = λ s. (ps : List Piece) × IsRow ranges s v.offset ps (v.offset + v.size) in
-    let row = accessed_row l t f atoms are ranges Registers (register_space l) P.Register (λ o. refl) (λ o. refl)
+    let row = accessed_row l t f atoms are ranges Registers (register_space l) P.Register (pos 0) (λ o. refl) (λ o. omega (arith, ints))
     (λ a o k. tell_register a.storage a.size o k) has.registers v.offset v.size (subst A in_registers accesses) in
     let here = subst R (sym in_registers) row in
     row_covers l ranges table some v here.0 here.1)
     (λ (in_uniques : v.space ≡ unique_space l).
     let A : ℕ → Type 0 = λ s. Accesses l t (varnode s v.offset v.size) in
     let R : ℕ → Type 0 = λ s. (ps : List Piece) × IsRow ranges s v.offset ps (v.offset + v.size) in
-    let row = accessed_row l t f atoms are ranges Uniques (unique_space l) P.Unique (λ o. refl) (λ o. refl)
+    let row = accessed_row l t f atoms are ranges Uniques (unique_space l) P.Unique (pos 0) (λ o. refl) (λ o. omega (arith, ints))
     (λ a o k. tell_unique a.storage a.size o k) has.uniques v.offset v.size (subst A in_uniques accesses) in
     let here = subst R (sym in_uniques) row in
     row_covers l ranges table some v here.0 here.1)

@@ -104,7 +104,7 @@ module _
 
     -- both take the same answer
     pub answers_so : (make : Asking) (e : Event) (x : Local) (v : Option ℕ) (returns : ℕ → Bool)
-        → Sees l ranges look s x
+        → Sees l ranges look own s x
         → Records l ws make e x
         → ((a : ℕ) → returns a ≡ true)
         → do_simple l ws returns (make v) x
@@ -112,22 +112,22 @@ module _
     answers_so make e x v returns sees records all =
         records v returns all
         ∙ ap (λ t. code.answered ws v t (code.in_world (recorded e x.world) x))
-        (takes_same m l look is ranges s x sees e)
+        (takes_same m l look own is has ranges s x sees e)
 
-    pub taken_so : (e : Event) (x : Local) → Sees l ranges look s x → IsTakenSo m l look is (taken_after e)
-    taken_so e x sees = takes_so m l look is (recorded e s.world) go sees.memory sees.answers
+    pub taken_so : (e : Event) (x : Local) → Sees l ranges look own s x → IsTakenSo m l look own is has (taken_after e)
+    taken_so e x sees = takes_so m l look own is has (recorded e s.world) go sees.memory sees.answers
 
     -- ---- a call that returns
 
     module _ (p : Proto) (call : IsCallable l ranges p) (a : Answer) (w : World M) (x : Local)
-        (sees : Sees l ranges look s x) (taken : IsTaken m l look is a w) where
+        (sees : Sees l ranges look own s x) (taken : IsTaken m l look own is has a w) where
       -- the bytes with the answer's
       abbrev there : State M
       there = record { at = next; local = after_call l p a s.local; world = w }
 
       -- the code before and behind what it takes of the registers
       abbrev first : Local
-      first = left_by m l look is a (seen_over look w) x
+      first = left_by m l look own is has a (seen_over look w) x
 
       left_bytes : AreBytes (replaced l p.keep a.registers s.local)
       left_bytes = replaced_bytes l p.keep a.registers s.local taken.answer.registers sees.bytes
@@ -137,7 +137,7 @@ module _
           → AreBytes b
           → y.world ≡ seen_over look w
           → Holds l ranges b y.env
-          → Meets l ranges look next there y
+          → Meets l ranges look own next there y
       meets_after b y after are world holds =
           let B : Bytes → Type 0 = λ c. AreBytes c in
           let H : Bytes → Type 0 = λ c. Holds l ranges c y.env in
@@ -155,7 +155,7 @@ module _
       -- without a result
       none_meets : (returns : List Stmt → Bool)
           → p.gives ≡ None
-          → Meets l ranges look next there (run_all l ws returns (extras l p ranges) first)
+          → Meets l ranges look own next there (run_all l ws returns (extras l p ranges) first)
       none_meets returns none =
           let y : Local = run_all l ws returns (extras l p ranges) first in
           let r = extras_hold l p ws returns ranges s.local first set call taken.over sees.holds in
@@ -172,7 +172,7 @@ module _
           → length ranges ≤ k
           → AreWide ws k (local_for (cover ranges z) z)
           → (let t = target ranges k z in
-          Meets l ranges look next there
+          Meets l ranges look own next there
           (run_all l ws returns (extras l p ranges ++ write_range (is_big l z.space) ranges z k)
           (assigned t (a.word % limit (ws t)) first)))
       some_meets returns k z gives given behind wide =
@@ -201,7 +201,7 @@ module _
           let over = result_over l p.keep (spared l p) a.registers z n s.local given.0
           (cover_inside l ranges z set.table narrow.0 has) (spared_off l ranges set.table p call z gives) in
           let H : Bytes → Type 0 = λ b. Holds l ranges b end.env in
-          let P : Local → Type 0 = λ u. Meets l ranges look next there u in
+          let P : Local → Type 0 = λ u. Meets l ranges look own next there u in
           subst P (sym ran)
           (meets_after (with_word l z n (replaced l p.keep a.registers s.local)) end
           (after_is l p a s.local call.stack
@@ -216,7 +216,7 @@ module _
         (e : Event)
         (x : Local)
         (on : x.world.over ≡ None)
-        (sees : Sees l ranges look s x)
+        (sees : Sees l ranges look own s x)
         (returns : List Stmt → Bool)
         (all : (ss : List Stmt) → returns ss ≡ true)
         (k : ℕ)
@@ -234,46 +234,46 @@ module _
 
         -- the run ends before anything else
         stopped_meets : (w : World M) (v : Option ℕ) (rest : List Stmt)
-            → IsStopped m l look is w
+            → IsStopped m l look own is has w
             → Answered (Stops w)
-            → Meets l ranges look next (called (Stops w)) (run_all l ws returns (make v ∷ rest) x)
+            → Meets l ranges look own next (called (Stops w)) (run_all l ws returns (make v ∷ rest) x)
         stopped_meets w v rest stopped does =
             let y : Local = code.in_world (seen_over look w) x in
             let ran = run_one l ws returns (make v) rest x y on (does v (λ c. returns rest) (λ c. all rest))
             ∙ run_over l ws returns rest y stopped.end stopped.over in
-            let P : Local → Type 0 = λ u. Meets l ranges look next (called (Stops w)) u in
-            subst P (sym ran) (stops_meets m l look is ranges s x sees next w stopped)
+            let P : Local → Type 0 = λ u. Meets l ranges look own next (called (Stops w)) u in
+            subst P (sym ran) (stops_meets m l look own is has ranges s x sees next w stopped)
 
         taken_meets : (t : Taken M) (gives : Option Varnode)
             → p.gives ≡ gives
-            → IsTakenSo m l look is t
+            → IsTakenSo m l look own is has t
             → Answered t
             → AreWide ws k (answered l ranges k p gives make).locals
-            → Meets l ranges look next (called t) (run_all l ws returns (answered l ranges k p gives make).statements x)
+            → Meets l ranges look own next (called t) (run_all l ws returns (answered l ranges k p gives make).statements x)
         taken_meets (Stops w) None gives so does wide = stopped_meets w None (extras l p ranges) so does
         taken_meets (Stops w) (Some z) gives so does wide =
             stopped_meets w (Some (target ranges k z)) (extras l p ranges ++ write_range (is_big l z.space) ranges z k) so
             does
         taken_meets (Took a w) None gives so does wide =
             let rest = extras l p ranges in
-            let y : Local = left_by m l look is a (seen_over look w) x in
+            let y : Local = left_by m l look own is has a (seen_over look w) x in
             let ran = run_one l ws returns (make None) rest x y on (does None (λ c. returns rest) (λ c. all rest)) in
-            let P : Local → Type 0 = λ u. Meets l ranges look next (called (Took a w)) u in
+            let P : Local → Type 0 = λ u. Meets l ranges look own next (called (Took a w)) u in
             subst P (sym ran) (none_meets p call a w x sees so returns gives)
         taken_meets (Took a w) (Some z) gives so does wide =
             let t = target ranges k z in
             let rest = extras l p ranges ++ write_range (is_big l z.space) ranges z k in
-            let y : Local = assigned t (a.word % limit (ws t)) (left_by m l look is a (seen_over look w) x) in
+            let y : Local = assigned t (a.word % limit (ws t)) (left_by m l look own is has a (seen_over look w) x) in
             let ran = run_one l ws returns (make (Some t)) rest x y on
             (does (Some t) (λ c. returns rest) (λ c. all rest)) in
-            let P : Local → Type 0 = λ u. Meets l ranges look next (called (Took a w)) u in
+            let P : Local → Type 0 = λ u. Meets l ranges look own next (called (Took a w)) u in
             let G : Option Varnode → Type 0 = λ g. IfSome g (IsGiven l ranges) in
             subst P (sym ran) (some_meets p call a w x sees so returns k z gives (subst G gives call.gives) behind wide)
 
         -- A call that returns.
         pub call_meets : Records l ws make e x
             → AreWide ws k (answered l ranges k p p.gives make).locals
-            → Meets l ranges look next (called (taken_after e))
+            → Meets l ranges look own next (called (taken_after e))
             (run_all l ws returns (answered l ranges k p p.gives make).statements x)
         call_meets records wide =
             taken_meets (taken_after e) p.gives refl (taken_so e x sees)

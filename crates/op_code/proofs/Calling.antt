@@ -95,7 +95,7 @@ module _
     (s : State M)
     (x : Local)
     (go : s.world.over ≡ None)
-    (sees : Sees l ranges look s x)
+    (sees : Sees l ranges look own s x)
     (n : ℕ)
     (free : length ranges ≤ n)
     (returns' : List Stmt → Bool)
@@ -107,7 +107,7 @@ module _
     done code out vs = step_at m l f (Does i (op_of code out vs)) s
 
     abbrev Meet : Opcode → Option Varnode → List Varnode → Type 0
-    Meet code out vs = Meets l ranges look at (done code out vs)
+    Meet code out vs = Meets l ranges look own at (done code out vs)
         (run_all l ws returns' (op_made l ranges n code out vs).statements x)
 
     -- the state where an event is recorded
@@ -124,22 +124,22 @@ module _
         → AllHave m l ws s y.env vs (reads l ranges n vs).words ns
         → read_all m l f s (all_read vs) ≡ Ok ns
         → Records l ws make (event ns) y × (t ≡ called m l p true (noted (event ns))))
-        → Meets l ranges look at t (run_all l ws returns' (calls l ranges n p (reads l ranges n vs) make).statements x)
+        → Meets l ranges look own at t (run_all l ws returns' (calls l ranges n p (reads l ranges n vs) make).statements x)
     calls_meet p vs make event t call ops wide all does =
         let reading = reads l ranges n vs in
         let k = n + length reading.locals in
         let made = answered l ranges k p p.gives make in
         let rest = λ (ss : List Stmt). returns' (ss ++ made.statements) in
         let y : Local = run_all l ws rest reading.loads x in
-        let r = reads_all m l f look ranges ws is set s go vs rest n x ops free
+        let r = reads_all m l f look own ranges ws is has set s go vs rest n x ops free
         (wide_front ws n reading.locals made.locals wide) sees in
-        let on = goes m l f look ranges ws is set s go y r.sees in
-        let P : Local → Type 0 = λ u. Meets l ranges look at t u in
-        let Q : State M → Type 0 = λ u. Meets l ranges look at u (run_all l ws returns' made.statements y) in
+        let on = goes m l f look own ranges ws is has set s go y r.sees in
+        let P : Local → Type 0 = λ u. Meets l ranges look own at t u in
+        let Q : State M → Type 0 = λ u. Meets l ranges look own at u (run_all l ws returns' made.statements y) in
         let d = does y r.words r.have r.read in
         subst P (sym (run_append l ws returns' reading.loads made.statements x))
         (subst Q (sym d.1)
-        (call_meets m l f look ranges ws is set at s go p call make (event r.words) y on r.sees returns' all k
+        (call_meets m l f look own ranges ws is has set at s go p call make (event r.words) y on r.sees returns' all k
         (omega (arith, free)) d.0 (wide_back ws n reading.locals made.locals wide)))
 
     -- ---- CALL
@@ -157,7 +157,7 @@ module _
         → IsCallable l ranges (proto_of l (callee_at l to.offset))
         → AreWide ws n (call_made b l ranges n to.offset (proto_of l (callee_at l to.offset))).locals
         → ((ss : List Stmt) → returns' ss ≡ true)
-        → Meets l ranges look at (done O.Call None (to ∷ []))
+        → Meets l ranges look own at (done O.Call None (to ∷ []))
         (run_all l ws returns' (call_made b l ranges n to.offset (proto_of l (callee_at l to.offset))).statements x)
     call_by false to returning turn call wide all = absurd (cc)
     call_by true to returning turn call wide all =
@@ -188,7 +188,7 @@ module _
         → AreWide ws n (call_made b l ranges n to.offset (proto_of l (callee_at l to.offset))).locals
         → returns' [] ≡ false
         → ((done O.Call None (to ∷ [])).world.over ≡ Some NoReturn)
-        × Meets l ranges look at (done O.Call None (to ∷ []))
+        × Meets l ranges look own at (done O.Call None (to ∷ []))
         (run_all l ws returns' (call_made b l ranges n to.offset (proto_of l (callee_at l to.offset))).statements x)
     never_by true to returning turn call wide never = absurd (cc)
     never_by false to returning turn call wide never =
@@ -198,14 +198,14 @@ module _
         let one = S.Call None to.offset reading.words in
         let rest = λ (ss : List Stmt). returns' (ss ++ one ∷ []) in
         let y : Local = run_all l ws rest reading.loads x in
-        let r = reads_all m l f look ranges ws is set s go vs rest n x (all_passed l ranges p.args call.args) free
+        let r = reads_all m l f look own ranges ws is has set s go vs rest n x (all_passed l ranges p.args call.args) free
         (wide_front ws n reading.locals [] wide) sees in
-        let on = goes m l f look ranges ws is set s go y r.sees in
+        let on = goes m l f look own ranges ws is has set s go y r.sees in
         let e = Call to.offset r.words in
         let z : Local = code.in_world (recorded e y.world) y in
         let ran = run_one l ws returns' one [] y (ends NoReturn z) on
         (call_ends m l ws s y to.offset vs reading.words r.words (λ c. returns' []) r.have never) in
-        let seen : Sees l ranges look (noted e) z = record {
+        let seen : Sees l ranges look own (noted e) z = record {
           world = ap (recorded e) (r.sees).world;
           holds = (r.sees).holds;
           bytes = (r.sees).bytes;
@@ -214,11 +214,11 @@ module _
         } in
         let stepped = call_step m l f i s to r.words (call_read to r.words call r.read)
         ∙ ap (λ b. called m l p b (noted e)) returning in
-        let P : Local → Type 0 = λ u. Meets l ranges look at (done O.Call None (to ∷ [])) u in
-        let Q : State M → Type 0 = λ u. Meets l ranges look at u (ends NoReturn z) in (
+        let P : Local → Type 0 = λ u. Meets l ranges look own at (done O.Call None (to ∷ [])) u in
+        let Q : State M → Type 0 = λ u. Meets l ranges look own at u (ends NoReturn z) in (
           ap (λ (u : State M). u.world.over) stepped,
           subst P (sym (run_append l ws returns' reading.loads (one ∷ []) x ∙ ran))
-              (subst Q (sym stepped) (ended_meets l ranges look at (noted e) z NoReturn seen)),
+              (subst Q (sym stepped) (ended_meets l ranges look own at (noted e) z NoReturn seen)),
         )
 
     -- Both end behind the event where the callee doesn't return.
@@ -275,39 +275,39 @@ module _
     module _
         (e : Event)
         (y : Local)
-        (seen : Sees l ranges look s y)
+        (seen : Sees l ranges look own s y)
         (make_at : ℕ → Stmt)
         (after : State M)
       where
         abbrev Output : Varnode → Type 0
-        Output z = Computed m l f look ranges ws is set at s go n free z make_at y after
-            ⊎ Failed m l f look ranges ws is set at s go n free make_at y after
+        Output z = Computed m l f look own ranges ws is has set at s go n free z make_at y after
+            ⊎ Failed m l f look own ranges ws is has set at s go n free make_at y after
 
         output_made : (z : Varnode) (t : Taken M)
-            → IsTakenSo m l look is t
+            → IsTakenSo m l look own is has t
             → ((v : ℕ) (q : ℕ → Bool)
             → do_simple l ws q (make_at v) y
             ≡ code.answered ws (Some v) (taken_over look t) (code.in_world (recorded e y.world) y))
             → after ≡ asked_by (Some z) t
             → Output z
         output_made z (Stops w) so does step =
-            let P : State M → Type 0 = λ u. Meets l ranges look at u (code.in_world (seen_over look w) y) in
+            let P : State M → Type 0 = λ u. Meets l ranges look own at u (code.in_world (seen_over look w) y) in
             inr (record {
               to = code.in_world (seen_over look w) y;
               end = so.end;
               over = so.over;
               fails = does;
-              meets = subst P (sym step) (stops_meets m l look is ranges s y seen at w so);
+              meets = subst P (sym step) (stops_meets m l look own is has ranges s y seen at w so);
             })
         output_made z (Took a w) so does step =
-            let to : Local = left_by m l look is a (seen_over look w) y in
+            let to : Local = left_by m l look own is has a (seen_over look w) y in
             inl (record {
               word = a.word % limit z.size;
               below = mod-lt a.word (limit_pos z.size);
               base = in_world w s;
               to = to;
               on = so.over;
-              sees = sees_taken m l look is ranges s y seen a w so;
+              sees = sees_taken m l look own is has ranges s y seen a w so;
               makes = λ v q wide. does v q ∙ ap (λ k. assigned v (a.word % limit k) to) wide;
               step = step;
             })
@@ -315,21 +315,21 @@ module _
     -- without one
     alone_meets : (make : Stmt) (e : Event) (y : Local) (t : Taken M)
         → y.world.over ≡ None
-        → Sees l ranges look s y
-        → IsTakenSo m l look is t
+        → Sees l ranges look own s y
+        → IsTakenSo m l look own is has t
         → ((q : ℕ → Bool)
         → do_simple l ws q make y
         ≡ code.answered ws None (taken_over look t) (code.in_world (recorded e y.world) y))
-        → Meets l ranges look at (asked_by None t) (run_all l ws returns' (make ∷ []) y)
+        → Meets l ranges look own at (asked_by None t) (run_all l ws returns' (make ∷ []) y)
     alone_meets make e y (Stops w) on seen so does =
         let to : Local = code.in_world (seen_over look w) y in
-        let P : Local → Type 0 = λ u. Meets l ranges look at (asked_by None (Stops w)) u in
+        let P : Local → Type 0 = λ u. Meets l ranges look own at (asked_by None (Stops w)) u in
         subst P (sym (run_one l ws returns' make [] y to on (does (λ c. returns' []))))
-        (stops_meets m l look is ranges s y seen at w so)
+        (stops_meets m l look own is has ranges s y seen at w so)
     alone_meets make e y (Took a w) on seen so does =
-        let to : Local = left_by m l look is a (seen_over look w) y in
-        let there = sees_taken m l look is ranges s y seen a w so in
-        let P : Local → Type 0 = λ u. Meets l ranges look at (asked_by None (Took a w)) u in
+        let to : Local = left_by m l look own is has a (seen_over look w) y in
+        let there = sees_taken m l look own is has ranges s y seen a w so in
+        let P : Local → Type 0 = λ u. Meets l ranges look own at (asked_by None (Took a w)) u in
         subst P (sym (run_one l ws returns' make [] y to on (does (λ c. returns' []))))
         (record {
           sees = record {
@@ -345,17 +345,17 @@ module _
     -- whether callees return doesn't matter to it
     other_does : (v : Option ℕ) (index : Varnode) (vs : List Varnode) (y : Local) (ns : List ℕ) (q : ℕ → Bool)
         → AllHave m l ws s y.env vs (reads l ranges n vs).words ns
-        → Sees l ranges look s y
+        → Sees l ranges look own s y
         → (let e = Other index.offset ns in
         do_simple l ws q (S.Other v index.offset (reads l ranges n vs).words) y
-        ≡ code.answered ws v (taken_over look (taken_after m l f look ranges ws is set at s go e))
+        ≡ code.answered ws v (taken_over look (taken_after m l f look own ranges ws is has set at s go e))
         (code.in_world (recorded e y.world) y))
     other_does v index vs y ns q have seen =
         let es = (reads l ranges n vs).words in
         let e = Other index.offset ns in
         other_any m l ws s y index.offset vs es ns v q have
         ∙ ap (λ t. code.answered ws v t (code.in_world (recorded e y.world) y))
-        (takes_same m l look is ranges s y seen e)
+        (takes_same m l look own is has ranges s y seen e)
 
     pub other_meets : (out : Option Varnode) (index : Varnode) (vs : List Varnode)
         → IsPlainOp l ranges O.CallOther out (index ∷ vs)
@@ -366,25 +366,25 @@ module _
         let one = S.Other None index.offset reading.words in
         let rest = λ (ss : List Stmt). returns' (ss ++ one ∷ []) in
         let y : Local = run_all l ws rest reading.loads x in
-        let r = reads_all m l f look ranges ws is set s go vs rest n x h.0 free
+        let r = reads_all m l f look own ranges ws is has set s go vs rest n x h.0 free
         (wide_front ws n reading.locals [] wide) sees in
-        let on = goes m l f look ranges ws is set s go y r.sees in
+        let on = goes m l f look own ranges ws is has set s go y r.sees in
         let e = Other index.offset r.words in
-        let P : Local → Type 0 = λ u. Meets l ranges look at (done O.CallOther None (index ∷ vs)) u in
-        let Q : State M → Type 0 = λ u. Meets l ranges look at u (run_all l ws returns' (one ∷ []) y) in
+        let P : Local → Type 0 = λ u. Meets l ranges look own at (done O.CallOther None (index ∷ vs)) u in
+        let Q : State M → Type 0 = λ u. Meets l ranges look own at u (run_all l ws returns' (one ∷ []) y) in
         subst P (sym (run_append l ws returns' reading.loads (one ∷ []) x))
         (subst Q (sym (other_step m l f i s None index vs r.words r.read))
-        (alone_meets one e y (taken_after m l f look ranges ws is set at s go e) on r.sees
-        (taken_so m l f look ranges ws is set at s go e y r.sees)
+        (alone_meets one e y (taken_after m l f look own ranges ws is has set at s go e) on r.sees
+        (taken_so m l f look own ranges ws is has set at s go e y r.sees)
         (λ q. other_does None index vs y r.words q r.have r.sees)))
     other_meets (Some z) index vs h wide =
         let es = (reads l ranges n vs).words in
         let make : Asking = λ u. S.Other u index.offset es in
         let after = done O.CallOther (Some z) (index ∷ vs) in
-        computes_meets m l f look ranges ws is set at s go n free vs z returns' (λ v. make (Some v)) x after h.1 h.0 wide
+        computes_meets m l f look own ranges ws is has set at s go n free vs z returns' (λ v. make (Some v)) x after h.1 h.0 wide
         sees
         (λ y r. let e = Other index.offset r.words in
-        output_made e y r.sees (λ v. make (Some v)) after z (taken_after m l f look ranges ws is set at s go e)
-        (taken_so m l f look ranges ws is set at s go e y r.sees)
+        output_made e y r.sees (λ v. make (Some v)) after z (taken_after m l f look own ranges ws is has set at s go e)
+        (taken_so m l f look own ranges ws is has set at s go e y r.sees)
         (λ v q. other_does (Some v) index vs y r.words q r.have r.sees)
         (other_step m l f i s (Some z) index vs r.words r.read))

@@ -92,7 +92,7 @@ module _
       pub base : State M
       pub to : Local
       pub on : to.world.over ≡ None
-      pub sees : Sees l ranges look base to
+      pub sees : Sees l ranges look own base to
       pub makes : Makes l ws make z.size word y to
       pub step : t ≡ write_varnode m l (kind_of l z.space) z word (moved next base)
 
@@ -102,7 +102,7 @@ module _
       pub end : End
       pub over : to.world.over ≡ Some end
       pub fails : Fails l ws make y to
-      pub meets : Meets l ranges look next t to
+      pub meets : Meets l ranges look own next t to
 
     sets_meet : (z : Varnode) (returns : List Stmt → Bool) (make : ℕ → Stmt) (k : ℕ) (y : Local) (t : State M)
         → IsOutput l ranges z
@@ -110,24 +110,24 @@ module _
         → AreWide ws k (sets l ranges k (Some z) make).locals
         → y.world.over ≡ None
         → Computed z make y t ⊎ Failed make y t
-        → Meets l ranges look next t (run_all l ws returns (sets l ranges k (Some z) make).statements y)
+        → Meets l ranges look own next t (run_all l ws returns (sets l ranges k (Some z) make).statements y)
     sets_meet z returns make k y t out later wide on made =
         let kind = kind_of l z.space in
         ⊎_elim
         (λ (c : Computed z make y t).
-        let P : State M → Type 0 = λ u. Meets l ranges look next u
+        let P : State M → Type 0 = λ u. Meets l ranges look own next u
         (run_all l ws returns (sets l ranges k (Some z) make).statements y) in
         subst P (sym c.step)
-        (set_meets m l look ranges ws is set next c.base y c.to on c.on c.sees returns make kind k z c.word out.0 out.1
+        (set_meets m l look own ranges ws is has set next c.base y c.to on c.on c.sees returns make kind k z c.word out.0 out.1
         c.below (omega (arith, free, later)) wide c.makes))
         (λ (c : Failed make y t).
-        let P : Local → Type 0 = λ u. Meets l ranges look next t u in
+        let P : Local → Type 0 = λ u. Meets l ranges look own next t u in
         subst P (sym (fail_runs l ranges ws returns make y c.to c.end kind k z on c.over c.fails)) c.meets)
         made
 
     -- what is computed changes nothing else
     pub computed : (z : Varnode) (make : ℕ → Stmt) (y : Local) (t : State M) (word : ℕ)
-        → Sees l ranges look s y
+        → Sees l ranges look own s y
         → word < limit z.size
         → Makes l ws make z.size word y y
         → t ≡ write_varnode m l (kind_of l z.space) z word (moved next s)
@@ -137,7 +137,7 @@ module _
       below = below;
       base = s;
       to = y;
-      on = goes m l f look ranges ws is set s go y sees;
+      on = goes m l f look own ranges ws is has set s go y sees;
       sees = sees;
       makes = makes;
       step = step;
@@ -149,9 +149,9 @@ module _
         → IsOutput l ranges z
         → AllOperands l ranges vs
         → AreWide ws n (computes l ranges n (Some z) (reads l ranges n vs) make).locals
-        → Sees l ranges look s x
-        → ((y : Local) → ReadsAll m l f look ranges ws n vs s x y → Computed z make y t ⊎ Failed make y t)
-        → Meets l ranges look next t
+        → Sees l ranges look own s x
+        → ((y : Local) → ReadsAll m l f look own ranges ws n vs s x y → Computed z make y t ⊎ Failed make y t)
+        → Meets l ranges look own next t
         (run_all l ws returns (computes l ranges n (Some z) (reads l ranges n vs) make).statements x)
     computes_meets vs z returns make x t out ops wide sees made =
         let reading = reads l ranges n vs in
@@ -159,23 +159,23 @@ module _
         let setting = sets l ranges k (Some z) make in
         let rest = λ (ss : List Stmt). returns (ss ++ setting.statements) in
         let y : Local = run_all l ws rest reading.loads x in
-        let r = reads_all m l f look ranges ws is set s go vs rest n x ops free
+        let r = reads_all m l f look own ranges ws is has set s go vs rest n x ops free
         (wide_front ws n reading.locals setting.locals wide) sees in
-        let P : Local → Type 0 = λ u. Meets l ranges look next t u in
+        let P : Local → Type 0 = λ u. Meets l ranges look own next t u in
         subst P (sym (run_append l ws returns reading.loads setting.statements x))
         (sets_meet z returns make k y t out (omega arith) (wide_back ws n reading.locals setting.locals wide)
-        (goes m l f look ranges ws is set s go y r.sees) (made y r))
+        (goes m l f look own ranges ws is has set s go y r.sees) (made y r))
 
     -- Two operands are read, the address in a space and what is stored there.
     pub stores_meet : (at : ℕ) (v w : Varnode) (returns : List Stmt → Bool) (x : Local) (t : State M)
         → IsMemory l at
         → AllOperands l ranges (v ∷ w ∷ [])
         → AreWide ws n (stores l at v.size (reads l ranges n (v ∷ w ∷ []))).locals
-        → Sees l ranges look s x
+        → Sees l ranges look own s x
         → ((a b : ℕ)
         → read_all m l f s (all_read (v ∷ w ∷ [])) ≡ Ok (a ∷ b ∷ [])
         → t ≡ in_world (store m at (byte_address l at a) (bytes_in l at w.size b) s.world) (moved next s))
-        → Meets l ranges look next t
+        → Meets l ranges look own next t
         (run_all l ws returns (stores l at v.size (reads l ranges n (v ∷ w ∷ []))).statements x)
     stores_meet at v w returns x t mem ops wide sees step =
         let reading = reads l ranges n (v ∷ w ∷ []) in
@@ -184,9 +184,9 @@ module _
         let one = S.Store (name_of l at) (address l at v.size d) e in
         let rest = λ (ss : List Stmt). returns (ss ++ one ∷ []) in
         let y : Local = run_all l ws rest reading.loads x in
-        let r = reads_all m l f look ranges ws is set s go (v ∷ w ∷ []) rest n x ops free
+        let r = reads_all m l f look own ranges ws is has set s go (v ∷ w ∷ []) rest n x ops free
         (wide_front ws n reading.locals [] wide) sees in
-        let on = goes m l f look ranges ws is set s go y r.sees in
+        let on = goes m l f look own ranges ws is has set s go y r.sees in
         let o = two_of m l ws s y.env v w d e r.words r.have in
         let bytes = bytes_in l at w.size o.second in
         let to = byte_address l at o.first in
@@ -194,8 +194,8 @@ module _
         let ran = run_one l ws returns one [] y u on
         (store_runs l ws (λ c. returns []) at mem w.size o.second to (address l at v.size d) e y
         (address_points ws y.env l at v.size o.first d mem ops.0.0.0 ops.0.0.1 o.has.means) o.also.means) in
-        let P : Local → Type 0 = λ z. Meets l ranges look next t z in
-        let Q : State M → Type 0 = λ z. Meets l ranges look next z u in
+        let P : Local → Type 0 = λ z. Meets l ranges look own next t z in
+        let Q : State M → Type 0 = λ z. Meets l ranges look own next z u in
         subst P (sym (run_append l ws returns reading.loads (one ∷ []) x ∙ ran))
         (subst Q (sym (step o.first o.second (r.read ∙ ap (λ q. Ok q) o.are)))
-        (store_meets m l look is ranges next at to w.size o.second s y r.sees))
+        (store_meets m l look own is has ranges next at to w.size o.second s y r.sees))

@@ -3,8 +3,9 @@ use Rattle.std.proofs.Common.{◌≡◌, ℕ, ◌+◌, List, ◌∷◌, ◌++◌
 use Rattle.std.proofs.lemmas.List.{length-append}
 use Rattle.pcode_model.specs.declared.listing.Varnode.{Varnode}
 use Rattle.pcode_model.specs.declared.listing.Listing.{Listing}
+use Rattle.pcode_model.specs.Step.{Operand}
 use Rattle.blockcode.specs.declared.code.Variable.{Variable}
-use Rattle.op_code.specs.Made.{Read, read_one, reads}
+use Rattle.op_code.specs.Made.{Own, read_operand, reads, with_more}
 
 -- the number behind the variables of then
 pub grown_length : (variables then locals : List Variable)
@@ -12,19 +13,11 @@ pub grown_length : (variables then locals : List Variable)
     → length variables + length locals ≡ length then
 grown_length variables then locals grown = sym (length-append variables locals) ∙ ap length (sym grown)
 
-module _ (l : Listing) (ranges : List Varnode) (variables then : List Variable) where
-  pub reads_from : (v : Varnode) (vs : List Varnode)
-      → then ≡ variables ++ (read_one l ranges (length variables) v).locals
-      → reads l ranges (length variables) (v ∷ vs) ≡ record {
-        loads = (read_one l ranges (length variables) v).loads ++ (reads l ranges (length then) vs).loads;
-        words = (read_one l ranges (length variables) v).word ∷ (reads l ranges (length then) vs).words;
-        locals = (read_one l ranges (length variables) v).locals ++ (reads l ranges (length then) vs).locals;
-      }
-  reads_from v vs grown =
-      let here = read_one l ranges (length variables) v in
-      let all : ℕ → Read = λ n. record {
-        loads = here.loads ++ (reads l ranges n vs).loads;
-        words = here.word ∷ (reads l ranges n vs).words;
-        locals = here.locals ++ (reads l ranges n vs).locals;
-      } in
-      ap all (grown_length variables then here.locals grown)
+module _ (l : Listing) (own : Own) (ranges : List Varnode) (variables then : List Variable) where
+  pub reads_from : (x : Operand) (xs : List Operand)
+      → then ≡ variables ++ (read_operand l own ranges (length variables) x).locals
+      → reads l own ranges (length variables) (x ∷ xs)
+      ≡ with_more (read_operand l own ranges (length variables) x) (reads l own ranges (length then) xs)
+  reads_from x xs grown =
+      let here = read_operand l own ranges (length variables) x in
+      ap (λ n. with_more here (reads l own ranges n xs)) (grown_length variables then here.locals grown)

@@ -8,6 +8,7 @@ pub mod Atoms
 pub mod WorkedCovers
 pub mod Each
 pub mod Entering
+pub mod Frames
 pub mod Joined
 pub mod Numbers
 pub mod Operands

@@ -78,7 +78,7 @@ pub record ReadsBy {M : Type 0} (m : Acts M) (l : Listing) (look : M → Bytes) 
       → Holds l ranges s.local env
       → ((j : ℕ) → j < n + length (read_by k l ranges n v).locals → env j ≡ y.env j)
       → Has m l ws s env k v (read_by k l ranges n v).word word
-  pub sees : Sees l ranges look s y
+  pub sees : Sees l ranges look own s y
   pub kept : (j : ℕ) → j < n → y.env j ≡ x.env j
 
 -- After the loads of all, from x to y, they have words.
@@ -87,7 +87,7 @@ pub record ReadsAll {M : Type 0} (m : Acts M) (l : Listing) (f : Frame) (look : 
   pub words : List ℕ
   pub read : read_all m l f s (all_read vs) ≡ Ok words
   pub have : AllHave m l ws s y.env vs (reads l ranges n vs).words words
-  pub sees : Sees l ranges look s y
+  pub sees : Sees l ranges look own s y
   pub kept : (j : ℕ) → j < n → y.env j ≡ x.env j
 
 module _
@@ -103,7 +103,7 @@ module _
     (s : State M)
     (go : s.world.over ≡ None)
   where
-    pub goes : (x : Local) → Sees l ranges look s x → x.world.over ≡ None
+    pub goes : (x : Local) → Sees l ranges look own s x → x.world.over ≡ None
     goes x sees = ap (λ w. w.over) (sym sees.world) ∙ go
 
     -- what stands for a range has its word
@@ -121,8 +121,8 @@ module _
         → IsDirect l v
         → length ranges ≤ n
         → ws n ≡ v.size
-        → Sees l ranges look s x
-        → ReadsBy m l look ranges ws Ram n v s x
+        → Sees l ranges look own s x
+        → ReadsBy m l look own ranges ws Ram n v s x
         (assigned n (word_in_bytes l v.space v.offset v.size x.world.memory) x)
     loads_by n v x narrow direct behind wide sees =
         let mem : look s.world.memory ≡ x.world.memory = ap (λ w. w.memory) sees.world in
@@ -134,13 +134,13 @@ module _
           word = w;
           has = λ env holds agree. record {
             below = subst P same (word_below l v.space v.offset v.size (look s.world.memory) sees.memory);
-            read = read_is m l look is v.space v.offset v.size s.world.memory ∙ ap (λ a. Ok a) same;
+            read = read_is m l look own is has v.space v.offset v.size s.world.memory ∙ ap (λ a. Ok a) same;
             means = record {
               width = width_of_var ws n ∙ wide;
               value = value_of_var ws env n ∙ agree n (omega arith) ∙ put_at x.env n (Some w);
             };
           };
-          sees = sees_local l ranges look s x n w behind sees;
+          sees = sees_local l ranges look own s x n w behind sees;
           kept = λ j lt. put_else x.env n (Some w) j (λ e. omega (arith, lt, e));
         }
 
@@ -149,8 +149,8 @@ module _
         → IsOperandBy k l ranges v
         → length ranges ≤ n
         → AreWide ws n (read_by k l ranges n v).locals
-        → Sees l ranges look s x
-        → ReadsBy m l look ranges ws k n v s x (run_all l ws returns (read_by k l ranges n v).loads x)
+        → Sees l ranges look own s x
+        → ReadsBy m l look own ranges ws k n v s x (run_all l ws returns (read_by k l ranges n v).loads x)
     reads_by Constant returns n v x narrow h behind wide sees = record {
       word = v.offset;
       has = λ env holds agree. record {
@@ -168,7 +168,7 @@ module _
         (goes x sees)
         (load_runs l ws (λ c. returns []) v.space h.0 n v.size v.offset (address_of l v) x k
         (direct_points ws x.env l v h)) in
-        let P : Local → Type 0 = λ y. ReadsBy m l look ranges ws Ram n v s x y in
+        let P : Local → Type 0 = λ y. ReadsBy m l look own ranges ws Ram n v s x y in
         subst P (sym ran) (loads_by n v x narrow h behind k sees)
     reads_by Register returns n v x narrow h behind wide sees = record {
       word = local_word l v s.local;
@@ -196,8 +196,8 @@ module _
         → AllOperands l ranges vs
         → length ranges ≤ n
         → AreWide ws n (reads l ranges n vs).locals
-        → Sees l ranges look s x
-        → ReadsAll m l f look ranges ws n vs s x (run_all l ws returns (reads l ranges n vs).loads x)
+        → Sees l ranges look own s x
+        → ReadsAll m l f look own ranges ws n vs s x (run_all l ws returns (reads l ranges n vs).loads x)
     reads_all [] returns n x h behind wide sees =
         record { words = []; read = refl; have = tt; sees = sees; kept = λ j lt. refl }
     reads_all (v ∷ vs) returns n x h behind wide sees =
@@ -212,7 +212,7 @@ module _
         (wide_back ws n one.locals rest.locals wide) r.sees in
         let z : Local = run_all l ws returns rest.loads y in
         let has = r.has z.env q.sees.holds q.kept in
-        let P : Local → Type 0 = λ t. ReadsAll m l f look ranges ws n (v ∷ vs) s x t in
+        let P : Local → Type 0 = λ t. ReadsAll m l f look own ranges ws n (v ∷ vs) s x t in
         subst P (sym (run_append l ws returns one.loads rest.loads x)) (record {
           words = r.word ∷ q.words;
           read = ap (λ a. with_first a (read_all m l f s (all_read vs))) has.read

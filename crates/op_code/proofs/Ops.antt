@@ -155,7 +155,7 @@ module _
     (x : Local)
     (go : s.world.over ≡ None)
     (unframed : f.own s.at 0 ≡ None)
-    (sees : Sees l ranges look s x)
+    (sees : Sees l ranges look own s x)
     (n : ℕ)
     (free : length ranges ≤ n)
     (returns : List Stmt → Bool)
@@ -168,7 +168,7 @@ module _
     done code out vs = step_at m l f (Does i (op_of code out vs)) s
 
     abbrev Meet : Opcode → Option Varnode → List Varnode → Type 0
-    Meet code out vs = Meets l ranges look at (done code out vs)
+    Meet code out vs = Meets l ranges look own at (done code out vs)
         (run_all l ws returns (op_made l ranges n code out vs).statements x)
 
     unary_meets : (op : Unary) (z v : Varnode)
@@ -179,8 +179,8 @@ module _
         let d = word_at (reads l ranges n (v ∷ [])) 0 in
         let node = unary_node op z.size d in
         let small = h.1.1.0 in
-        let made = computed m l f look ranges ws is set at s go n free in
-        computes_meets m l f look ranges ws is set at s go n free (v ∷ []) z returns
+        let made = computed m l f look own ranges ws is has set at s go n free in
+        computes_meets m l f look own ranges ws is has set at s go n free (v ∷ []) z returns
         (λ u. S.Assign u node) x (done (O.Unary op) (Some z) (v ∷ [])) h.1.1
         (h.1.0, tt) wide
         sees
@@ -203,8 +203,8 @@ module _
         let e = word_at reading 1 in
         let node = binary_node op v.size w.offset z.size d e in
         let small = h.1.1.0 in
-        let made = computed m l f look ranges ws is set at s go n free in
-        computes_meets m l f look ranges ws is set at s go n free (v ∷ w ∷ []) z returns
+        let made = computed m l f look own ranges ws is has set at s go n free in
+        computes_meets m l f look own ranges ws is has set at s go n free (v ∷ w ∷ []) z returns
         (λ u. S.Assign u node) x (done (O.Binary op) (Some z) (v ∷ w ∷ [])) h.1.1
         (h.1.0.0, (h.1.0.1, tt)) wide sees
         (λ y r.
@@ -230,8 +230,8 @@ module _
         let t = divides_at (kind_of l w.space) op w in
         let small = h.1.1.0 in
         let there = done (O.Divide op) (Some z) (v ∷ w ∷ []) in
-        let made = computed m l f look ranges ws is set at s go n free in
-        computes_meets m l f look ranges ws is set at s go n free (v ∷ w ∷ []) z returns
+        let made = computed m l f look own ranges ws is has set at s go n free in
+        computes_meets m l f look own ranges ws is has set at s go n free (v ∷ w ∷ []) z returns
         (divides l op w d e) x (done (O.Divide op) (Some z) (v ∷ w ∷ [])) h.1.1
         (h.1.0.0, (h.1.0.1, tt)) wide sees
         (λ y r.
@@ -250,14 +250,14 @@ module _
         ⊎_elim
         (λ (zero : b ≡ 0).
         let none : divide_value op z.size a b ≡ None = ap (divide_value op z.size a) zero ∙ divide_none op z.size a in
-        let P : State M → Type 0 = λ u. Meets l ranges look at u (ends DivZero y) in
+        let P : State M → Type 0 = λ u. Meets l ranges look own at u (ends DivZero y) in
         inr (record {
           to = ends DivZero y;
           end = DivZero;
           over = refl;
           fails = divides_none_by l ws y op w z.size a b d e means also t refl fixed near none zero;
           meets = subst P (sym (divide_ends m l f i s op z v w a b read none))
-              (ended_meets l ranges look at s y DivZero r.sees);
+              (ended_meets l ranges look own at s y DivZero r.sees);
         }))
         (λ (some : b ≢ 0).
         inl (made z (divides l op w d e) y there (quotient_or_rest op z.size a b) r.sees
@@ -275,8 +275,8 @@ module _
         let d = word_at (reads l ranges n (v ∷ [])) 0 in
         let e = address l from.offset v.size d in
         let there = done O.Load (Some z) (from ∷ v ∷ []) in
-        let made = computed m l f look ranges ws is set at s go n free in
-        computes_meets m l f look ranges ws is set at s go n free (v ∷ []) z returns
+        let made = computed m l f look own ranges ws is has set at s go n free in
+        computes_meets m l f look own ranges ws is has set at s go n free (v ∷ []) z returns
         (λ u. S.Load u (name_of l from.offset) e) x there h.1.1 (h.1.0, tt) wide sees
         (λ y r.
         let o = one_of m l ws s y.env v d r.words r.have in
@@ -303,23 +303,23 @@ module _
         → turn_of l code vs ≡ GoesOn
         → AreWide ws n (op_made l ranges n code out vs).locals
         → ((ss : List Stmt) → returns ss ≡ true)
-        → Meets l ranges look (next_place i s.at.index) (step_at m l f (Does i (op_of code out vs)) s)
+        → Meets l ranges look own (next_place i s.at.index) (step_at m l f (Does i (op_of code out vs)) s)
         (run_all l ws returns (op_made l ranges n code out vs).statements x)
     op_meets (O.Unary op) (Some z) (v ∷ []) h turn wide all = unary_meets op z v h wide
     op_meets (O.Binary op) (Some z) (v ∷ w ∷ []) h turn wide all = binary_meets op z v w h wide
     op_meets (O.Divide op) (Some z) (v ∷ w ∷ []) h turn wide all = divide_meets op z v w h wide
     op_meets O.Load (Some z) (from ∷ v ∷ []) h turn wide all = load_meets z from v h wide
     op_meets O.Store None (to ∷ v ∷ w ∷ []) h turn wide all =
-        stores_meet m l f look ranges ws is set at s go n free to.offset v w returns x
+        stores_meet m l f look own ranges ws is has set at s go n free to.offset v w returns x
         (done O.Store None (to ∷ v ∷ w ∷ [])) h.0 (h.1.0, (h.1.1, tt)) wide sees
         (λ a b read. store_step m l f i s to v w a b read unframed)
     op_meets O.Call None (to ∷ []) h turn wide all =
         let goes = call_goes to (does_return (callee_at l to.offset)) refl turn in
-        returning_meets m l f look ranges ws is set i s x go sees n free returns to h goes wide all
+        returning_meets m l f look own ranges ws is has set i s x go sees n free returns to h goes wide all
     op_meets O.CallInd None (to ∷ []) h turn wide all =
-        indirect_meets m l f look ranges ws is set i s x go sees n free returns to h wide all
+        indirect_meets m l f look own ranges ws is has set i s x go sees n free returns to h wide all
     op_meets O.CallOther out (index ∷ vs) h turn wide all =
-        other_meets m l f look ranges ws is set i s x go sees n free returns out index vs h wide
+        other_meets m l f look own ranges ws is has set i s x go sees n free returns out index vs h wide
     op_meets O.Branch out vs h turn wide all = absurd (cc)
     op_meets O.CBranch out vs h turn wide all = absurd (cc)
     op_meets O.Return out vs h turn wide all = absurd (cc)

@@ -57,9 +57,9 @@ fail_runs l ranges ws returns make x y e k t z go over fails =
 -- Both have ended.
 pub ended_meets : {M : Type 0} (l : Listing) (ranges : List Varnode) (look : M → Bytes) (next : Place) (s : State M)
     (x : Local) (e : End)
-    → Sees l ranges look s x
-    → Meets l ranges look next (in_world (ended e s.world) s) (ends e x)
-ended_meets l ranges look next s x e sees = record {
+    → Sees l ranges look own s x
+    → Meets l ranges look own next (in_world (ended e s.world) s) (ends e x)
+ended_meets l ranges look own next s x e sees = record {
   sees = record {
     world = ap (ended e) sees.world;
     holds = sees.holds;
@@ -98,7 +98,7 @@ module _
     (x y : Local)
     (go : x.world.over ≡ None)
     (on : y.world.over ≡ None)
-    (sees : Sees l ranges look s y)
+    (sees : Sees l ranges look own s y)
     (returns : List Stmt → Bool)
     (make : ℕ → Stmt)
   where
@@ -111,7 +111,7 @@ module _
         → AreWide ws t (local_for (cover ranges z) z)
         → Makes l ws make z.size n x y
         → (let there : State M = record { at = next; local = with_word l z n s.local; world = s.world } in
-        Meets l ranges look next there
+        Meets l ranges look own next there
         (run_all l ws returns (make (target ranges t z) ∷ write_range (is_big l z.space) ranges z t) x))
     range_meets t z n narrow h below behind wide makes =
         let v = target ranges t z in
@@ -121,7 +121,7 @@ module _
         let ran = run_one l ws returns (make v) parts x (assigned v n y) go (makes v (λ c. returns parts) width) in
         let wrote = write_wrote l ranges set.table ws returns z narrow.0 narrow.1 n below t s.local y h
         (slice_get_past ranges t behind) width sees.holds on in
-        let P : Local → Type 0 = λ u. Meets l ranges look next there u in
+        let P : Local → Type 0 = λ u. Meets l ranges look own next there u in
         subst P (sym ran) (record {
           sees = record {
             world = sees.world ∙ sym wrote.world;
@@ -140,7 +140,7 @@ module _
         → length ranges ≤ t
         → ws t ≡ z.size
         → Makes l ws make z.size n x y
-        → Meets l ranges look next
+        → Meets l ranges look own next
         (in_world (store m z.space z.offset (bytes_in l z.space z.size n) s.world) (moved next s))
         (run_all l ws returns (make t ∷ S.Store (name_of l z.space) (address_of l z) (E.Var t) ∷ []) x)
     memory_meets t z n narrow h behind wide makes =
@@ -155,11 +155,11 @@ module _
         let second = run_one l ws returns to [] u w on
         (store_runs l ws (λ c. returns []) z.space h.0 z.size n z.offset (address_of l z) (E.Var t) u
         (direct_points ws u.env l z h) held) in
-        let P : Local → Type 0 = λ u. Meets l ranges look next
+        let P : Local → Type 0 = λ u. Meets l ranges look own next
         (in_world (store m z.space z.offset (bytes_in l z.space z.size n) s.world) (moved next s)) u in
         subst P (sym (first ∙ second))
-        (store_meets m l look is ranges next z.space z.offset z.size n s u
-        (sees_local l ranges look s y t n behind sees))
+        (store_meets m l look own is has ranges next z.space z.offset z.size n s u
+        (sees_local l ranges look own s y t n behind sees))
 
     -- A word is written to an output.
     pub set_meets : (k : SpaceKind) (t : ℕ) (z : Varnode) (n : ℕ)
@@ -169,7 +169,7 @@ module _
         → length ranges ≤ t
         → AreWide ws t (set_by k l ranges t z make).locals
         → Makes l ws make z.size n x y
-        → Meets l ranges look next (write_varnode m l k z n (moved next s))
+        → Meets l ranges look own next (write_varnode m l k z n (moved next s))
         (run_all l ws returns (set_by k l ranges t z make).statements x)
     set_meets Constant t z n narrow h below behind wide makes = absurd h
     set_meets Ram t z n narrow h below behind wide makes =

@@ -117,16 +117,16 @@ module _ {M : Type 0} (m : Acts M) (l : Listing) (look : M → Bytes) (is : AsBy
   abbrev pub left_by : Answer → World Bytes → Local → Local
   left_by a w x = record { env = x.env; left = a.registers; world = w }
 
-  module _ (ranges : List _) (s : State M) (x : Local) (sees : Sees l ranges look s x) where
+  module _ (ranges : List _) (s : State M) (x : Local) (sees : Sees l ranges look own s x) where
     -- The code takes the same answer.
     pub takes_same : (e : Event)
         → take_answer (plain l) (recorded e x.world) ≡ taken_over look (take_answer m (recorded e s.world))
     takes_same e =
-        ap (λ w. take_answer (plain l) (recorded e w)) (sym sees.world) ∙ sym (takes_over m l look is (recorded e s.world))
+        ap (λ w. take_answer (plain l) (recorded e w)) (sym sees.world) ∙ sym (takes_over m l look own is has (recorded e s.world))
 
     pub sees_taken : (a : Answer) (w : World M)
         → IsTaken a w
-        → Sees l ranges look (in_world w s) (left_by a (seen_over look w) x)
+        → Sees l ranges look own (in_world w s) (left_by a (seen_over look w) x)
     sees_taken a w taken = record {
       world = refl;
       holds = sees.holds;
@@ -137,7 +137,7 @@ module _ {M : Type 0} (m : Acts M) (l : Listing) (look : M → Bytes) (is : AsBy
 
     pub stops_meets : (next : Place) (w : World M)
         → IsStopped w
-        → Meets l ranges look next (in_world w (moved next s)) (code.in_world (seen_over look w) x)
+        → Meets l ranges look own next (in_world w (moved next s)) (code.in_world (seen_over look w) x)
     stops_meets next w stopped = record {
       sees = record {
         world = refl;

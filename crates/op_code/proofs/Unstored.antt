@@ -1,5 +1,5 @@
 -- The locals of the plain lowering are no parameters: they have no storage.
-use Rattle.std.proofs.Common.{◌≡◌, ℕ, ◌+◌, Bool, true, false, List, [], ◌∷◌, ◌++◌, drop, length, Option, Some, None, refl}
+use Rattle.std.proofs.Common.{◌≡◌, ℕ, zero, suc, ◌+◌, Bool, true, false, List, [], ◌∷◌, ◌++◌, drop, length, Option, Some, None, refl}
 use Rattle.std.specs.Prelude.{◌==◌, cond}
 use Rattle.pcode_model.specs.declared.listing.SpaceKind.{SpaceKind}
 use Rattle.pcode_model.specs.declared.listing.SpaceKind.TheVariants.{Constant, Ram, Register, Unique}
@@ -15,13 +15,13 @@ use Rattle.pcode_model.specs.declared.flow.Block as flow_block
 use Rattle.pcode_model.specs.Places.{Standing, Nothing, Passes, Does, standing}
 use Rattle.pcode_model.specs.Spaces.{kind_of}
 use Rattle.pcode_model.specs.Rules.{past_first}
-use Rattle.pcode_model.specs.Step.{callee_at, proto_of, returns, varnode_at}
+use Rattle.pcode_model.specs.Step.{Operand, Reads, ReadsStack, all_read, arguments, callee_at, proto_of, returns, varnode_at}
+use Rattle.range_words.specs.Own.{frame_range}
 use Rattle.cmeaning.specs.declared.tree.Stmt.TheVariants as S
 use Rattle.blockcode.specs.declared.code.Exit.TheVariants as X
 use Rattle.blockcode.specs.declared.code.Variable.{Variable}
 use Rattle.op_code.specs.Cover.{Piece, cover}
-use Rattle.op_code.specs.Left.{argument_ranges}
-use Rattle.op_code.specs.Made.{Asking, Made, Read, ReadOne, answered, behind, call_made, calls, indirect_read, local_for, locals_by, op_made, passed, read_by, read_one, reads, word_at}
+use Rattle.op_code.specs.Made.{Asking, Made, Own, Read, ReadOne, answered, behind, call_made, calls, gives_back, indirect_read, loads_by, local_for, locals_by, none_own, one_read, op_made, passed, pops, pops_by, read_by, read_operand, read_stack, reads, stores_by, word_at}
 use Rattle.op_code.specs.Lowered.{block_made, blocks_made, condition_in, directly, made_in, place_made, places_made, tests, way_out}
 
 abbrev pub AreUnstored : List Variable → Type 0
@@ -39,13 +39,21 @@ module _ (l : Listing) (ranges : List Varnode) where
   read_unstored Register next v = tt
   read_unstored Unique next v = tt
 
-  reads_unstored : (next : ℕ) (vs : List Varnode) → AreUnstored (reads l ranges next vs).locals
-  reads_unstored next [] = tt
-  reads_unstored next (v ∷ vs) =
-      let one = read_one l ranges next v in
+  stack_unstored : (o : Option ℕ) (next offset size : ℕ) → AreUnstored (read_stack o l ranges next offset size).locals
+  stack_unstored None next offset size = (refl, tt)
+  stack_unstored (Some c) next offset size = tt
+
+  operand_unstored : (own : Own) (next : ℕ) (x : Operand) → AreUnstored (read_operand l own ranges next x).locals
+  operand_unstored own next (Reads v) = read_unstored (kind_of l v.space) next v
+  operand_unstored own next (ReadsStack n offset size) = stack_unstored (own n) next offset size
+
+  reads_unstored : (own : Own) (next : ℕ) (xs : List Operand) → AreUnstored (reads l own ranges next xs).locals
+  reads_unstored own next [] = tt
+  reads_unstored own next (x ∷ xs) =
+      let one = read_operand l own ranges next x in
       let free = next + length one.locals in
-      unstored_append one.locals (reads l ranges free vs).locals (read_unstored (kind_of l v.space) next v)
-      (reads_unstored free vs)
+      unstored_append one.locals (reads l own ranges free xs).locals (operand_unstored own next x)
+      (reads_unstored own free xs)
 
   local_unstored : (ps : List Piece) (z : Varnode) → AreUnstored (local_for ps z)
   local_unstored [] z = (refl, tt)
@@ -59,14 +67,14 @@ module _ (l : Listing) (ranges : List Varnode) where
   output_unstored Unique z = local_unstored (cover ranges z) z
 
   -- what is read alone, and with an output
-  alone : (next : ℕ) (vs : List Varnode) → AreUnstored ((reads l ranges next vs).locals ++ [])
-  alone next vs = unstored_append (reads l ranges next vs).locals [] (reads_unstored next vs) tt
+  alone : (own : Own) (next : ℕ) (xs : List Operand) → AreUnstored ((reads l own ranges next xs).locals ++ [])
+  alone own next xs = unstored_append (reads l own ranges next xs).locals [] (reads_unstored own next xs) tt
 
-  with_output : (next : ℕ) (vs : List Varnode) (z : Varnode)
-      → AreUnstored ((reads l ranges next vs).locals ++ locals_by (kind_of l z.space) ranges z)
-  with_output next vs z =
-      unstored_append (reads l ranges next vs).locals (locals_by (kind_of l z.space) ranges z) (reads_unstored next vs)
-      (output_unstored (kind_of l z.space) z)
+  with_output : (next : ℕ) (xs : List Operand) (z : Varnode)
+      → AreUnstored ((reads l none_own ranges next xs).locals ++ locals_by (kind_of l z.space) ranges z)
+  with_output next xs z =
+      unstored_append (reads l none_own ranges next xs).locals (locals_by (kind_of l z.space) ranges z)
+      (reads_unstored none_own next xs) (output_unstored (kind_of l z.space) z)
 
   -- behind what is read
   behind_unstored : (r : Read) (m : Made)
@@ -75,10 +83,22 @@ module _ (l : Listing) (ranges : List Varnode) where
       → AreUnstored (behind r m).locals
   behind_unstored r m h g = unstored_append r.locals m.locals h g
 
+  gives_unstored : (next : ℕ) (p : Proto) (gives : Option Varnode) (make : Asking)
+      → AreUnstored (gives_back l ranges next p gives make).locals
+  gives_unstored next p None make = tt
+  gives_unstored next p (Some z) make = local_unstored (cover ranges z) z
+
+  pops_unstored : (stack : Option Varnode) (k next : ℕ) → AreUnstored (pops_by stack k l ranges next).locals
+  pops_unstored None k next = tt
+  pops_unstored (Some sp) zero next = tt
+  pops_unstored (Some sp) (suc k) next = local_unstored (cover ranges sp) sp
+
   answered_unstored : (next : ℕ) (p : Proto) (gives : Option Varnode) (make : Asking)
       → AreUnstored (answered l ranges next p gives make).locals
-  answered_unstored next p None make = tt
-  answered_unstored next p (Some z) make = local_unstored (cover ranges z) z
+  answered_unstored next p gives make =
+      let back = gives_back l ranges next p gives make in
+      unstored_append back.locals (pops l ranges (next + length back.locals) p).locals
+      (gives_unstored next p gives make) (pops_unstored l.stack p.pop (next + length back.locals))
 
   calls_unstored : (next : ℕ) (p : Proto) (r : Read) (make : Asking)
       → AreUnstored r.locals
@@ -87,39 +107,58 @@ module _ (l : Listing) (ranges : List Varnode) where
       let free = next + length r.locals in
       behind_unstored r (answered l ranges free p p.gives make) h (answered_unstored free p p.gives make)
 
-  call_unstored : (t : Bool) (next a : ℕ) (p : Proto) → AreUnstored (call_made t l ranges next a p).locals
-  call_unstored true next a p =
-      let r = passed l ranges next p in
-      calls_unstored next p r (λ v. S.Call v a r.words) (reads_unstored next (argument_ranges p.args))
-  call_unstored false next a p = alone next (argument_ranges p.args)
+  call_unstored : (own : Own) (t : Bool) (next a : ℕ) (p : Proto)
+      → AreUnstored (call_made t l own ranges next a p).locals
+  call_unstored own true next a p =
+      let r = passed l own ranges next p in
+      calls_unstored next p r (λ v. S.Call v a r.words) (reads_unstored own next (arguments 0 p.args))
+  call_unstored own false next a p = alone own next (arguments 0 p.args)
 
-  op_unstored : (next : ℕ) (code : Opcode) (out : Option Varnode) (vs : List Varnode)
-      → AreUnstored (op_made l ranges next code out vs).locals
-  op_unstored next (O.Unary op) None vs = alone next (varnode_at vs 0 ∷ [])
-  op_unstored next (O.Unary op) (Some z) vs = with_output next (varnode_at vs 0 ∷ []) z
-  op_unstored next (O.Binary op) None vs = alone next (varnode_at vs 0 ∷ varnode_at vs 1 ∷ [])
-  op_unstored next (O.Binary op) (Some z) vs = with_output next (varnode_at vs 0 ∷ varnode_at vs 1 ∷ []) z
-  op_unstored next (O.Divide op) None vs = alone next (varnode_at vs 0 ∷ varnode_at vs 1 ∷ [])
-  op_unstored next (O.Divide op) (Some z) vs = with_output next (varnode_at vs 0 ∷ varnode_at vs 1 ∷ []) z
-  op_unstored next O.Load None vs = alone next (varnode_at vs 1 ∷ [])
-  op_unstored next O.Load (Some z) vs = with_output next (varnode_at vs 1 ∷ []) z
-  op_unstored next O.Store out vs = alone next (varnode_at vs 1 ∷ varnode_at vs 2 ∷ [])
-  op_unstored next O.Call out vs =
+  load_unstored : (o : Option ℕ) (next : ℕ) (out : Option Varnode) (vs : List Varnode)
+      → AreUnstored (loads_by o l ranges next out vs).locals
+  load_unstored None next None vs = alone none_own next (Reads (varnode_at vs 1) ∷ [])
+  load_unstored None next (Some z) vs = with_output next (Reads (varnode_at vs 1) ∷ []) z
+  load_unstored (Some c) next None vs = tt
+  load_unstored (Some c) next (Some z) vs = output_unstored (kind_of l z.space) z
+
+  store_unstored : (o : Option ℕ) (next : ℕ) (vs : List Varnode) → AreUnstored (stores_by o l ranges next vs).locals
+  store_unstored None next vs = alone none_own next (Reads (varnode_at vs 1) ∷ Reads (varnode_at vs 2) ∷ [])
+  store_unstored (Some c) next vs =
+      let r = one_read l ranges next vs 2 in
+      let z = frame_range l c (varnode_at vs 2).size in
+      unstored_append r.locals (local_for (cover ranges z) z)
+      (reads_unstored none_own next (Reads (varnode_at vs 2) ∷ [])) (local_unstored (cover ranges z) z)
+
+  op_unstored : (own : Own) (next : ℕ) (code : Opcode) (out : Option Varnode) (vs : List Varnode)
+      → AreUnstored (op_made l own ranges next code out vs).locals
+  op_unstored own next (O.Unary op) None vs = alone none_own next (Reads (varnode_at vs 0) ∷ [])
+  op_unstored own next (O.Unary op) (Some z) vs = with_output next (Reads (varnode_at vs 0) ∷ []) z
+  op_unstored own next (O.Binary op) None vs =
+      alone none_own next (Reads (varnode_at vs 0) ∷ Reads (varnode_at vs 1) ∷ [])
+  op_unstored own next (O.Binary op) (Some z) vs =
+      with_output next (Reads (varnode_at vs 0) ∷ Reads (varnode_at vs 1) ∷ []) z
+  op_unstored own next (O.Divide op) None vs =
+      alone none_own next (Reads (varnode_at vs 0) ∷ Reads (varnode_at vs 1) ∷ [])
+  op_unstored own next (O.Divide op) (Some z) vs =
+      with_output next (Reads (varnode_at vs 0) ∷ Reads (varnode_at vs 1) ∷ []) z
+  op_unstored own next O.Load out vs = load_unstored (own 0) next out vs
+  op_unstored own next O.Store out vs = store_unstored (own 0) next vs
+  op_unstored own next O.Call out vs =
       let f = callee_at l (varnode_at vs 0).offset in
-      call_unstored (returns f) next (varnode_at vs 0).offset (proto_of l f)
-  op_unstored next O.CallInd out vs =
+      call_unstored own (returns f) next (varnode_at vs 0).offset (proto_of l f)
+  op_unstored own next O.CallInd out vs =
       let p = proto_of l None in
-      let r = indirect_read l ranges next (varnode_at vs 0) p in
+      let r = indirect_read l own ranges next (varnode_at vs 0) p in
       calls_unstored next p r (λ v. S.CallInd v (word_at r 0) (drop 1 r.words))
-      (reads_unstored next (varnode_at vs 0 ∷ argument_ranges p.args))
-  op_unstored next O.CallOther None vs = alone next (past_first vs)
-  op_unstored next O.CallOther (Some z) vs = with_output next (past_first vs) z
-  op_unstored next code out vs = tt
+      (reads_unstored own next (Reads (varnode_at vs 0) ∷ arguments 0 p.args))
+  op_unstored own next O.CallOther None vs = alone none_own next (all_read (past_first vs))
+  op_unstored own next O.CallOther (Some z) vs = with_output next (all_read (past_first vs)) z
+  op_unstored own next code out vs = tt
 
-  made_unstored : (next : ℕ) (here : Standing) → AreUnstored (made_in l ranges next here).locals
-  made_unstored next Nothing = tt
-  made_unstored next (Passes i) = tt
-  made_unstored next (Does i op) = op_unstored next op.code op.out op.inputs
+  made_unstored : (own : Own) (next : ℕ) (here : Standing) → AreUnstored (made_in l own ranges next here).locals
+  made_unstored own next Nothing = tt
+  made_unstored own next (Passes i) = tt
+  made_unstored own next (Does i op) = op_unstored own next op.code op.out op.inputs
 
   condition_unstored : (next : ℕ) (here : Standing) → AreUnstored (condition_in l ranges next here).locals
   condition_unstored next Nothing = tt
@@ -143,26 +182,26 @@ module _ (l : Listing) (ranges : List Varnode) where
   way_unstored next here (F.Switch t ns) = tt
   way_unstored next here F.Stop = tt
 
-  places_unstored : (next : ℕ) (ps : List Place) (e : flow_exit.Exit)
-      → AreUnstored (places_made l ranges next ps e).locals
-  places_unstored next [] e = tt
-  places_unstored next (p ∷ []) e =
-      let here = place_made l ranges next p in
+  places_unstored : (own : Place → Own) (next : ℕ) (ps : List Place) (e : flow_exit.Exit)
+      → AreUnstored (places_made l own ranges next ps e).locals
+  places_unstored own next [] e = tt
+  places_unstored own next (p ∷ []) e =
+      let here = place_made l own ranges next p in
       let free = next + length here.locals in
-      unstored_append here.locals (way_out l ranges free (standing l p) e).locals (made_unstored next (standing l p))
+      unstored_append here.locals (way_out l ranges free (standing l p) e).locals (made_unstored (own p) next (standing l p))
       (way_unstored free (standing l p) e)
-  places_unstored next (p ∷ q ∷ ps) e =
-      let here = place_made l ranges next p in
+  places_unstored own next (p ∷ q ∷ ps) e =
+      let here = place_made l own ranges next p in
       let free = next + length here.locals in
-      unstored_append here.locals (places_made l ranges free (q ∷ ps) e).locals (made_unstored next (standing l p))
-      (places_unstored free (q ∷ ps) e)
+      unstored_append here.locals (places_made l own ranges free (q ∷ ps) e).locals (made_unstored (own p) next (standing l p))
+      (places_unstored own free (q ∷ ps) e)
 
   -- No local of any blocks has a storage.
-  pub blocks_unstored : (next : ℕ) (blocks : List flow_block.Block)
-      → AreUnstored (blocks_made l ranges next blocks).locals
-  blocks_unstored next [] = tt
-  blocks_unstored next (b ∷ blocks) =
-      let here = block_made l ranges next b in
+  pub blocks_unstored : (own : Place → Own) (next : ℕ) (blocks : List flow_block.Block)
+      → AreUnstored (blocks_made l own ranges next blocks).locals
+  blocks_unstored own next [] = tt
+  blocks_unstored own next (b ∷ blocks) =
+      let here = block_made l own ranges next b in
       let free = next + length here.locals in
-      unstored_append here.locals (blocks_made l ranges free blocks).locals (places_unstored next b.places b.exit)
-      (blocks_unstored free blocks)
+      unstored_append here.locals (blocks_made l own ranges free blocks).locals (places_unstored own next b.places b.exit)
+      (blocks_unstored own free blocks)

@@ -12,13 +12,14 @@ use Rattle.pcode_model.specs.declared.storage.ParamStorage.TheVariants as P
 use Rattle.pcode_model.specs.declared.tables.TableAt.{TableAt}
 use Rattle.pcode_model.specs.declared.atoms.Atom.{Atom}
 use Rattle.pcode_model.specs.declared.flow.Block as flow_block
+use Rattle.pcode_model.specs.Memory.{Frame}
 use Rattle.blockcode.specs.declared.code.Variable.{Variable}
 use Rattle.blockcode.specs.Run.{widths, width_in}
 use Rattle.blockcode.proofs.Straight.{get_in_front, get_of_drop, rest_of_drop}
 use Rattle.op_values.proofs.Means.{nearest_is}
 use Rattle.op_code.specs.Form.{IsNarrow}
 use Rattle.op_code.specs.Lowered.{blocks_made, lowered, range_at, range_of, ranges_of, variable_for}
-use Rattle.op_code.specs.Lowerable.{AreNarrow, IsLocalStorage, IsLowerable}
+use Rattle.op_code.specs.Lowerable.{AreNarrow, IsLowerable}
 use Rattle.op_code.proofs.Sees.{AreWide, Setting}
 
 -- the atom of a number
@@ -26,7 +27,6 @@ pub record IsAtomAt (l : Listing) (atoms : List Atom) (n : ℕ) (v : Varnode) : 
   pub atom : Atom
   pub get : slice_get atoms n ≡ Some atom
   pub range : range_of l atom ≡ v
-  pub storage : IsLocalStorage atom.storage
   pub narrow : (0 < atom.size) × (atom.size ≤ 16)
 
 -- The range of a number is the range of the atom of that number.
@@ -35,9 +35,9 @@ pub atom_at : (l : Listing) (atoms : List Atom) (n : ℕ) (v : Varnode)
     → slice_get (ranges_of l atoms) n ≡ Some v
     → IsAtomAt l atoms n v
 atom_at l [] n v all e = absurd (cc)
-atom_at l (a ∷ atoms) zero v all e = record { atom = a; get = refl; range = cc; storage = all.0.0; narrow = all.0.1 }
+atom_at l (a ∷ atoms) zero v all e = record { atom = a; get = refl; range = cc; narrow = all.0 }
 atom_at l (a ∷ atoms) (suc n) v all e = let r = atom_at l atoms n v all.1 e in
-    record { atom = r.atom; get = r.get; range = r.range; storage = r.storage; narrow = r.narrow }
+    record { atom = r.atom; get = r.get; range = r.range; narrow = r.narrow }
 
 -- The variable of an atom's number is the atom's.
 pub variable_get : (atoms : List Atom) (locals : List Variable) (n : ℕ) (a : Atom)
@@ -46,8 +46,8 @@ pub variable_get : (atoms : List Atom) (locals : List Variable) (n : ℕ) (a : A
 variable_get atoms locals n a e = get_in_front (map variable_for atoms) locals n (variable_for a)
     (slice_get-map variable_for atoms n ∙ ap (option_map variable_for) e)
 
--- a range has the size of its atom
-range_size : (l : Listing) (s : ParamStorage) (k : ℕ) → (range_at l s k).size ≡ k
+-- A range has the size of its atom.
+pub range_size : (l : Listing) (s : ParamStorage) (k : ℕ) → (range_at l s k).size ≡ k
 range_size l (P.Register o) k = refl
 range_size l (P.Unique o) k = refl
 range_size l (P.Stack o) k = refl
@@ -81,12 +81,12 @@ wide_from vs [] n e = tt
 wide_from vs (y ∷ ys) n e =
     (ap width_in (get_of_drop vs n y ys e), wide_from vs ys (suc n) (rest_of_drop vs n y ys e))
 
-module _ (l : Listing) (blocks : List flow_block.Block) (atoms : List Atom) where
+module _ (l : Listing) (f : Frame) (blocks : List flow_block.Block) (atoms : List Atom) where
   abbrev pub locals_made : List Variable
-  locals_made = (blocks_made l (ranges_of l atoms) (length atoms) blocks).locals
+  locals_made = (blocks_made l f.own (ranges_of l atoms) (length atoms) blocks).locals
 
   -- The locals have their widths.
-  pub locals_wide : AreWide (widths (lowered l blocks atoms).variables) (length atoms) locals_made
+  pub locals_wide : AreWide (widths (lowered l f blocks atoms).variables) (length atoms) locals_made
   locals_wide =
       let vs = map variable_for atoms in
       wide_from (vs ++ locals_made) locals_made (length atoms)
@@ -94,10 +94,12 @@ module _ (l : Listing) (blocks : List flow_block.Block) (atoms : List Atom) wher
 
   -- The variables of the atoms' ranges have their widths.
   pub variables_set : (t : List TableAt)
-      → IsLowerable l t blocks atoms
-      → Setting l (ranges_of l atoms) (widths (lowered l blocks atoms).variables)
+      → IsLowerable l t f blocks atoms
+      → Setting l (ranges_of l atoms) (widths (lowered l f blocks atoms).variables)
   variables_set t form = record {
     table = form.table;
+    even = form.even;
+    registers = form.registers;
     narrow = ranges_narrow l atoms form.narrow;
     widths = widths_are l atoms locals_made form.narrow;
   }

@@ -9,17 +9,16 @@ use Rattle.pcode_model.specs.declared.listing.SpaceKind.TheVariants.{Constant, R
 use Rattle.pcode_model.specs.declared.listing.Varnode.{Varnode}
 use Rattle.pcode_model.specs.declared.listing.Listing.{Listing}
 use Rattle.pcode_model.specs.declared.listing.Proto.{Proto}
-use Rattle.pcode_model.specs.declared.listing.Storage.{Storage}
-use Rattle.pcode_model.specs.declared.listing.Storage.TheVariants.{At, Stack}
 use Rattle.pcode_model.specs.declared.opcode.Opcode.{Opcode}
 use Rattle.pcode_model.specs.declared.opcode.Opcode.TheVariants as O
 use Rattle.pcode_model.specs.Flow.{IsIn}
-use Rattle.pcode_model.specs.Spaces.{kind_of, register_space, size_of, word_size}
-use Rattle.pcode_model.specs.Step.{callee_at, proto_of}
+use Rattle.pcode_model.specs.Spaces.{first_ram, kind_of, register_space, size_of, word_size}
+use Rattle.pcode_model.specs.Step.{Operand, Reads, ReadsStack, all_read, arguments, callee_at, proto_of}
 use Rattle.pcode_model.specs.WellFormed.{ShareNothing}
 use Rattle.cmeaning.specs.Do.{accessed}
 use Rattle.op_code.specs.Cover.{HasCover}
-use Rattle.op_code.specs.Made.{name_of, offset_bytes}
+use Rattle.range_words.specs.Own.{frame_range, stack_size}
+use Rattle.op_code.specs.Made.{Own, name_of, none_own, offset_bytes}
 
 -- A ram space: a statement names it, and its offsets and words are of so many bytes.
 pub record IsMemory (l : Listing) (s : ℕ) : Type 0 where
@@ -72,54 +71,87 @@ abbrev pub IsResult : Listing → List Varnode → Option Varnode → Type 0
 IsResult l ranges None = Unit {0}
 IsResult l ranges (Some v) = IsNarrow v × IsLocalBy (kind_of l v.space) ranges v
 
+-- ---- the frame
+
+-- So many bytes of the frame, from an offset on, are a range of variables.
+pub record IsFramed (l : Listing) (ranges : List Varnode) (c k : ℕ) : Type 0 where
+  pub below : c < stack_size l
+  pub cover : HasCover ranges (frame_range l c k)
+
 -- ---- calls
 
--- an argument is a range of variables
-abbrev pub IsPassed : Listing → List Varnode → Storage → Type 0
-IsPassed l ranges (At v) = IsOperand l ranges v
-IsPassed l ranges (Stack offset size) = ⊥
+-- a range of registers
+abbrev pub IsGiven : Listing → List Varnode → Varnode → Type 0
+IsGiven l ranges v = (v.space ≡ register_space l) × (IsNarrow v × HasCover ranges v)
+
+-- There is a stack pointer, by which the first ram space is addressed.
+pub record HasPointer (l : Listing) (ranges : List Varnode) : Type 0 where
+  pub pointer : Varnode
+  pub is : l.stack ≡ Some pointer
+  pub given : IsGiven l ranges pointer
+  pub memory : IsMemory l (first_ram l)
+  pub wide : stack_size l ≡ limit pointer.size
+  pub word : word_size l (first_ram l) ≡ 1
+
+-- an argument on the stack: bytes of the frame, or memory above the stack pointer
+abbrev pub IsOnStack : Option ℕ → Listing → List Varnode → ℕ → Type 0
+IsOnStack None l ranges k = HasPointer l ranges
+IsOnStack (Some c) l ranges k = IsFramed l ranges c k
+
+abbrev pub IsRead : Listing → Own → List Varnode → Operand → Type 0
+IsRead l own ranges (Reads v) = IsOperand l ranges v
+IsRead l own ranges (ReadsStack n offset size) = ((0 < size) × (size ≤ 16)) × IsOnStack (own n) l ranges size
+
+abbrev pub AllOperands : Listing → Own → List Varnode → List Operand → Type 0
+AllOperands l own ranges [] = Unit {0}
+AllOperands l own ranges (x ∷ xs) = IsRead l own ranges x × AllOperands l own ranges xs
 
 -- each of these lies in a range of registers, or shares no byte with it
 abbrev pub IsSplitBy : Listing → List Varnode → Varnode → Type 0
 IsSplitBy l ranges kept = (v : Varnode) → IsIn v ranges → v.space ≡ register_space l
     → ((kept.offset ≤ v.offset) × (v.offset + v.size ≤ kept.offset + kept.size)) ⊎ ShareNothing v kept
 
-abbrev pub IsGiven : Listing → List Varnode → Varnode → Type 0
-IsGiven l ranges v = (v.space ≡ register_space l) × (IsNarrow v × HasCover ranges v)
-
 -- What is asked of the prototype of a call that is reached.
--- stack: so far without a stack pointer.
+-- stack: the stack pointer is a range of variables.
 -- kept: each variable of a register lies in a kept range or apart from it.
--- apart: no kept range shares a byte with the result.
-pub record IsCallable (l : Listing) (ranges : List Varnode) (p : Proto) : Type 0 where
-  pub stack : l.stack ≡ None
-  pub args : AllByRecursion (IsPassed l ranges) p.args
+-- apart: no kept range shares a byte with the result, and neither of them one with the stack pointer.
+pub record IsCallable (l : Listing) (own : Own) (ranges : List Varnode) (p : Proto) : Type 0 where
+  pub args : AllOperands l own ranges (arguments 0 p.args)
   pub gives : IfSome p.gives (IsGiven l ranges)
+  pub stack : IfSome l.stack (IsGiven l ranges)
   pub kept : AllByRecursion (IsSplitBy l ranges) p.keep
-  pub apart : AllByRecursion (λ kept. IfSome p.gives (ShareNothing kept)) p.keep
-
-abbrev pub AllOperands : Listing → List Varnode → List Varnode → Type 0
-AllOperands l ranges [] = Unit {0}
-AllOperands l ranges (v ∷ vs) = IsOperand l ranges v × AllOperands l ranges vs
+  pub kept_apart : AllByRecursion (λ kept. IfSome p.gives (ShareNothing kept)) p.keep
+  pub kept_off : AllByRecursion (λ kept. IfSome l.stack (ShareNothing kept)) p.keep
+  pub gives_off : IfSome p.gives (λ z. IfSome l.stack (ShareNothing z))
 
 -- ---- ops
 
-abbrev pub IsPlainOp : Listing → List Varnode → Opcode → Option Varnode → List Varnode → Type 0
-IsPlainOp l ranges (O.Unary op) (Some z) (x ∷ []) =
+-- A LOAD goes by a pointer, or reads bytes of the frame.
+abbrev pub IsLoad : Option ℕ → Listing → List Varnode → (s z : Varnode) → Type 0
+IsLoad None l ranges s z = IsMemory l s.offset
+IsLoad (Some c) l ranges s z = (s.offset ≡ first_ram l) × IsFramed l ranges c z.size
+
+-- A STORE goes by a pointer, or writes bytes of the frame.
+abbrev pub IsStore : Option ℕ → Listing → List Varnode → (s y : Varnode) → Type 0
+IsStore None l ranges s y = IsMemory l s.offset
+IsStore (Some c) l ranges s y = (s.offset ≡ first_ram l) × IsFramed l ranges c y.size
+
+abbrev pub IsPlainOp : Listing → Own → List Varnode → Opcode → Option Varnode → List Varnode → Type 0
+IsPlainOp l own ranges (O.Unary op) (Some z) (x ∷ []) =
     IsUnarySized op x.size z.size × (IsOperand l ranges x × IsOutput l ranges z)
-IsPlainOp l ranges (O.Binary op) (Some z) (x ∷ y ∷ []) =
+IsPlainOp l own ranges (O.Binary op) (Some z) (x ∷ y ∷ []) =
     (IsSecond l op y × IsBinarySized op x.size y.size z.size)
     × ((IsOperand l ranges x × IsOperand l ranges y) × IsOutput l ranges z)
-IsPlainOp l ranges (O.Divide op) (Some z) (x ∷ y ∷ []) =
+IsPlainOp l own ranges (O.Divide op) (Some z) (x ∷ y ∷ []) =
     ((x.size ≡ z.size) × (y.size ≡ z.size)) × ((IsOperand l ranges x × IsOperand l ranges y) × IsOutput l ranges z)
-IsPlainOp l ranges O.Load (Some z) (s ∷ x ∷ []) =
-    IsMemory l s.offset × (IsOperand l ranges x × IsOutput l ranges z)
-IsPlainOp l ranges O.Store None (s ∷ x ∷ y ∷ []) =
-    IsMemory l s.offset × (IsOperand l ranges x × IsOperand l ranges y)
-IsPlainOp l ranges O.Branch None (to ∷ []) = Unit {0}
-IsPlainOp l ranges O.CBranch None (to ∷ x ∷ []) = (x.size ≡ 1) × IsOperand l ranges x
-IsPlainOp l ranges O.Return None (to ∷ []) = IsOperand l ranges to × IsResult l ranges (proto_of l None).gives
-IsPlainOp l ranges O.Call None (to ∷ []) = IsCallable l ranges (proto_of l (callee_at l to.offset))
-IsPlainOp l ranges O.CallInd None (to ∷ []) = IsOperand l ranges to × IsCallable l ranges (proto_of l None)
-IsPlainOp l ranges O.CallOther out (index ∷ vs) = AllOperands l ranges vs × IfSome out (IsOutput l ranges)
-IsPlainOp l ranges code out vs = ⊥
+IsPlainOp l own ranges O.Load (Some z) (s ∷ x ∷ []) =
+    IsLoad (own 0) l ranges s z × (IsOperand l ranges x × IsOutput l ranges z)
+IsPlainOp l own ranges O.Store None (s ∷ x ∷ y ∷ []) =
+    IsStore (own 0) l ranges s y × (IsOperand l ranges x × IsOperand l ranges y)
+IsPlainOp l own ranges O.Branch None (to ∷ []) = Unit {0}
+IsPlainOp l own ranges O.CBranch None (to ∷ x ∷ []) = (x.size ≡ 1) × IsOperand l ranges x
+IsPlainOp l own ranges O.Return None (to ∷ []) = IsOperand l ranges to × IsResult l ranges (proto_of l None).gives
+IsPlainOp l own ranges O.Call None (to ∷ []) = IsCallable l own ranges (proto_of l (callee_at l to.offset))
+IsPlainOp l own ranges O.CallInd None (to ∷ []) = IsOperand l ranges to × IsCallable l own ranges (proto_of l None)
+IsPlainOp l own ranges O.CallOther out (index ∷ vs) = AllOperands l none_own ranges (all_read vs) × IfSome out (IsOutput l ranges)
+IsPlainOp l own ranges code out vs = ⊥

@@ -1,9 +1,7 @@
--- What a call passes, and what it leaves in the variables of registers. This project's own.
+-- What a call leaves in the variables of registers. This project's own.
 use Rattle.std.specs.Prelude.{ℕ, suc, ◌==◌, ◌&&◌, not, Bool, false, if◌then◌else◌, List, [], ◌∷◌, ◌++◌, map}
 use Rattle.pcode_model.specs.declared.listing.Listing.{Listing}
 use Rattle.pcode_model.specs.declared.listing.Proto.{Proto}
-use Rattle.pcode_model.specs.declared.listing.Storage.{Storage}
-use Rattle.pcode_model.specs.declared.listing.Storage.TheVariants.{At, Stack}
 use Rattle.pcode_model.specs.declared.listing.Varnode.{Varnode}
 use Rattle.pcode_model.specs.Atoms.{one_range}
 use Rattle.pcode_model.specs.Ranges.{meets}
@@ -12,12 +10,6 @@ use Rattle.cmeaning.specs.declared.tree.Stmt.{Stmt}
 use Rattle.cmeaning.specs.declared.tree.Stmt.TheVariants as S
 -- a variable, and the offset in the register space from which it takes what a call left
 pub use Rattle.op_code.specs.declared.left.Leftover.{Leftover}
-
--- the ranges of arguments; one on the stack has none, as no listing with a stack pointer is built so far
-abbrev pub argument_ranges : List Storage → List Varnode
-argument_ranges [] = []
-argument_ranges (At v ∷ rest) = v ∷ argument_ranges rest
-argument_ranges (Stack offset size ∷ rest) = argument_ranges rest
 
 -- the ranges in which a call of this prototype leaves nothing of the answer: those that it keeps, its result and the
 -- stack pointer

@@ -7,6 +7,8 @@ pub mod Left
 pub mod LeftTable
 pub mod Made
 pub mod Sources
+pub mod Adds
+pub mod FrameTable
 pub mod Calling
 pub mod Numbers
 pub mod Lowered

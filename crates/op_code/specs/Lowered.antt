@@ -11,7 +11,9 @@ use Rattle.pcode_model.specs.declared.atoms.Atom.{Atom}
 use Rattle.pcode_model.specs.declared.flow.Exit as flow_exit
 use Rattle.pcode_model.specs.declared.flow.Exit.TheVariants as F
 use Rattle.pcode_model.specs.declared.flow.Block as flow_block
-use Rattle.pcode_model.specs.Spaces.{first_ram, register_space, unique_space}
+use Rattle.pcode_model.specs.Frame.{wrapped}
+use Rattle.pcode_model.specs.Memory.{Frame}
+use Rattle.pcode_model.specs.Spaces.{register_space, unique_space}
 use Rattle.pcode_model.specs.Places.{Standing, Nothing, Passes, Does, standing}
 use Rattle.pcode_model.specs.Step.{first_place, proto_of, varnode_at}
 use Rattle.pcode_model.specs.Flow.{starts_of}
@@ -23,14 +25,15 @@ use Rattle.blockcode.specs.declared.code.Exit.TheVariants as X
 use Rattle.blockcode.specs.declared.code.Block.{Block}
 use Rattle.blockcode.specs.declared.code.Code.{Code}
 use Rattle.op_values.specs.Nodes.{constant, width_by, width_of_range}
-use Rattle.op_code.specs.Made.{Made, ReadOne, nothing, op_made, range_word, read_one}
+use Rattle.range_words.specs.Own.{frame_range, stack_size}
+use Rattle.op_code.specs.Made.{Made, Own, ReadOne, nothing, op_made, range_word, read_one}
 
 -- ---- variables
 
 abbrev pub range_at : Listing → ParamStorage → ℕ → Varnode
 range_at l (P.Register o) k = record { space = register_space l; offset = o; size = k }
 range_at l (P.Unique o) k = record { space = unique_space l; offset = o; size = k }
-range_at l (P.Stack o) k = record { space = first_ram l; offset = 0; size = k }
+range_at l (P.Stack o) k = frame_range l (wrapped (stack_size l) o) k
 
 -- the range that a variable stands for
 abbrev pub range_of : Listing → Atom → Varnode
@@ -44,14 +47,14 @@ variable_for a = record { width = width_by a.size; storage = Some a.storage }
 
 -- ---- places
 
-abbrev pub made_in : Listing → List Varnode → ℕ → Standing → Made
-made_in l ranges next Nothing = nothing
-made_in l ranges next (Passes i) = nothing
-made_in l ranges next (Does i op) = op_made l ranges next op.code op.out op.inputs
+abbrev pub made_in : Listing → Own → List Varnode → ℕ → Standing → Made
+made_in l own ranges next Nothing = nothing
+made_in l own ranges next (Passes i) = nothing
+made_in l own ranges next (Does i op) = op_made l own ranges next op.code op.out op.inputs
 
 -- what stands for the op at a place
-abbrev pub place_made : Listing → List Varnode → ℕ → Place → Made
-place_made l ranges next p = made_in l ranges next (standing l p)
+abbrev pub place_made : Listing → (Place → Own) → List Varnode → ℕ → Place → Made
+place_made l own ranges next p = made_in l (own p) ranges next (standing l p)
 
 -- ---- exits
 
@@ -108,27 +111,27 @@ in_front here rest = record {
 }
 
 -- The places of a block, one behind another. A block has a place.
-abbrev pub places_made : Listing → List Varnode → ℕ → List Place → flow_exit.Exit → BlockMade
-places_made l ranges next [] e = record { block = record { body = []; exit = X.Stop }; locals = [] }
-places_made l ranges next (p ∷ []) e = last_made (place_made l ranges next p)
-    (way_out l ranges (next + length (place_made l ranges next p).locals) (standing l p) e)
-places_made l ranges next (p ∷ q ∷ rest) e = in_front (place_made l ranges next p)
-    (places_made l ranges (next + length (place_made l ranges next p).locals) (q ∷ rest) e)
+abbrev pub places_made : Listing → (Place → Own) → List Varnode → ℕ → List Place → flow_exit.Exit → BlockMade
+places_made l own ranges next [] e = record { block = record { body = []; exit = X.Stop }; locals = [] }
+places_made l own ranges next (p ∷ []) e = last_made (place_made l own ranges next p)
+    (way_out l ranges (next + length (place_made l own ranges next p).locals) (standing l p) e)
+places_made l own ranges next (p ∷ q ∷ rest) e = in_front (place_made l own ranges next p)
+    (places_made l own ranges (next + length (place_made l own ranges next p).locals) (q ∷ rest) e)
 
-abbrev pub block_made : Listing → List Varnode → ℕ → flow_block.Block → BlockMade
-block_made l ranges next b = places_made l ranges next b.places b.exit
+abbrev pub block_made : Listing → (Place → Own) → List Varnode → ℕ → flow_block.Block → BlockMade
+block_made l own ranges next b = places_made l own ranges next b.places b.exit
 
 pub record BlocksMade : Type 0 where
   pub blocks : List Block
   pub locals : List Variable
 
-abbrev pub blocks_made : Listing → List Varnode → ℕ → List flow_block.Block → BlocksMade
-blocks_made l ranges next [] = record { blocks = []; locals = [] }
-blocks_made l ranges next (b ∷ bs) = record {
-  blocks = (block_made l ranges next b).block
-      ∷ (blocks_made l ranges (next + length (block_made l ranges next b).locals) bs).blocks;
-  locals = (block_made l ranges next b).locals
-      ++ (blocks_made l ranges (next + length (block_made l ranges next b).locals) bs).locals;
+abbrev pub blocks_made : Listing → (Place → Own) → List Varnode → ℕ → List flow_block.Block → BlocksMade
+blocks_made l own ranges next [] = record { blocks = []; locals = [] }
+blocks_made l own ranges next (b ∷ bs) = record {
+  blocks = (block_made l own ranges next b).block
+      ∷ (blocks_made l own ranges (next + length (block_made l own ranges next b).locals) bs).blocks;
+  locals = (block_made l own ranges next b).locals
+      ++ (blocks_made l own ranges (next + length (block_made l own ranges next b).locals) bs).locals;
 }
 
 -- ---- the whole
@@ -140,11 +143,11 @@ abbrev pub place_number : List Place → Place → ℕ
 place_number [] p = 0
 place_number (q ∷ rest) p = if same_place q p then 0 else suc (place_number rest p)
 
--- The plain lowering of a listing with this flow and these atoms.
-abbrev pub lowered : Listing → List flow_block.Block → List Atom → Code
-lowered l blocks atoms = record {
-  variables = map variable_for atoms ++ (blocks_made l (ranges_of l atoms) (length atoms) blocks).locals;
-  blocks = (blocks_made l (ranges_of l atoms) (length atoms) blocks).blocks;
+-- The plain lowering of a listing with this frame, this flow and these atoms.
+abbrev pub lowered : Listing → Frame → List flow_block.Block → List Atom → Code
+lowered l f blocks atoms = record {
+  variables = map variable_for atoms ++ (blocks_made l f.own (ranges_of l atoms) (length atoms) blocks).locals;
+  blocks = (blocks_made l f.own (ranges_of l atoms) (length atoms) blocks).blocks;
   entry = place_number (starts_of blocks) (first_place l);
 }
 

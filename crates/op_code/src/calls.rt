@@ -1,26 +1,28 @@
 //! The statements that stand for calls.
 
-ghost use Rattle.std.specs.Prelude.{◌≡◌, ◌≤◌, ◌^◌, ◌∷◌, ◌++◌, Some, length, map, IfOk, OnOk};
-ghost use Rattle.pcode_model.specs.Spaces.{is_big as is_big_in};
-ghost use Rattle.op_code.specs.Calling.{answered_by, called_by, passed_by};
-ghost use Rattle.op_code.specs.Cover.{cover as cover_of};
-ghost use Rattle.op_code.specs.Left.{argument_ranges as ranges_of, takes_left};
+ghost use Rattle.std.specs.Prelude.{◌≡◌, ◌≤◌, ◌^◌, ◌++◌, length, map, OnOk};
+ghost use Rattle.pcode_model.specs.Step.{proto_at};
+ghost use Rattle.op_code.specs.Adds.{Adds};
+ghost use Rattle.op_code.specs.Calling.{answered_by, called_by, given_by, result_given};
+ghost use Rattle.op_code.specs.FrameTable.{HasFrameRanges, own_of};
+ghost use Rattle.op_code.specs.Left.{takes_left};
 ghost use Rattle.op_code.specs.LeftTable.{IsLeft};
-ghost use Rattle.op_code.specs.Made.{local_for, op_made};
-ghost use Rattle.op_code.specs.Words.{target as target_of, write_range};
+ghost use Rattle.op_code.specs.Made.{none_own, op_made, pops_by};
 
 use crate::covers::cover;
+use crate::frame::OwnAccesses;
 use crate::left::{LeftTable, Leftover};
 use crate::memory::is_big;
-use crate::outputs::{Source, set, target};
-use crate::reads::{read_each, read_input};
+use crate::outputs::{Source, set, set_range, target};
+use crate::reads::{read_arguments, read_each, read_input};
+use crate::stack::above;
 use crate::table::Table;
 use crate::words::assign_parts;
 use bits_core::Memory;
 use blockcode::Variables;
 use cmeaning::{Body, Expr, Exprs, Stmt};
 use instructions::{arguments, given, proto_called, returns};
-use pcode_model::{Listing, Op, Opcode, Storage, Varnode};
+use pcode_model::{Listing, Op, Opcode, Varnode};
 use std::alloc::Global;
 
 /// A call: of the function at an address, or of the one whose address is computed.
@@ -47,36 +49,14 @@ fn statement(call: Calling, target: Option<u32>) -> Stmt
     }
 }
 
-/// The ranges of arguments.
-fn argument_ranges(alloc: Global, arguments: &[Storage]) -> Result<Vec<Varnode>, Memory>
-    ensures { IfOk result (λ v. v.items ≡ ranges_of arguments.now) }
+/// The bytes by which the stack pointer stands higher after a call of the prototype of a number.
+fn popped(listing: &Listing, proto: u32) -> u32
+    ensures { result ≡ (proto_at listing.now proto).pop }
 {
-    let mut ranges = Vec::new(alloc);
-    for argument in arguments {
-        if let Storage::At(range) = argument {
-            ranges.push(*range)?;
-        }
+    match listing.protos.get(proto as usize) {
+        Some(proto) => proto.pop,
+        None => 0,
     }
-    Ok(ranges)
-}
-
-/// The words of the arguments of the prototype of a number.
-fn read_arguments(
-    alloc: Global,
-    listing: &Listing,
-    table: &Table,
-    variables: &mut Variables,
-    body: &mut Body,
-    proto: u32,
-) -> Result<Exprs, Memory>
-    requires few { length variables.old ≤ 2 ^ 32 }
-    ensures words { IfOk result (λ es. es ≡ (passed_by listing.now table.now (length variables.old) proto).words) }
-    ensures loads { OnOk result (body.new ≡ body.old ++ (passed_by listing.now table.now (length variables.old) proto).loads) }
-    ensures locals { OnOk result (variables.new ≡ variables.old ++ (passed_by listing.now table.now (length variables.old) proto).locals) }
-    ensures few { OnOk result (length variables.new ≤ 2 ^ 32) }
-{
-    let ranges = argument_ranges(alloc, arguments(listing, proto))?;
-    read_each(alloc, listing, table, variables, body, &ranges)
 }
 
 /// Takes what a call left.
@@ -104,10 +84,8 @@ fn add_result(
     call: Calling,
 ) -> Result<(), Memory>
     requires few { length variables.old ≤ 2 ^ 32 }
-    ensures statements { OnOk result (body.new ≡ body.old ++ called_by call (Some (target_of table.now (length variables.old) range))
-        ∷ (map takes_left left.now ++ write_range (is_big_in listing.now range.space) table.now range (length variables.old))) }
-    ensures locals { OnOk result (variables.new ≡ variables.old ++ local_for (cover_of table.now range) range) }
-    ensures few { OnOk result (length variables.new ≤ 2 ^ 32) }
+    ensures { OnOk result (Adds variables.old variables.new body.old body.new
+        (result_given listing.now table.now (length variables.old) left.now range (called_by call))) }
 {
     let pieces = cover(alloc, table, range)?;
     let target = target(variables, &pieces, range)?;
@@ -118,6 +96,55 @@ fn add_result(
 }
 
 /// Adds a call of the prototype of a number, and what takes its answer.
+fn add_given(
+    alloc: Global,
+    listing: &Listing,
+    table: &Table,
+    left: &LeftTable,
+    variables: &mut Variables,
+    body: &mut Body,
+    proto: u32,
+    call: Calling,
+) -> Result<(), Memory>
+    requires left { IsLeft listing.now table.now left.now }
+    requires few { length variables.old ≤ 2 ^ 32 }
+    ensures { OnOk result (Adds variables.old variables.new body.old body.new
+        (given_by listing.now table.now (length variables.old) proto call)) }
+{
+    let left = left.of(proto);
+    match given(listing, proto) {
+        Some(range) => add_result(alloc, listing, table, left, variables, body, range, call),
+        None => {
+            body.push(statement(call, None))?;
+            add_extras(body, left)
+        }
+    }
+}
+
+/// The stack pointer stands so many bytes higher.
+fn add_pop(
+    alloc: Global,
+    listing: &Listing,
+    table: &Table,
+    variables: &mut Variables,
+    body: &mut Body,
+    bytes: u32,
+) -> Result<(), Memory>
+    requires few { length variables.old ≤ 2 ^ 32 }
+    ensures { OnOk result (Adds variables.old variables.new body.old body.new
+        (pops_by listing.now.stack bytes listing.now table.now (length variables.old))) }
+{
+    let Some(stack) = listing.stack else {
+        return Ok(());
+    };
+    if bytes == 0 {
+        return Ok(());
+    }
+    let source = Source::Value(above(alloc, listing, table, stack, bytes)?);
+    set_range(alloc, listing, table, variables, body, stack, source)
+}
+
+/// Adds a call of the prototype of a number, what takes its answer, and the pop.
 fn add_answered(
     alloc: Global,
     listing: &Listing,
@@ -130,39 +157,41 @@ fn add_answered(
 ) -> Result<(), Memory>
     requires left { IsLeft listing.now table.now left.now }
     requires few { length variables.old ≤ 2 ^ 32 }
-    ensures statements { OnOk result (body.new ≡ body.old ++ (answered_by listing.now table.now (length variables.old) proto call).statements) }
-    ensures locals { OnOk result (variables.new ≡ variables.old ++ (answered_by listing.now table.now (length variables.old) proto call).locals) }
-    ensures few { OnOk result (length variables.new ≤ 2 ^ 32) }
+    ensures { OnOk result (Adds variables.old variables.new body.old body.new
+        (answered_by listing.now table.now (length variables.old) proto call)) }
 {
-    let left = left.of(proto);
-    match given(listing, proto) {
-        Some(range) => add_result(alloc, listing, table, left, variables, body, range, call),
-        None => {
-            body.push(statement(call, None))?;
-            add_extras(body, left)
-        }
-    }
+    add_given(alloc, listing, table, left, variables, body, proto, call)?;
+    add_pop(
+        alloc,
+        listing,
+        table,
+        variables,
+        body,
+        popped(listing, proto),
+    )
 }
 
 /// Adds what stands for a CALL.
 pub(crate) fn add_call(
     alloc: Global,
     listing: &Listing,
+    own: &OwnAccesses,
     table: &Table,
     left: &LeftTable,
     variables: &mut Variables,
     body: &mut Body,
     op: &Op,
 ) -> Result<(), Memory>
+    requires frame { HasFrameRanges listing.now }
     requires left { IsLeft listing.now table.now left.now }
     requires few { length variables.old ≤ 2 ^ 32 }
-    ensures statements { OnOk result (body.new ≡ body.old ++ (op_made listing.now table.now (length variables.old) Opcode.Call op.now.out op.now.inputs).statements) }
-    ensures locals { OnOk result (variables.new ≡ variables.old ++ (op_made listing.now table.now (length variables.old) Opcode.Call op.now.out op.now.inputs).locals) }
-    ensures few { OnOk result (length variables.new ≤ 2 ^ 32) }
+    ensures { OnOk result (Adds variables.old variables.new body.old body.new
+        (op_made listing.now (own_of own.now) table.now (length variables.old) Opcode.Call op.now.out op.now.inputs)) }
 {
     let callee = op.input(0).offset;
     let proto = proto_called(listing, callee);
-    let args = read_arguments(alloc, listing, table, variables, body, proto)?;
+    let given = arguments(listing, proto);
+    let args = read_arguments(alloc, listing, own, table, variables, body, given)?;
     if returns(listing, callee) {
         let call = Calling::Direct { callee, args };
         return add_answered(alloc, listing, table, left, variables, body, proto, call);
@@ -179,21 +208,23 @@ pub(crate) fn add_call(
 pub(crate) fn add_indirect_call(
     alloc: Global,
     listing: &Listing,
+    own: &OwnAccesses,
     table: &Table,
     left: &LeftTable,
     variables: &mut Variables,
     body: &mut Body,
     op: &Op,
 ) -> Result<(), Memory>
+    requires frame { HasFrameRanges listing.now }
     requires left { IsLeft listing.now table.now left.now }
     requires few { length variables.old ≤ 2 ^ 32 }
-    ensures statements { OnOk result (body.new ≡ body.old ++ (op_made listing.now table.now (length variables.old) Opcode.CallInd op.now.out op.now.inputs).statements) }
-    ensures locals { OnOk result (variables.new ≡ variables.old ++ (op_made listing.now table.now (length variables.old) Opcode.CallInd op.now.out op.now.inputs).locals) }
-    ensures few { OnOk result (length variables.new ≤ 2 ^ 32) }
+    ensures { OnOk result (Adds variables.old variables.new body.old body.new
+        (op_made listing.now (own_of own.now) table.now (length variables.old) Opcode.CallInd op.now.out op.now.inputs)) }
 {
     let proto = listing.func.proto;
     let callee = read_input(alloc, listing, table, variables, body, op, 0)?;
-    let args = read_arguments(alloc, listing, table, variables, body, proto)?;
+    let given = arguments(listing, proto);
+    let args = read_arguments(alloc, listing, own, table, variables, body, given)?;
     let call = Calling::Indirect { callee, args };
     add_answered(alloc, listing, table, left, variables, body, proto, call)
 }
@@ -208,9 +239,8 @@ pub(crate) fn add_other(
     op: &Op,
 ) -> Result<(), Memory>
     requires few { length variables.old ≤ 2 ^ 32 }
-    ensures statements { OnOk result (body.new ≡ body.old ++ (op_made listing.now table.now (length variables.old) Opcode.CallOther op.now.out op.now.inputs).statements) }
-    ensures locals { OnOk result (variables.new ≡ variables.old ++ (op_made listing.now table.now (length variables.old) Opcode.CallOther op.now.out op.now.inputs).locals) }
-    ensures few { OnOk result (length variables.new ≤ 2 ^ 32) }
+    ensures { OnOk result (Adds variables.old variables.new body.old body.new
+        (op_made listing.now none_own table.now (length variables.old) Opcode.CallOther op.now.out op.now.inputs)) }
 {
     let args = read_each(alloc, listing, table, variables, body, op.past_first())?;
     let index = op.input(0).offset;

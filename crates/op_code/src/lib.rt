@@ -34,16 +34,19 @@
 
 mod calls;
 mod covers;
+mod frame;
 mod left;
 mod locals;
 mod memory;
 mod outputs;
 mod reads;
+mod stack;
 mod statements;
 mod table;
 mod words;
 
 pub use covers::Piece;
+pub use frame::{FrameTable, OwnAccesses, frame_range, stack_offset};
 pub use left::{LeftTable, Leftover};
 pub use reads::read;
 pub use statements::add_op;

@@ -1,8 +1,9 @@
 //! What is assigned to outputs.
 
 ghost use Rattle.std.specs.Prelude.{◌≡◌, ◌≤◌, ◌^◌, ◌++◌, [], length, IfOk, OnOk};
-ghost use Rattle.pcode_model.specs.declared.listing.SpaceKind.TheVariants.{Ram, Register};
-ghost use Rattle.op_code.specs.Made.{local_for, set_by, sets};
+ghost use Rattle.pcode_model.specs.declared.listing.SpaceKind.TheVariants.{Ram};
+ghost use Rattle.op_code.specs.Adds.{Adds};
+ghost use Rattle.op_code.specs.Made.{local_for, set_by, sets, sets_range};
 ghost use Rattle.op_code.specs.Sources.{set_to};
 ghost use Rattle.op_code.specs.Words.{target_by};
 
@@ -70,9 +71,8 @@ fn set_memory(
     out: Varnode,
     source: Source,
 ) -> Result<(), Memory>
-    ensures statements { OnOk result (body.new ≡ body.old ++ (set_by Ram listing.now [] (length variables.old) out (set_to source)).statements) }
-    ensures locals { OnOk result (variables.new ≡ variables.old ++ (set_by Ram listing.now [] (length variables.old) out (set_to source)).locals) }
-    ensures few { OnOk result (length variables.new ≤ 2 ^ 32) }
+    ensures { OnOk result (Adds variables.old variables.new body.old body.new
+        (set_by Ram listing.now [] (length variables.old) out (set_to source))) }
 {
     let target = new_local(variables, out.size)?;
     body.push(statement(source, target))?;
@@ -102,7 +102,7 @@ pub(crate) fn target(
 }
 
 /// Sets a range: its variable, or variables by a local that holds their word.
-fn set_range(
+pub(crate) fn set_range(
     alloc: Global,
     listing: &Listing,
     table: &Table,
@@ -112,9 +112,8 @@ fn set_range(
     source: Source,
 ) -> Result<(), Memory>
     requires few { length variables.old ≤ 2 ^ 32 }
-    ensures statements { OnOk result (body.new ≡ body.old ++ (set_by Register listing.now table.now (length variables.old) out (set_to source)).statements) }
-    ensures locals { OnOk result (variables.new ≡ variables.old ++ (set_by Register listing.now table.now (length variables.old) out (set_to source)).locals) }
-    ensures few { OnOk result (length variables.new ≤ 2 ^ 32) }
+    ensures { OnOk result (Adds variables.old variables.new body.old body.new
+        (sets_range listing.now table.now (length variables.old) out (set_to source))) }
 {
     let pieces = cover(alloc, table, out)?;
     let target = target(variables, &pieces, out)?;
@@ -134,9 +133,8 @@ pub(crate) fn set(
     source: Source,
 ) -> Result<(), Memory>
     requires few { length variables.old ≤ 2 ^ 32 }
-    ensures statements { OnOk result (body.new ≡ body.old ++ (sets listing.now table.now (length variables.old) out (set_to source)).statements) }
-    ensures locals { OnOk result (variables.new ≡ variables.old ++ (sets listing.now table.now (length variables.old) out (set_to source)).locals) }
-    ensures few { OnOk result (length variables.new ≤ 2 ^ 32) }
+    ensures { OnOk result (Adds variables.old variables.new body.old body.new
+        (sets listing.now table.now (length variables.old) out (set_to source))) }
 {
     let Some(range) = out else {
         return Ok(());

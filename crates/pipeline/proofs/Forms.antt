@@ -10,18 +10,18 @@ use Rattle.pcode_model.specs.declared.opcode.Opcode.{Opcode}
 use Rattle.pcode_model.specs.declared.opcode.Opcode.TheVariants as O
 use Rattle.pcode_model.specs.Atoms.{AreAtoms}
 use Rattle.pcode_model.specs.Flow.{IsFlow, NoFault}
-use Rattle.pcode_model.specs.Frame.{NoStackPointer, no_variables}
+use Rattle.pcode_model.specs.declared.frame.Frame.{Frame}
+use Rattle.pcode_model.specs.Frame.{frame_of}
 use Rattle.pcode_model.specs.Limits.{max_atoms, max_blocks}
 use Rattle.pcode_model.specs.Places.{Standing, Nothing, Passes, Does, standing}
 use Rattle.pcode_model.specs.Rules.{first_bad}
-use Rattle.pcode_model.specs.Spaces.{first_ram}
 use Rattle.pcode_model.specs.Step.{varnode_at}
 use Rattle.pcode_model.specs.WellFormed.{IsWellFormed}
+use Rattle.frame_facts.specs.Listed.{IsFrame}
 use Rattle.supported.specs.Supported.{IsSupported}
 use Rattle.flow.specs.Answer.{IsFlowFault}
 use Rattle.flow.specs.declared.answer.FlowFault.{FlowFault}
 use Rattle.flow.specs.declared.answer.FlowFault.TheVariants as F
-use Rattle.stackvars.specs.Cuts as cuts
 use Rattle.stackvars.specs.declared.fault.AtomFault.{AtomFault}
 use Rattle.stackvars.specs.declared.fault.AtomFault.TheVariants as A
 use Rattle.refusals.specs.Good.{HasFewBlocks, IsGood}
@@ -54,12 +54,14 @@ use Rattle.layout_laws.proofs.Fits.{laid_fits}
 use Rattle.layout_laws.proofs.Obeys.{laid_valid}
 use Rattle.plain_form.proofs.Accessed.{accessed_low}
 use Rattle.plain_form.proofs.Form.{plain_form}
+use Rattle.plain_form.proofs.Framed.{framed}
 use Rattle.plain_form.proofs.Read.{first_long}
-use Rattle.plain_form.proofs.Standing.{stands_in}
-use Rattle.plain_form.proofs.Spaces.{space_some}
+use Rattle.instructions.proofs.Standing.{stands_in}
 use Rattle.pipeline.specs.Passed.{Lowers}
-use Rattle.pipeline.specs.Verdict.{Accepts, IsCause, MayPrint, Stops}
+use Rattle.pipeline.specs.Verdict.{Accepts, IsAtomFault, IsCause, MayPrint, Stops}
 use Rattle.pipeline.proofs.Formed.{gives_is}
+use Rattle.pipeline.proofs.Framing.{frame_law}
+use Rattle.pipeline.proofs.Near.{long_access}
 use Rattle.pipeline.proofs.Keeps as keeps
 
 -- ---- the function
@@ -79,14 +81,16 @@ module _
     (flow : IsFlow l [] blocks)
     (fine : NoFault l [])
     (few : length blocks ≤ max_blocks)
+    (f : Frame)
+    (frame : IsFrame l [] [] f)
     (atoms : List Atom)
-    (are : AreAtoms l [] no_variables atoms)
+    (are : AreAtoms l [] f atoms)
   where
-    form : code.IsLowerable l [] blocks atoms
-    form = plain_form l read good built blocks flow fine few atoms are
+    form : code.IsLowerable l [] (frame_of l f) blocks atoms
+    form = plain_form l read good built [] f frame blocks flow fine few atoms are
 
     abbrev made : Code
-    made = lowered l blocks atoms
+    made = lowered l (frame_of l f) blocks atoms
 
     abbrev head : Head
     head = plain_head l made
@@ -98,74 +102,76 @@ module _
 
     long : HasLong l [] atoms
     long = record {
-      storages = atoms_long l [] atoms are (accessed_low l read good built);
+      storages = atoms_long l [] f atoms are (accessed_low l read good built)
+          (λ a is. long_access l a (framed l read good [] [] f frame a is));
       places = λ p reached. stands_long (standing l p) p refl;
     }
 
     module _ (small : length made.variables ≤ 2 ^ 32) where
       covered : IsCovered head (laid_body made)
-      covered = keeps.plain_covered l [] blocks atoms form built.stack (space_some l (first_ram l)) long small read.named.spaces
+      covered = keeps.plain_covered l [] (frame_of l f) blocks atoms form long small read.named.spaces
 
-      valid : IsValid (plain_function l blocks atoms)
+      valid : IsValid (plain_function l (frame_of l f) blocks atoms)
       valid = laid_valid head made
-          (can_lay l [] blocks atoms form long small).numbers
-          (plain_suits l [] blocks atoms form long small read.named.spaces)
-          (few_declared l blocks atoms small)
+          (can_lay l [] (frame_of l f) blocks atoms form long small).numbers
+          (plain_suits l [] (frame_of l f) blocks atoms form long small read.named.spaces)
+          (few_declared l (frame_of l f) blocks atoms small)
           read.named.func
-          (params_right l blocks atoms long.storages are.in_order)
-          (plain_callees l [] blocks atoms form long small read.named read.distinct)
+          (params_right l (frame_of l f) blocks atoms long.storages are.in_order)
+          (plain_callees l [] (frame_of l f) blocks atoms form long small read.named read.distinct)
 
-      fits : Fits l (plain_function l blocks atoms)
+      fits : Fits l (plain_function l (frame_of l f) blocks atoms)
       fits = laid_fits l head made covered
-          (plain_params_fit l [] blocks atoms form)
-          (plain_body_fits l [] blocks atoms form long small)
+          (plain_params_fit l [] (frame_of l f) blocks atoms form long)
+          (plain_body_fits l [] (frame_of l f) blocks atoms form long small)
 
       -- All that is said of the function of the plain lowering.
-      pub lowers : Lowers l (plain_function l blocks atoms)
+      pub lowers : Lowers l f (plain_function l (frame_of l f) blocks atoms)
       lowers = record {
         valid = valid;
         fits = fits;
-        agrees = keeps.agrees l [] blocks atoms form built.stack (space_some l (first_ram l)) long small read.named.spaces;
+        agrees = keeps.agrees l [] (frame_of l f) blocks atoms form long small read.named.spaces
+            (frame_law l read good fine f frame);
         form = record {
           name = refl;
           gives = gives_is l read good;
-          params = (atoms, (are, plain_inputs l [] blocks atoms form));
-          callees = plain_declared l blocks atoms;
+          params = (atoms, (are, plain_inputs l [] (frame_of l f) blocks atoms form));
+          callees = plain_declared l (frame_of l f) blocks atoms;
         };
       }
 
 -- The same of a function that is this one.
-pub lowers_to : (l : Listing) (f g : CFunction) → f ≡ g → Lowers l g → Lowers l f
-lowers_to l f g is h = subst (λ (x : CFunction). Lowers l x) (sym is) h
+pub lowers_to : (l : Listing) (frame : Frame) (f g : CFunction) → f ≡ g → Lowers l frame g → Lowers l frame f
+lowers_to l frame f g is h = subst (λ (x : CFunction). Lowers l frame x) (sym is) h
 
 -- as many variables as the code that was made
-pub few_made : (l : Listing) (blocks : List Block) (atoms : List Atom) (k : Code)
-    → k ≡ lowered l blocks atoms
+pub few_made : (l : Listing) (f : Frame) (blocks : List Block) (atoms : List Atom) (k : Code)
+    → k ≡ lowered l (frame_of l f) blocks atoms
     → length k.variables ≤ 2 ^ 32
-    → length (lowered l blocks atoms).variables ≤ 2 ^ 32
-few_made l blocks atoms k is few = subst (λ (x : Code). length x.variables ≤ 2 ^ 32) is few
+    → length (lowered l (frame_of l f) blocks atoms).variables ≤ 2 ^ 32
+few_made l f blocks atoms k is few = subst (λ (x : Code). length x.variables ≤ 2 ^ 32) is few
 
 -- as many blocks as the flow has
-pub few_blocks_made : (l : Listing) (blocks : List Block) (atoms : List Atom) (k : Code)
-    → k ≡ lowered l blocks atoms
+pub few_blocks_made : (l : Listing) (f : Frame) (blocks : List Block) (atoms : List Atom) (k : Code)
+    → k ≡ lowered l (frame_of l f) blocks atoms
     → length blocks ≤ max_blocks
     → length k.blocks < 2 ^ 32 - 1
-few_blocks_made l blocks atoms k is few =
-    let made : length k.blocks ≡ length (lowered l blocks atoms).blocks = ap (λ (x : Code). length x.blocks) is in
-    let same = blocks_length l (ranges_of l atoms) (length atoms) blocks in
+few_blocks_made l f blocks atoms k is few =
+    let made : length k.blocks ≡ length (lowered l (frame_of l f) blocks atoms).blocks = ap (λ (x : Code). length x.blocks) is in
+    let same = blocks_length l (frame_of l f).own (ranges_of l atoms) (length atoms) blocks in
     omega (arith, few, made, same)
 
 -- the laid out function, by its parts
-pub laid_is : (l : Listing) (blocks : List Block) (atoms : List Atom) (name : List ℕ) (gives : Option Width)
-    (callees : List CalleeDecl) (h : Head) (k : Code) (f : CFunction)
-    → f ≡ laid_out h k
+pub laid_is : (l : Listing) (f : Frame) (blocks : List Block) (atoms : List Atom) (name : List ℕ) (gives : Option Width)
+    (callees : List CalleeDecl) (h : Head) (k : Code) (c : CFunction)
+    → c ≡ laid_out h k
     → h ≡ head_of name gives callees k.variables
     → name ≡ l.func.name
     → gives ≡ result_width l
     → callees ≡ callees_of l k
-    → k ≡ lowered l blocks atoms
-    → f ≡ plain_function l blocks atoms
-laid_is l blocks atoms name gives callees h k f is headed named given called made =
+    → k ≡ lowered l (frame_of l f) blocks atoms
+    → c ≡ plain_function l (frame_of l f) blocks atoms
+laid_is l f blocks atoms name gives callees h k c is headed named given called made =
     is
     ∙ ap (λ (x : Head). laid_out x k) headed
     ∙ ap (λ (x : List ℕ). laid_out (head_of x gives callees k.variables) k) named
@@ -176,13 +182,17 @@ laid_is l blocks atoms name gives callees h k f is headed named given called mad
 -- ---- what may be printed
 
 -- The text of a function that a listing which is accepted was lowered to.
-pub may_print : (bytes text : List ℕ) (l : Listing) (f : CFunction)
-    → Accepts bytes l → Lowers l f → text ≡ text_of f → MayPrint bytes text
-may_print bytes text l f accepted lowers is = record {
+pub may_print : (bytes text : List ℕ) (l : Listing) (frame : Frame) (f : CFunction)
+    → Accepts bytes l
+    → IsFrame l [] [] frame
+    → Lowers l frame f
+    → text ≡ text_of f
+    → MayPrint bytes text
+may_print bytes text l frame f accepted is_frame lowers is = record {
   listing = l;
   read = accepted.good.read;
-  frame = no_variables;
-  is_frame = NoStackPointer accepted.built.stack refl;
+  frame = frame;
+  is_frame = is_frame;
   function = f;
   valid = lowers.valid;
   fits = lowers.fits;
@@ -200,16 +210,18 @@ pub accepts : (bytes : List ℕ) (l : Listing)
     → IsFlow l [] blocks
     → NoFault l []
     → length blocks ≤ max_blocks
+    → (frame : Frame)
+    → IsFrame l [] [] frame
     → (atoms : List Atom)
-    → AreAtoms l [] no_variables atoms
+    → AreAtoms l [] frame atoms
     → length atoms ≤ max_atoms
     → Accepts bytes l
-accepts bytes l good built blocks flow fine few atoms are so_few = record {
+accepts bytes l good built blocks flow fine few frame is_frame atoms are so_few = record {
   good = good;
   built = built;
   flow = fine;
   blocks = few_starts l blocks flow few;
-  atoms = (length atoms, ((atoms, (are, refl)), so_few));
+  atoms = (length atoms, ((frame, (is_frame, (atoms, (are, refl)))), so_few));
 }
 
 -- ---- faults
@@ -226,7 +238,7 @@ flow_stops l F.Memory h = tt
 pub atoms_stops : (l : Listing) (fault : AtomFault)
     → NoFault l []
     → HasFewBlocks l
-    → cuts.IsCause l fault
+    → IsAtomFault l fault
     → Stops l (of_atoms fault)
 atoms_stops l (A.TooManyAtoms n) fine few h = (fine, (few, h))
 atoms_stops l A.Memory fine few h = tt

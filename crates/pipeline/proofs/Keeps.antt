@@ -4,7 +4,7 @@ use Rattle.std.specs.Prelude.{Result, Ok, Err}
 use Rattle.std.specs.List.{AllByRecursion}
 use Rattle.machine.specs.Trace.{End, Returned, ReadOnlyWrite, Outside, BadTarget, Trace}
 use Rattle.machine.specs.TwoWay.{NeverEnds, bare, bare_end}
-use Rattle.machine.specs.Agree.{Agree}
+use Rattle.machine.specs.Agree.{Agree, FrameLaw}
 use Rattle.machine.proofs.Agree.{agree_along}
 use Rattle.machine.proofs.TwoWay.{two_way_as, never_ends_along}
 use Rattle.pcode_model.specs.declared.atoms.Atom.{Atom}
@@ -12,12 +12,11 @@ use Rattle.pcode_model.specs.declared.flow.Block.{Block}
 use Rattle.pcode_model.specs.declared.listing.Listing.{Listing}
 use Rattle.pcode_model.specs.declared.listing.Varnode.{Varnode}
 use Rattle.pcode_model.specs.declared.tables.TableAt.{TableAt}
-use Rattle.pcode_model.specs.Frame.{frame_of, no_variables}
-use Rattle.pcode_model.specs.Spaces.{first_ram, is_fixed, is_some, size_of}
+use Rattle.pcode_model.specs.Spaces.{is_fixed, is_some}
 use Rattle.pcode_model.specs.Memory.{Frame, any_fixed, any_framed, any_hidden, is_framed, unless, whole}
 use Rattle.pcode_model.specs.WellFormed.{IsNamedSpace}
-use Rattle.pcode_model.specs.World.{Entry}
-use Rattle.pcode_model.specs.Step.{first_whole, layout as layout_of, proto_of, result_of, seen_p, stack0, stack_word, start}
+use Rattle.pcode_model.specs.World.{Entry, IsEntry}
+use Rattle.pcode_model.specs.Step.{first_whole, layout as layout_of, proto_of, result_of, seen_f, seen_p, start}
 use Rattle.pcode_laws.proofs.Ends.{Allows, ends_within}
 use Rattle.cmeaning.specs.Agree.{AgreesWith}
 use Rattle.cmeaning.specs.Step.{seen_c}
@@ -114,48 +113,40 @@ without_words None source target h agree = record {
 
 -- ---- the chain
 
--- a listing without a `stack` line has a stack pointer of 0
-low_stack : (l : Listing) (e : Entry)
-    → l.stack ≡ None
-    → 0 < size_of l (first_ram l)
-    → stack0 l e < size_of l (first_ram l)
-low_stack l e none some =
-    let is : stack0 l e ≡ 0 = ap (λ o. stack_word l o e.bytes) none in
-    omega (arith, is, some)
-
 module _
     (l : Listing)
     (t : List TableAt)
+    (f : Frame)
     (blocks : List Block)
     (atoms : List Atom)
-    (form : IsLowerable l t blocks atoms)
-    (none : l.stack ≡ None)
-    (some : 0 < size_of l (first_ram l))
+    (form : IsLowerable l t f blocks atoms)
     (long : HasLong l t atoms)
-    (few : length (lowered l blocks atoms).variables ≤ 2 ^ 32)
+    (few : length (lowered l f blocks atoms).variables ≤ 2 ^ 32)
     (named : AllByRecursion IsNamedSpace l.spaces)
   where
     abbrev code : Code
-    code = lowered l blocks atoms
+    code = lowered l f blocks atoms
 
     -- The head of the plain lowering covers its body.
     pub plain_covered : IsCovered (plain_head l code) (laid_body code)
-    plain_covered = laid_covered (plain_head l code) code (few_declared l blocks atoms few)
-        (can_lay l t blocks atoms form long few).numbers.few (plain_suits l t blocks atoms form long few named)
+    plain_covered = laid_covered (plain_head l code) code (few_declared l f blocks atoms few)
+        (can_lay l t f blocks atoms form long few).numbers.few (plain_suits l t f blocks atoms form long few named)
 
     -- no run of this code meets a switch
     never_switches : (e : Entry) → has_switch code ≡ true → NeverEnds BadTarget (seen_code l code e)
-    never_switches e has = let no : true ≡ false = sym has ∙ no_switch l blocks atoms in absurd (cc)
+    never_switches e has = let no : true ≡ false = sym has ∙ no_switch l f blocks atoms in absurd (cc)
 
-    -- For every entry the run of a listing without a `stack` line agrees with the run of the C function: the listing and
-    -- the code of its plain lowering, that code and the body that it is laid out as, that body and the named function.
-    pub agrees : AgreesWith l (frame_of l no_variables) (plain_function l blocks atoms)
-    agrees e entry =
-        let p = seen_p l (frame_of l no_variables) e in
-        let c = seen_c l (plain_function l blocks atoms) e in
+    -- For every entry the run of a listing agrees with the run of the C function, where the frame law holds of the frame:
+    -- the listing and the code of its plain lowering, that code and the body that it is laid out as, that body and the named
+    -- function.
+    pub agrees : ((e : Entry) → IsEntry l e → FrameLaw (seen_p l f e) (seen_f l f e))
+        → AgreesWith l f (plain_function l f blocks atoms)
+    agrees law e entry =
+        let p = seen_p l f e in
+        let c = seen_c l (plain_function l f blocks atoms) e in
         let h = plain_head l code in
-        let laid = layout.function_keeps l h code e (can_lay l t blocks atoms form long few)
-        (plain_declares l blocks atoms) plain_covered (never_switches e) in
-        let lowers = lowering.code_agrees l t blocks atoms form e entry (low_stack l e none some) in
-        without_words (proto_of l None).gives p c (λ w none. never_word l (frame_of l no_variables) e w none)
+        let laid = layout.function_keeps l h code e (can_lay l t f blocks atoms form long few)
+        (plain_declares l f blocks atoms) plain_covered (never_switches e) in
+        let lowers = lowering.code_agrees l t f blocks atoms form e entry (law e entry) in
+        without_words (proto_of l None).gives p c (λ w none. never_word l f e w none)
         (agree_along true p (seen_code l code e) c lowers laid)

@@ -1,4 +1,6 @@
+pub mod Framing
 pub mod Keeps
+pub mod Near
 pub mod Forms
 pub mod Formed
 pub mod Ordered

@@ -1,21 +1,28 @@
 -- No input is both accepted and refused.
-use Rattle.std.proofs.Common.{◌≡◌, ◌∙◌, ℕ, List, [], Some, None, length, ap, sym, subst, arith}
+use Rattle.std.proofs.Common.{◌≡◌, ◌∙◌, ℕ, List, [], Some, None, length, ap, inl, inr, sym, subst, arith}
+use Rattle.std.specs.Prelude.{ℤ, pos, ◌+ℤ◌}
+use Rattle.pcode_model.specs.declared.atoms.Atom.{Atom}
 use Rattle.pcode_model.specs.declared.flow.FlowWhy.TheVariants as W
+use Rattle.pcode_model.specs.declared.frame.Frame.{Frame}
+use Rattle.pcode_model.specs.declared.frame.FrameAccess.{FrameAccess}
 use Rattle.pcode_model.specs.declared.listing.Listing.{Listing}
 use Rattle.pcode_model.specs.declared.listing.Place.{Place}
 use Rattle.pcode_model.specs.declared.rules.OpFault.{OpFault}
-use Rattle.pcode_model.specs.Flow.{AreStarts}
+use Rattle.pcode_model.specs.declared.storage.ParamStorage.{ParamStorage}
+use Rattle.pcode_model.specs.declared.storage.ParamStorage.TheVariants as P
+use Rattle.pcode_model.specs.Flow.{AreStarts, IsIn}
+use Rattle.pcode_model.specs.Atoms.{Area, Cuts, IsAccessed, IsAtom, IsCut, Range, area_of, offset_of, range}
 use Rattle.pcode_model.specs.Rules.{first_bad}
 use Rattle.pcodetext.specs.declared.fault.TextFault.{TextFault}
 use Rattle.pcodetext.specs.Meaning.{Good, Bad}
 use Rattle.pcodetext.proofs.Whole.{good_same}
 use Rattle.flow.specs.declared.answer.FlowFault.TheVariants as F
-use Rattle.stackvars.specs.Cuts.{HasSoMany}
+use Rattle.frame_facts.proofs.Whole.{same_accesses}
 use Rattle.stackvars.specs.declared.fault.AtomFault.TheVariants as A
 use Rattle.refusals.specs.Good.{Bytes, RefusedBy}
 use Rattle.refusals.specs.declared.refusal.Refusal.{Refusal}
 use Rattle.refusals.specs.declared.refusal.Refusal.TheVariants as R
-use Rattle.pipeline.specs.Verdict.{Accepts, IsAccepted, IsRefused}
+use Rattle.pipeline.specs.Verdict.{Accepts, HasAtoms, IsAccepted, IsRefused}
 use Rattle.pipeline.proofs.Ordered.{same_atoms, same_places}
 
 -- ---- as many blocks, and as many atoms
@@ -24,12 +31,44 @@ starts_same : (l : Listing) (ps qs : List Place) → AreStarts l [] ps → AreSt
 starts_same l ps qs a b = same_places ps qs a.rising b.rising (λ p is. (b.each p).1 ((a.each p).0 is))
     (λ p is. (a.each p).1 ((b.each p).0 is))
 
-atoms_same : (l : Listing) (m n : ℕ) → HasSoMany l m → HasSoMany l n → m ≡ n
-atoms_same l m n (xs, (a, x)) (ys, (b, y)) =
+-- What is accessed by one frame is accessed by another one that has its accesses.
+module _ (l : Listing) (f g : Frame) (has : (a : FrameAccess) → IsIn a f.accesses → IsIn a g.accesses) where
+  accessed_by : (s : ParamStorage) (k : ℕ) → IsAccessed l [] f (range s k) → IsAccessed l [] g (range s k)
+  accessed_by (P.Register o) k h = h
+  accessed_by (P.Unique o) k h = h
+  accessed_by (P.Stack o) k h = (h.0, (has h.0 h.1.0, h.1.1))
+
+  cuts_by : (r : Range) → Cuts l [] f r → Cuts l [] g r
+  cuts_by r (inl h) = inl (accessed_by r.storage r.size h)
+  cuts_by r (inr h) = inr h
+
+  cut_by : (area : Area) (o : ℤ) → IsCut l [] f area o → IsCut l [] g area o
+  cut_by area o h = (h.0, (cuts_by h.0 h.1.0, h.1.1))
+
+atom_by : (l : Listing) (f g : Frame)
+    → ((a : FrameAccess) → IsIn a f.accesses → IsIn a g.accesses)
+    → ((a : FrameAccess) → IsIn a g.accesses → IsIn a f.accesses)
+    → (a : Atom)
+    → IsAtom l [] f a
+    → IsAtom l [] g a
+atom_by l f g there back a is = record {
+  some = is.some;
+  begins = cut_by l f g there (area_of a.storage) (offset_of a.storage) is.begins;
+  ends = cut_by l f g there (area_of a.storage) (offset_of a.storage +ℤ pos a.size) is.ends;
+  whole = λ d low high cut. is.whole d low high (cut_by l g f back (area_of a.storage) (offset_of a.storage +ℤ pos d) cut);
+  access = is.access;
+  accessed = accessed_by l f g there is.access.storage is.access.size is.accessed;
+  inside = is.inside;
+}
+
+atoms_same : (l : Listing) (m n : ℕ) → HasAtoms l m → HasAtoms l n → m ≡ n
+atoms_same l m n (f, (is, (xs, (a, x)))) (g, (also, (ys, (b, y)))) =
+    let there = same_accesses l [] [] f g is also in
+    let back = same_accesses l [] [] g f also is in
     sym x
     ∙ ap length (same_atoms xs ys a.in_order b.in_order
-    (λ c is. (b.each c).1 ((a.each c).0 is))
-    (λ c is. (a.each c).1 ((b.each c).0 is)))
+    (λ c h. (b.each c).1 (atom_by l f g there back c ((a.each c).0 h)))
+    (λ c h. (a.each c).1 (atom_by l g f back there c ((b.each c).0 h))))
     ∙ y
 
 -- ---- verdicts
@@ -61,9 +100,10 @@ module _ (bytes : Bytes) (l : Listing) (a : Accepts bytes l) where
       omega (arith, same, many.1.1.0, many.1.1.1, a.blocks.1.1)
   not_refused (R.Flow F.Memory) h = h
   not_refused (R.Atoms (A.TooManyAtoms n)) h =
-      let many = (the_listing _ h).1.1.1 in
-      let same = atoms_same l a.atoms.0 n a.atoms.1.0 many.0 in
-      omega (arith, same, many.1, a.atoms.1.1)
+      let fault = (the_listing _ h).1.1.1 in
+      let many : HasAtoms l n = (fault.0, (fault.1.0, fault.1.1.0)) in
+      let same = atoms_same l a.atoms.0 n a.atoms.1.0 many in
+      omega (arith, same, fault.1.1.1, a.atoms.1.1)
   not_refused (R.Atoms A.Memory) h = h
   not_refused R.Memory h = h
 

@@ -4,15 +4,17 @@ use Rattle.std.specs.Prelude.{◌≡◌, ℕ, ◌≤◌, [], Some, ⊤}
 use Rattle.pcode_model.specs.declared.frame.Frame.{Frame}
 use Rattle.pcode_model.specs.declared.listing.Listing.{Listing}
 use Rattle.pcode_model.specs.Flow.{NoFault}
-use Rattle.pcode_model.specs.Frame.{IsFrameOf, frame_of}
+use Rattle.pcode_model.specs.Frame.{frame_of}
 use Rattle.pcode_model.specs.Limits.{max_atoms}
 use Rattle.pcode_model.specs.Rules.{first_bad}
 use Rattle.pcodetext.specs.Meaning.{Good, Bad, reading}
+use Rattle.frame_facts.specs.Listed.{IsFrame}
 use Rattle.supported.specs.Supported.{IsSupported}
 use Rattle.flow.specs.Answer.{IsFlowFault}
 use Rattle.flow.specs.declared.answer.FlowFault.TheVariants as flow
 use Rattle.stackvars.specs.Cuts as cuts
 use Rattle.stackvars.specs.Cuts.{HasSoMany}
+use Rattle.stackvars.specs.declared.fault.AtomFault.{AtomFault}
 use Rattle.stackvars.specs.declared.fault.AtomFault.TheVariants as atoms
 use Rattle.refusals.specs.Good.{Bytes, HasFewBlocks, IsGood, RefusedBy}
 use Rattle.refusals.specs.declared.refusal.Refusal.{Refusal}
@@ -24,13 +26,21 @@ use Rattle.cmeaning.specs.Valid.{IsValid}
 use Rattle.ctext.specs.Text.{text_of}
 use Rattle.pipeline.specs.PlainForm.{IsPlainForm}
 
+-- so many atoms, with those of the listing's frame
+abbrev pub HasAtoms : Listing → ℕ → Type 0
+HasAtoms l n = (frame : Frame) × (IsFrame l [] [] frame × HasSoMany l frame n)
+
+-- why the atoms are refused, with those of the listing's frame
+abbrev pub IsAtomFault : Listing → AtomFault → Type 0
+IsAtomFault l fault = (frame : Frame) × (IsFrame l [] [] frame × cuts.IsCause l frame fault)
+
 -- the input is a listing that is built, no place of its flow has a fault, and there are not too many blocks and atoms
 pub record Accepts (bytes : Bytes) (l : Listing) : Type 0 where
   pub good : IsGood bytes l
   pub built : IsSupported l
   pub flow : NoFault l []
   pub blocks : HasFewBlocks l
-  pub atoms : (n : ℕ) × (HasSoMany l n × (n ≤ max_atoms))
+  pub atoms : (n : ℕ) × (HasAtoms l n × (n ≤ max_atoms))
 
 abbrev pub IsAccepted : Bytes → Type 0
 IsAccepted bytes = (l : Listing) × Accepts bytes l
@@ -44,7 +54,7 @@ IsRefused bytes (refusal.Flow flow.Memory) = ⊥
 IsRefused bytes (refusal.Flow fault) = RefusedBy bytes (λ l. IsSupported l × IsFlowFault l [] fault)
 IsRefused bytes (refusal.Atoms atoms.Memory) = ⊥
 IsRefused bytes (refusal.Atoms fault) =
-    RefusedBy bytes (λ l. IsSupported l × (NoFault l [] × (HasFewBlocks l × cuts.IsCause l fault)))
+    RefusedBy bytes (λ l. IsSupported l × (NoFault l [] × (HasFewBlocks l × IsAtomFault l fault)))
 IsRefused bytes refusal.Memory = ⊥
 
 -- a refusal of the input, unless memory ran out
@@ -57,7 +67,7 @@ abbrev pub Stops : Listing → Refusal → Type 0
 Stops l (refusal.Flow flow.Memory) = ⊥
 Stops l (refusal.Flow fault) = IsFlowFault l [] fault
 Stops l (refusal.Atoms atoms.Memory) = ⊥
-Stops l (refusal.Atoms fault) = NoFault l [] × (HasFewBlocks l × cuts.IsCause l fault)
+Stops l (refusal.Atoms fault) = NoFault l [] × (HasFewBlocks l × IsAtomFault l fault)
 Stops l refusal.Memory = ⊤
 Stops l _ = ⊥
 
@@ -67,7 +77,7 @@ pub record MayPrint (bytes text : Bytes) : Type 0 where
   pub listing : Listing
   pub read : reading bytes ≡ Good listing
   pub frame : Frame
-  pub is_frame : IsFrameOf listing frame
+  pub is_frame : IsFrame listing [] [] frame
   pub function : CFunction
   pub valid : IsValid function
   pub fits : Fits listing function

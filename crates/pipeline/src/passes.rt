@@ -29,10 +29,16 @@ pub fn decompile(alloc: Global, bytes: &[u8]) -> Result<Text, Refusal>
 /// The C function of a listing that is accepted: the plain lowering, and its layout.
 pub fn lower(alloc: Global, accepted: &Accepted) -> Result<CFunction, Memory>
     requires { HasPassed accepted.now }
-    ensures { IfOk result (Lowers accepted.now.listing) }
+    ensures { IfOk result (Lowers accepted.now.listing accepted.now.frame) }
 {
     let listing = &accepted.listing;
-    let code = plain(alloc, listing, &accepted.flow, &accepted.atoms)?;
+    let code = plain(
+        alloc,
+        listing,
+        &accepted.flow,
+        &accepted.frame,
+        &accepted.atoms,
+    )?;
     let name = Name::from_slice(alloc, listing.func.name.as_slice())?;
     let callees = callees(alloc, listing, &code)?;
     let head = plain_head(

@@ -1,8 +1,8 @@
 // Which inputs are accepted, and why the others are refused.
 ghost use Rattle.std.specs.Prelude.{◌≡◌, ◌-◌, ◌^◌, ◌≤◌, length, IfErr, IfOk, [], None, OnOk};
+ghost use Rattle.frame_facts.specs.Listed.{IsFrame};
 ghost use Rattle.pcode_model.specs.Atoms.{AreAtoms};
 ghost use Rattle.pcode_model.specs.Flow.{IsFlow, NoFault};
-ghost use Rattle.pcode_model.specs.Frame.{no_variables};
 ghost use Rattle.pcode_model.specs.Limits.{max_atoms, max_blocks};
 ghost use Rattle.pcode_model.specs.Rules.{first_bad};
 ghost use Rattle.pcode_model.specs.WellFormed.{IsWellFormed};
@@ -10,22 +10,24 @@ ghost use Rattle.pipeline.specs.Verdict.{Accepts, IsCause, Stops};
 ghost use Rattle.pipeline.specs.Passed.{HasPassed};
 
 use flow::follow;
-use pcode_model::{Atoms, Flow, Listing, Tables, check_ops};
+use frames::frame;
+use pcode_model::{Atoms, Flow, Frame, Listing, Tables, check_ops};
 use pcodetext::read_listing;
 use refusals::Refusal;
 use stackvars::atoms;
 use std::alloc::Global;
 use supported::is_supported;
 
-/// A listing that is accepted, its blocks, and its atoms.
+/// A listing that is accepted, its blocks, its frame and its atoms.
 #[derive(Drop)]
 pub struct Accepted {
     pub listing: Listing,
     pub flow: Flow,
+    pub frame: Frame,
     pub atoms: Atoms,
 }
 
-/// The listing of an input with its blocks and atoms, or the first fault of the input: a fault of the text, an op that
+/// The listing of an input with its blocks, frame and atoms, or the first fault of the input: a fault of the text, an op that
 /// breaks a rule, a listing that isn't built, a fault of the flow, too many blocks, or too many atoms.
 pub fn accept(alloc: Global, bytes: &[u8]) -> Result<Accepted, Refusal>
     requires { length bytes.now ≤ 2 ^ 32 - 2 }
@@ -39,10 +41,12 @@ pub fn accept(alloc: Global, bytes: &[u8]) -> Result<Accepted, Refusal>
         return Err(Refusal::NotBuilt);
     }
     let flow = blocks(alloc, &listing)?;
-    let atoms = variables(alloc, &listing, &flow)?;
+    let frame = stack_variables(alloc, &listing, &flow)?;
+    let atoms = variables(alloc, &listing, &flow, &frame)?;
     Ok(Accepted {
         listing,
         flow,
+        frame,
         atoms,
     })
 }
@@ -61,18 +65,39 @@ fn blocks(alloc: Global, listing: &Listing) -> Result<Flow, Refusal>
     }
 }
 
+// The frame. Only want of memory refuses it.
+fn stack_variables(alloc: Global, listing: &Listing, flow: &Flow) -> Result<Frame, Refusal>
+    requires formed { IsWellFormed listing.now }
+    requires ops { first_bad listing.now ≡ None }
+    requires flow { IsFlow listing.now [] flow.now }
+    requires no_fault { NoFault listing.now [] }
+    ensures frame { IfOk result (IsFrame listing.now [] []) }
+    ensures stops { IfErr result (λ fault. Stops listing.now fault) }
+{
+    match frame(alloc, listing, flow) {
+        Ok(frame) => Ok(frame),
+        Err(_) => Err(Refusal::Memory),
+    }
+}
+
 // The atoms: each is a variable.
-fn variables(alloc: Global, listing: &Listing, flow: &Flow) -> Result<Atoms, Refusal>
+fn variables(
+    alloc: Global,
+    listing: &Listing,
+    flow: &Flow,
+    frame: &Frame,
+) -> Result<Atoms, Refusal>
     requires formed { IsWellFormed listing.now }
     requires ops { first_bad listing.now ≡ None }
     requires flow { IsFlow listing.now [] flow.now }
     requires no_fault { NoFault listing.now [] }
     requires few { length flow.now ≤ max_blocks }
-    ensures atoms { IfOk result (λ atoms. AreAtoms listing.now [] no_variables atoms) }
+    requires frame { IsFrame listing.now [] [] frame.now }
+    ensures atoms { IfOk result (λ atoms. AreAtoms listing.now [] frame.now atoms) }
     ensures few { IfOk result (λ atoms. length atoms ≤ max_atoms) }
     ensures stops { IfErr result (λ fault. Stops listing.now fault) }
 {
-    match atoms(alloc, listing, flow) {
+    match atoms(alloc, listing, flow, frame) {
         Ok(atoms) => Ok(atoms),
         Err(fault) => Err(Refusal::from(fault)),
     }

@@ -1,6 +1,6 @@
 -- Each range of the register space or of the unique space that a supported listing accesses has 1 to 16 bytes and lies
 -- inside its space.
-use Rattle.std.proofs.Common.{◌≡◌, ◌≤◌, ◌+◌, ◌^◌, ◌⊎◌, Bool, true, false, List, [], ◌∷◌, ◌++◌, Option, None, refl, inl, inr, subst}
+use Rattle.std.proofs.Common.{◌≡◌, ◌≤◌, ◌+◌, ◌^◌, ◌⊎◌, Bool, true, false, List, [], ◌∷◌, ◌++◌, Option, Some, None, refl, inl, inr, sym, subst, arith}
 use Rattle.std.specs.Prelude.{if◌then◌else◌}
 use Rattle.pcode_model.specs.declared.opcode.Opcode.{Opcode}
 use Rattle.pcode_model.specs.declared.opcode.Opcode.TheVariants as O
@@ -13,6 +13,7 @@ use Rattle.pcode_model.specs.declared.listing.Proto.{Proto}
 use Rattle.pcode_model.specs.Flow.{IsIn}
 use Rattle.pcode_model.specs.Places.{Standing, Nothing, Passes, Does, standing}
 use Rattle.pcode_model.specs.Rules.{first_bad, input_ranges, names_address, past_first}
+use Rattle.pcode_model.specs.Spaces.{first_ram}
 use Rattle.pcode_model.specs.Step.{arguments, callee_at, operands, proto_of, varnode_at}
 use Rattle.pcode_model.specs.Atoms.{Accesses, IsLocal, further_ranges, one_range, op_ranges, ranges_in, ranges_read}
 use Rattle.pcode_model.specs.WellFormed.{IsStorage, IsWellFormed}
@@ -20,12 +21,16 @@ use Rattle.pcode_model.proofs.Members.{in_either}
 use Rattle.supported.specs.Supported.{IsSupported, is_supported_code}
 use Rattle.stackvars.proofs.Passed.{reads_passed}
 use Rattle.stackvars.proofs.Reach.{of_rest, read_back, read_rest}
+use Rattle.plain_form.proofs.Halves.{first_ram_is, pointer_is}
+use Rattle.plain_form.proofs.Memory.{memory_is}
 use Rattle.plain_form.proofs.Prototypes.{IsDeclared, callee_declared, own_declared, passed_storage}
-use Rattle.plain_form.proofs.Standing.{StandsIn, stands_in, supported_in}
+use Rattle.instructions.proofs.Standing.{StandsIn, stands_in}
+use Rattle.plain_form.proofs.Standing.{supported_in}
 use Rattle.plain_form.proofs.Formed.{IsInput, Inside}
 use Rattle.plain_form.proofs.Read.{input, input_inside, one_in, output_inside, storage_input, storage_inside}
 
--- ---- what a supported op accesses: what it reads, its output, and at a call and a RETURN the result
+-- ---- what a supported op accesses: what it reads, its output, and at a call the result and the
+-- stack pointer, and at a RETURN the result
 
 module _ (l : Listing) (read : IsWellFormed l) where
   argument_is : (p : Proto)
@@ -68,31 +73,43 @@ module _ (l : Listing) (read : IsWellFormed l) where
   operand_is (O.Analysis op) vs s v h = absurd (cc)
   operand_is (O.LeftOut op) vs s v h = absurd (cc)
 
-  module _ (none : l.stack ≡ None) where
-    given_is : (p : Proto)
-        → IsDeclared l p
-        → (v : Varnode)
-        → IsIn v (one_range p.gives ++ one_range l.stack)
-        → IsStorage l.spaces v
-    given_is p declared v h =
-        elim (in_either (one_range p.gives) (one_range l.stack) v h) [
-          | inl g ↦ one_in (IsStorage l.spaces) p.gives declared.is.gives v g
-          | inr f ↦ let P : Option Varnode → Type 0 = λ o. IsIn v (one_range o) in absurd (subst P none f)
-        ]
+  -- The stack pointer is a range like a result's.
+  pub pointer_storage : (sp : Varnode) → l.stack ≡ Some sp → IsStorage l.spaces sp
+  pointer_storage sp is =
+      let p = pointer_is l read sp is in
+      let few = (memory_is l read (first_ram l) (first_ram_is l read)).few in
+      let wide = p.wide in
+      record { register = p.register; few = omega (arith, few, wide) }
 
-    -- What it accesses further is the result of what it calls, or the function's.
-    further_is : (code : Opcode) (vs : List Varnode)
-        → is_supported_code code ≡ true
-        → (v : Varnode)
-        → IsIn v (further_ranges l None code vs)
-        → IsStorage l.spaces v
-    further_is O.Return vs s v h =
-        one_in (IsStorage l.spaces) (proto_of l None).gives (own_declared l read).is.gives v h
-    further_is O.Call vs s v h =
-        let a = (varnode_at vs 0).offset in
-        given_is (proto_of l (callee_at l a)) (callee_declared l read a) v h
-    further_is O.CallInd vs s v h = given_is (proto_of l None) (own_declared l read) v h
-    further_is code vs s v h = absurd h
+  stack_storage : (o : Option Varnode) → l.stack ≡ o → (v : Varnode) → IsIn v (one_range o) → IsStorage l.spaces v
+  stack_storage None is v h = absurd h
+  stack_storage (Some sp) is v (inl e) = subst (λ (x : Varnode). IsStorage l.spaces x) (sym e) (pointer_storage sp is)
+  stack_storage (Some sp) is v (inr h) = absurd h
+
+  given_is : (p : Proto)
+      → IsDeclared l p
+      → (v : Varnode)
+      → IsIn v (one_range p.gives ++ one_range l.stack)
+      → IsStorage l.spaces v
+  given_is p declared v h =
+      elim (in_either (one_range p.gives) (one_range l.stack) v h) [
+        | inl g ↦ one_in (IsStorage l.spaces) p.gives declared.is.gives v g
+        | inr f ↦ stack_storage l.stack refl v f
+      ]
+
+  -- What it accesses further is the result of what it calls, the stack pointer, or the function's result.
+  further_is : (code : Opcode) (vs : List Varnode)
+      → is_supported_code code ≡ true
+      → (v : Varnode)
+      → IsIn v (further_ranges l None code vs)
+      → IsStorage l.spaces v
+  further_is O.Return vs s v h =
+      one_in (IsStorage l.spaces) (proto_of l None).gives (own_declared l read).is.gives v h
+  further_is O.Call vs s v h =
+      let a = (varnode_at vs 0).offset in
+      given_is (proto_of l (callee_at l a)) (callee_declared l read a) v h
+  further_is O.CallInd vs s v h = given_is (proto_of l None) (own_declared l read) v h
+  further_is code vs s v h = absurd h
 
 -- ---- what is accessed lies inside its space
 
@@ -104,7 +121,7 @@ module _ (l : Listing) (read : IsWellFormed l) (good : first_bad l ≡ None) (su
       → IsIn v (ranges_read (operands l op.code op.inputs))
       → IsInput l v
   operand_input i op stand v h =
-      elim (operand_is l read op.code op.inputs (supported_in l.code sup.ops i op stand) v h) [
+      elim (operand_is l read op.code op.inputs (supported_in l.code sup i op stand) v h) [
         | inl is ↦ input l read good i op stand v is
         | inr is ↦ storage_input l read good v is
       ]
@@ -116,13 +133,13 @@ module _ (l : Listing) (read : IsWellFormed l) (good : first_bad l ≡ None) (su
       → IsIn v (op_ranges l None op)
       → Inside l v
   op_inside i op stand v home h =
-      let code = supported_in l.code sup.ops i op stand in
+      let code = supported_in l.code sup i op stand in
       elim (in_either (ranges_read (operands l op.code op.inputs))
       (one_range op.out ++ further_ranges l None op.code op.inputs) v h) [
         | inl p ↦ input_inside l read good v home (operand_input i op stand v p)
         | inr q ↦ elim (in_either (one_range op.out) (further_ranges l None op.code op.inputs) v q) [
           | inl o ↦ output_inside l read good i op stand v home o
-          | inr f ↦ storage_inside l read good v (further_is l read sup.stack op.code op.inputs code v f)
+          | inr f ↦ storage_inside l read good v (further_is l read op.code op.inputs code v f)
         ]
       ]
 

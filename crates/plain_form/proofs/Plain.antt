@@ -1,5 +1,5 @@
 -- What stands at a reached place of a supported listing has the form that the plain lowering asks for.
-use Rattle.std.proofs.Common.{◌≡◌, ◌<◌, ℕ, Bool, true, false, List, [], ◌∷◌, Option, Some, None, length, refl, inl, inr, sym, subst, ◌∙◌, arith}
+use Rattle.std.proofs.Common.{◌≡◌, ◌<◌, ◌++◌, ℕ, suc, ap, Bool, true, false, List, [], ◌∷◌, Option, Some, None, length, refl, inl, inr, sym, subst, ◌∙◌, arith}
 use Rattle.std.specs.Prelude.{◌&&◌, nat_le, not, IfSome, IsSome}
 use Rattle.std.specs.List.{AllByRecursion}
 use Rattle.std.proofs.lemmas.Bool.Decides.{nat_tests}
@@ -24,11 +24,12 @@ use Rattle.pcode_model.specs.declared.listing.Storage.TheVariants.{At, Stack}
 use Rattle.pcode_model.specs.declared.rules.OpWhy.{OpWhy}
 use Rattle.pcode_model.specs.declared.rules.OpWhy.TheVariants.{Arity, BadSpace, SizeRule}
 use Rattle.pcode_model.specs.declared.rules.Output.TheVariants as output
+use Rattle.pcode_model.specs.Memory.{Frame}
 use Rattle.pcode_model.specs.Flow.{IsIn, Reached, Fails, NoFault, standing_ways}
 use Rattle.pcode_model.specs.declared.flow.FlowWhy.TheVariants.{NoTarget}
-use Rattle.pcode_model.specs.Spaces.{kind_of, register_space}
+use Rattle.pcode_model.specs.Spaces.{first_ram, kind_of, register_space}
 use Rattle.pcode_model.specs.Places.{Standing, Nothing, Passes, Does, standing}
-use Rattle.pcode_model.specs.Step.{arguments, callee_at, operands, proto_of, size_out}
+use Rattle.pcode_model.specs.Step.{Operand, ReadsStack, all_read, arguments, callee_at, operands, proto_of, size_out, varnode_at}
 use Rattle.pcode_model.specs.Atoms.{Accesses, IsLocal, further_ranges, one_range, op_ranges, ranges_in, ranges_read}
 use Rattle.pcode_model.specs.Rules.{breaks, first_bad, has_operands, has_output, inputs_stand, leaves_space, names_ram, operands_of, output_is_constant, rules, sizes_fit}
 use Rattle.pcode_model.specs.WellFormed.{IsArgument, IsStorage, IsWellFormed, ShareNothing}
@@ -37,18 +38,27 @@ use Rattle.stackvars.specs.Accesses.{passed}
 use Rattle.stackvars.proofs.Ops.{read_all}
 use Rattle.stackvars.proofs.Passed.{reads_passed}
 use Rattle.op_code.specs.Cover.{HasCover}
-use Rattle.op_code.specs.Form.{AllOperands, IsCallable, IsDirect, IsGiven, IsLocalBy, IsMemory, IsOperand, IsOperandBy, IsOutput, IsOutputBy, IsPassed, IsPlainOp, IsResult, IsSecond, IsSplitBy}
+use Rattle.op_code.specs.Form.{AllOperands, HasPointer, IsCallable, IsDirect, IsFramed, IsGiven, IsLoad, IsLocalBy, IsMemory, IsOnStack, IsOperand, IsOperandBy, IsOutput, IsOutputBy, IsPlainOp, IsResult, IsSecond, IsSplitBy, IsStore}
+use Rattle.op_code.specs.Made.{Own, none_own}
 use Rattle.op_code.specs.Lowerable.{IsPlain}
 use Rattle.pcode_model.proofs.Members.{behind, in_front}
 use Rattle.pcode_laws.proofs.Rules.{breaks_none}
 use Rattle.pcode_laws.proofs.Sizes.{binary_is, two_of, unary_is}
-use Rattle.plain_form.proofs.Standing.{StandsIn, stands_in, supported_in}
+use Rattle.plain_form.proofs.Counted.{counted, of_one, of_three, of_two, third, with_output, without_output}
+use Rattle.instructions.proofs.Standing.{StandsIn, stands_in}
+use Rattle.plain_form.proofs.Standing.{supported_in}
 use Rattle.plain_form.proofs.Spaces.{differ, first_constant, same_is}
 use Rattle.plain_form.proofs.Memory.{memory_is}
 use Rattle.plain_form.proofs.Formed.{IsInput, IsWritten}
 use Rattle.plain_form.proofs.Prototypes.{IsDeclared, callee_declared, own_declared}
 use Rattle.plain_form.proofs.Read.{output as written, register_home, register_kind, result_home, result_inside, storage_home, unique_home}
-use Rattle.plain_form.proofs.Accessed.{operand_input}
+use Rattle.frame_facts.specs.Accesses.{Reach, only_memory, reaches, stack_reaches}
+use Rattle.frame_facts.proofs.Prototypes.{offsets_are}
+use Rattle.frame_facts.proofs.Reaches.{memory_reach, one_byte, reach_of}
+use Rattle.plain_form.proofs.Accessed.{operand_input, pointer_storage}
+use Rattle.plain_form.proofs.Framed.{past_read}
+use Rattle.plain_form.proofs.Halves.{first_ram_is}
+use Rattle.plain_form.proofs.Owned.{IsOwned}
 use Rattle.plain_form.proofs.Rules.{ends_within}
 
 -- ---- operands
@@ -100,55 +110,12 @@ result_by Ram ranges v e has = absurd (cc)
 result_by Register ranges v e has = has
 result_by Unique ranges v e has = absurd (cc)
 
--- ---- how many operands an op has
-
-third : (a b c : Bool) → (a && (b && c)) ≡ true → c ≡ true
-third a b c h = (and_parts _ _ (and_parts _ _ h).1).1
-
-counted : (n m : ℕ) (b : Bool) → (nat_le n m && (nat_le m n && b)) ≡ true → m ≡ n
-counted n m b h =
-    let p = and_parts _ _ h in
-    let q = and_parts _ _ p.1 in
-    let e : nat_le n m ≡ true = p.0 in
-    let f : nat_le m n ≡ true = q.0 in
-    grind (arith, nat_tests)
-
-with_output : (P : Option Varnode → Type 0) (out : Option Varnode)
-    → has_output output.Has out ≡ true
-    → ((z : Varnode) → P (Some z))
-    → P out
-with_output P None h f = absurd (cc)
-with_output P (Some z) h f = f z
-
-without_output : (P : Option Varnode → Type 0) (out : Option Varnode)
-    → has_output output.Lacks out ≡ true
-    → P None
-    → P out
-without_output P None h p = p
-without_output P (Some z) h p = absurd (cc)
-
-of_one : (P : List Varnode → Type 0) (vs : List Varnode) → length vs ≡ 1 → ((x : Varnode) → P (x ∷ [])) → P vs
-of_one P [] h f = absurd (omega arith)
-of_one P (x ∷ []) h f = f x
-of_one P (x ∷ y ∷ vs) h f = absurd (omega arith)
-
-of_two : (P : List Varnode → Type 0) (vs : List Varnode)
-    → length vs ≡ 2
-    → ((x y : Varnode) → P (x ∷ y ∷ []))
-    → P vs
-of_two P [] h f = absurd (omega arith)
-of_two P (x ∷ vs) h f = of_one (λ ys. P (x ∷ ys)) vs (omega arith) (f x)
-
-of_three : (P : List Varnode → Type 0) (vs : List Varnode)
-    → length vs ≡ 3
-    → ((x y z : Varnode) → P (x ∷ y ∷ z ∷ []))
-    → P vs
-of_three P [] h f = absurd (omega arith)
-of_three P (x ∷ vs) h f = of_two (λ ys. P (x ∷ ys)) vs (omega arith) (f x)
-
 -- ---- the form of an op
 
-module _ (l : Listing) (read : IsWellFormed l) (ranges : List Varnode) where
+module _ (l : Listing) (read : IsWellFormed l) (own : Own) (ranges : List Varnode) where
+  abbrev op_of : Opcode → Option Varnode → List Varnode → Op
+  op_of code out vs = record { code = code; out = out; inputs = vs }
+
   -- what is known of an op of a supported listing
   record Known (code : Opcode) (out : Option Varnode) (vs : List Varnode) : Type 0 where
     sizes : sizes_fit code (size_out out) vs ≡ true
@@ -156,14 +123,16 @@ module _ (l : Listing) (read : IsWellFormed l) (ranges : List Varnode) where
     inputs : (v : Varnode) → IsIn v (ranges_read (operands l code vs)) → IsOperand l ranges v
     output : (v : Varnode) → IsIn v (one_range out) → IsOutput l ranges v
     result : code ≡ O.Return → IsResult l ranges (proto_of l None).gives
+    owned : (n c : ℕ) → own n ≡ Some c → IsOwned l ranges (op_of code out vs) n c
     callable : (p : Proto)
         → IsDeclared l p
         → ((v : Varnode) → IsIn v (passed p.args) → IsIn v (ranges_read (operands l code vs)))
-        → ((v : Varnode) → IsIn v (one_range p.gives) → IsIn v (further_ranges l None code vs))
-        → IsCallable l ranges p
+        → ((v : Varnode) → IsIn v (one_range p.gives ++ one_range l.stack) → IsIn v (further_ranges l None code vs))
+        → ((r : Reach) → IsIn r (reaches l (op_of code out vs)) → IsIn r (stack_reaches l.stack (arguments 0 p.args)))
+        → IsCallable l own ranges p
 
   abbrev HasForm : Opcode → Option Varnode → List Varnode → Type 0
-  HasForm code out vs = Known code out vs → IsPlainOp l ranges code out vs
+  HasForm code out vs = Known code out vs → IsPlainOp l own ranges code out vs
 
   named_memory : (s : Varnode) → names_ram l s ≡ true → IsMemory l s.offset
   named_memory s h = memory_is l read s.offset (sym (same_is Ram (kind_of l s.offset) (and_parts _ _ h).1))
@@ -190,11 +159,26 @@ module _ (l : Listing) (read : IsWellFormed l) (ranges : List Varnode) where
     ((k.inputs x (inl refl), k.inputs y (inr (inl refl))), k.output z (inl refl)),
   )
 
+  -- what an access of the frame by a LOAD or STORE is
+  own_memory : (vs : List Varnode) (c k : ℕ) (r : Reach)
+      → IsIn r (only_memory l vs k)
+      → IsFramed l ranges c r.size
+      → ((varnode_at vs 0).offset ≡ first_ram l) × IsFramed l ranges c k
+  own_memory vs c k r is framed =
+      let m = memory_reach l vs k r is in
+      (eqb-true _ _ m.0, subst (IsFramed l ranges c) (ap (λ (x : Reach). x.size) m.1) framed)
+
   load_form : (z s x : Varnode) → HasForm O.Load (Some z) (s ∷ x ∷ [])
-  load_form z s x k = (named_memory s k.stands, (k.inputs x (inl refl), k.output z (inl refl)))
+  load_form z s x k = (by (own 0) refl, (k.inputs x (inl refl), k.output z (inl refl))) where
+    by : (o : Option ℕ) → own 0 ≡ o → IsLoad o l ranges s z
+    by None e = named_memory s k.stands
+    by (Some c) e = let r = k.owned 0 c e in own_memory (s ∷ x ∷ []) c z.size r.by r.is_by r.framed
 
   store_form : (s x y : Varnode) → HasForm O.Store None (s ∷ x ∷ y ∷ [])
-  store_form s x y k = (named_memory s k.stands, (k.inputs x (inl refl), k.inputs y (inr (inl refl))))
+  store_form s x y k = (by (own 0) refl, (k.inputs x (inl refl), k.inputs y (inr (inl refl)))) where
+    by : (o : Option ℕ) → own 0 ≡ o → IsStore o l ranges s y
+    by None e = named_memory s k.stands
+    by (Some c) e = let r = k.owned 0 c e in own_memory (s ∷ x ∷ y ∷ []) c y.size r.by r.is_by r.framed
 
   test_form : (to x : Varnode) → HasForm O.CBranch None (to ∷ x ∷ [])
   test_form to x k = (eqb-true x.size 1 k.sizes, k.inputs x (inl refl))
@@ -208,18 +192,19 @@ module _ (l : Listing) (read : IsWellFormed l) (ranges : List Varnode) where
   call_form : (to : Varnode) → HasForm O.Call None (to ∷ [])
   call_form to k =
       let p = proto_of l (callee_at l to.offset) in
-      k.callable p (callee_declared l read to.offset) (passed_read p.args)
-      (λ v is. in_front (one_range p.gives) (one_range l.stack) v is)
+      k.callable p (callee_declared l read to.offset) (passed_read p.args) (λ v is. is) (λ r is. is)
 
   indirect_form : (to : Varnode) → HasForm O.CallInd None (to ∷ [])
   indirect_form to k =
       let p = proto_of l None in (
         k.inputs to (inl refl),
-        k.callable p (own_declared l read) (λ v is. inr (passed_read p.args v is))
-            (λ v is. in_front (one_range p.gives) (one_range l.stack) v is),
+        k.callable p (own_declared l read) (λ v is. inr (passed_read p.args v is)) (λ v is. is)
+            (λ r is. past_read l.stack to (arguments 0 p.args) r is),
       )
 
-  all_operands : (vs : List Varnode) → ((v : Varnode) → IsIn v vs → IsOperand l ranges v) → AllOperands l ranges vs
+  all_operands : (vs : List Varnode)
+      → ((v : Varnode) → IsIn v vs → IsOperand l ranges v)
+      → AllOperands l none_own ranges (all_read vs)
   all_operands [] f = tt
   all_operands (v ∷ vs) f = (f v (inl refl), all_operands vs (λ w is. f w (inr is)))
 
@@ -286,9 +271,14 @@ module _
     (read : IsWellFormed l)
     (good : first_bad l ≡ None)
     (sup : IsSupported l)
+    (f : Frame)
     (ranges : List Varnode)
     (has : (v : Varnode) → Accesses l [] v → HasCover ranges v)
     (splits : (p : Proto) (k : Varnode) → IsIn p l.protos → IsIn k p.keep → IsSplitBy l ranges k)
+    (owned : (p : Place) (i : Instruction) (op : Op) (n c : ℕ)
+    → standing l p ≡ Does i op
+    → f.own p n ≡ Some c
+    → IsOwned l ranges op n c)
   where
     module _ (p : Place) (reached : Reached l [] p) (i : Instruction) (op : Op) (here : standing l p ≡ Does i op) where
       stand : StandsIn l.code i op
@@ -308,7 +298,7 @@ module _
 
       code : is_supported_code op.code ≡ true
       unfolding stand
-      code = supported_in l.code sup.ops i op stand
+      code = supported_in l.code sup i op stand
 
       operand : (v : Varnode) → IsIn v (ranges_read (operands l op.code op.inputs)) → IsOperand l ranges v
       unfolding stand
@@ -358,18 +348,65 @@ module _
           covered v home
           (behind (ranges_read (operands l op.code op.inputs)) _ v (behind (one_range op.out) _ v further))
 
-      has_stack : (offset size : ℕ) → IsArgument l.spaces l.stack (Stack offset size) → IsSome l.stack
-      has_stack offset size h = h.3
+      -- the stack pointer, where a call accesses it
+      pointer_given : (sp : Varnode)
+          → l.stack ≡ Some sp
+          → IsIn sp (further_ranges l None op.code op.inputs)
+          → IsGiven l ranges sp
+      pointer_given sp is further =
+          let known = pointer_storage l read sp is in
+          let home = storage_home l read good sp known in
+          (home, ((known.register.some, known.few), covered_further sp (inl home) further))
 
-      all_passed : (args : List Storage)
-          → AllByRecursion (IsArgument l.spaces l.stack) args
-          → ((v : Varnode) → IsIn v (passed args) → IsOperand l ranges v)
-          → AllByRecursion (IsPassed l ranges) args
-      all_passed [] all f = tt
-      all_passed (At v ∷ args) all f = (f v (inl refl), all_passed args all.1 (λ w is. f w (inr is)))
-      all_passed (Stack offset size ∷ args) all f =
-          let has : IsSome l.stack = has_stack offset size all.0 in
-          absurd (cc)
+      has_pointer : (sp : Varnode)
+          → l.stack ≡ Some sp
+          → IsIn sp (further_ranges l None op.code op.inputs)
+          → HasPointer l ranges
+      has_pointer sp is further = record {
+        pointer = sp;
+        is = is;
+        given = pointer_given sp is further;
+        memory = memory_is l read (first_ram l) (first_ram_is l read);
+        wide = offsets_are l read sp is;
+        word = one_byte l read;
+      }
+
+      module _ (q : Proto)
+          (further : (v : Varnode) → IsIn v (one_range l.stack) → IsIn v (further_ranges l None op.code op.inputs))
+          (reached_by : (r : Reach) → IsIn r (reaches l op) → IsIn r (stack_reaches l.stack (arguments 0 q.args)))
+        where
+          on_stack : (sp : Varnode)
+              → l.stack ≡ Some sp
+              → (n offset size : ℕ)
+              → IsIn (ReadsStack n offset size) (arguments 0 q.args)
+              → (o : Option ℕ)
+              → f.own p n ≡ o
+              → IsOnStack o l ranges size
+          on_stack sp is n offset size among None e =
+              has_pointer sp is (further sp (subst (λ o. IsIn sp (one_range o)) (sym is) (inl refl)))
+          on_stack sp is n offset size among (Some c) e =
+              let own = owned p i op n c here e in
+              let there = subst (λ o. IsIn own.by (stack_reaches o (arguments 0 q.args))) is
+              (reached_by own.by own.is_by) in
+              let only = reach_of sp 0 q.args n offset size own.by among there own.number in
+              subst (IsFramed l ranges c) (ap (λ (r : Reach). r.size) only) own.framed
+
+          all_passed : (args : List Storage)
+              → AllByRecursion (IsArgument l.spaces l.stack) args
+              → (j : ℕ)
+              → ((x : Operand) → IsIn x (arguments j args) → IsIn x (arguments 0 q.args))
+              → ((v : Varnode) → IsIn v (passed args) → IsOperand l ranges v)
+              → AllOperands l (f.own p) ranges (arguments j args)
+          all_passed [] all j among g = tt
+          all_passed (At v ∷ args) all j among g =
+              (g v (inl refl), all_passed args all.1 (suc j) (λ x is. among x (inr is)) (λ w is. g w (inr is)))
+          all_passed (Stack offset size ∷ args) all j among g =
+              (((all.0.0, all.0.1), by l.stack refl all.0.3),
+              all_passed args all.1 (suc j) (λ x is. among x (inr is)) g)
+            where
+              by : (o : Option Varnode) → l.stack ≡ o → IsSome o → IsOnStack (f.own p j) l ranges size
+              by None e some = absurd (cc)
+              by (Some sp) e some = on_stack sp e j offset size (among _ (inl refl)) (f.own p j) refl
 
       given_by : (gives : Option Varnode)
           → IfSome gives (IsStorage l.spaces)
@@ -386,27 +423,48 @@ module _
       all_split [] f = tt
       all_split (k ∷ keep) f = (f k (inl refl), all_split keep (λ j is. f j (inr is)))
 
-      all_apart : (gives : Option Varnode) (keep : List Varnode)
-          → AllByRecursion (λ k. IfSome l.stack (ShareNothing k) × IfSome gives (ShareNothing k)) keep
-          → AllByRecursion (λ k. IfSome gives (ShareNothing k)) keep
-      all_apart gives [] all = tt
-      all_apart gives (k ∷ keep) all = (all.0.1, all_apart gives keep all.1)
+      all_apart : (gives stack : Option Varnode) (keep : List Varnode)
+          → AllByRecursion (λ k. IfSome stack (ShareNothing k) × IfSome gives (ShareNothing k)) keep
+          → AllByRecursion (λ k. IfSome gives (ShareNothing k)) keep × AllByRecursion (λ k. IfSome stack (ShareNothing k)) keep
+      all_apart gives stack [] all = (tt, tt)
+      all_apart gives stack (k ∷ keep) all =
+          let rest = all_apart gives stack keep all.1 in ((all.0.1, rest.0), (all.0.0, rest.1))
+
+      stack_given : (stack : Option Varnode)
+          → l.stack ≡ stack
+          → ((v : Varnode) → IsIn v (one_range l.stack) → IsIn v (further_ranges l None op.code op.inputs))
+          → IfSome stack (IsGiven l ranges)
+      stack_given None is further = tt
+      stack_given (Some sp) is further =
+          pointer_given sp is (further sp (subst (λ o. IsIn sp (one_range o)) (sym is) (inl refl)))
 
       callable : (q : Proto)
           → IsDeclared l q
           → ((v : Varnode) → IsIn v (passed q.args) → IsIn v (ranges_read (operands l op.code op.inputs)))
-          → ((v : Varnode) → IsIn v (one_range q.gives) → IsIn v (further_ranges l None op.code op.inputs))
-          → IsCallable l ranges q
-      callable q declared args further = record {
-        stack = sup.stack;
-        args = all_passed q.args declared.is.args (λ v is. operand v (args v is));
-        gives = given_by q.gives declared.is.gives further;
-        kept = all_split q.keep (λ k is. splits q k declared.among is);
-        apart = all_apart q.gives q.keep declared.is.kept_apart;
-      }
+          → ((v : Varnode)
+          → IsIn v (one_range q.gives ++ one_range l.stack)
+          → IsIn v (further_ranges l None op.code op.inputs))
+          → ((r : Reach) → IsIn r (reaches l op) → IsIn r (stack_reaches l.stack (arguments 0 q.args)))
+          → IsCallable l (f.own p) ranges q
+      callable q declared args further reached_by =
+          let apart = all_apart q.gives l.stack q.keep declared.is.kept_apart in
+          let pointer : (v : Varnode)
+              → IsIn v (one_range l.stack)
+              → IsIn v (further_ranges l None op.code op.inputs) =
+          λ v is. further v (behind (one_range q.gives) (one_range l.stack) v is) in
+          record {
+            args = all_passed q pointer reached_by q.args declared.is.args 0 (λ x is. is) (λ v is. operand v (args v is));
+            gives = given_by q.gives declared.is.gives
+                (λ v is. further v (in_front (one_range q.gives) (one_range l.stack) v is));
+            stack = stack_given l.stack refl pointer;
+            kept = all_split q.keep (λ k is. splits q k declared.among is);
+            kept_apart = apart.0;
+            kept_off = apart.1;
+            gives_off = declared.is.result_apart;
+          }
 
-      op_form : IsPlainOp l ranges op.code op.out op.inputs
-      op_form = form_of l read ranges op.code op.out op.inputs code
+      op_form : IsPlainOp l (f.own p) ranges op.code op.out op.inputs
+      op_form = form_of l read (f.own p) ranges op.code op.out op.inputs code
           (not-false _ (obeys Arity (inr (inr (inr (inl refl))))))
           (record {
             sizes = not-false _ (obeys SizeRule (inr (inr (inr (inr (inr (inr (inr (inl refl)))))))));
@@ -414,11 +472,12 @@ module _
             inputs = operand;
             output = assigned;
             result = given (proto_of l None).gives refl;
+            owned = λ n c e. owned p i op n c here e;
             callable = callable;
           })
 
     module _ (fine : NoFault l []) (p : Place) (reached : Reached l [] p) where
-      by_standing : (s : Standing) → standing l p ≡ s → IsPlain l ranges s
+      by_standing : (s : Standing) → standing l p ≡ s → IsPlain l (f.own p) ranges s
       by_standing Nothing e =
           let P : Standing → Type 0 = λ s. IsIn (Fails NoTarget) (standing_ways l [] p s) in
           absurd (fine p NoTarget (reached, inl (subst P (sym e) (inl refl))))
@@ -426,5 +485,5 @@ module _
       by_standing (Does i op) e = op_form p reached i op e
 
       -- Whatever stands at a reached place has the form that the plain lowering asks for.
-      pub plain_at : IsPlain l ranges (standing l p)
+      pub plain_at : IsPlain l (f.own p) ranges (standing l p)
       plain_at = by_standing (standing l p) refl

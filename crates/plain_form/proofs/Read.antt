@@ -3,6 +3,7 @@
 use Rattle.std.proofs.Common.{◌≡◌, ◌≤◌, ◌<◌, ◌+◌, ◌^◌, ◌⊎◌, ℕ, zero, suc, Bool, true, false, List, [], ◌∷◌, Option, Some, None, length, refl, inl, inr, sym, subst, ap, ◌∙◌, arith, lit<}
 use Rattle.std.specs.Prelude.{◌==◌, ◌&&◌, if◌then◌else◌, not, IfSome}
 use Rattle.std.specs.List.{AllByRecursion}
+use Rattle.std.proofs.Math.Bool.{and-false}
 use Rattle.std.proofs.lemmas.Bool.Decides.{nat_tests}
 use Rattle.std.proofs.lemmas.Bool.{not-false, not-true, ltb-false, and_parts}
 use Rattle.pcode_model.specs.declared.listing.Instruction.{Instruction}
@@ -24,14 +25,10 @@ use Rattle.pcode_model.proofs.Members.{of_member}
 use Rattle.pcode_laws.proofs.Rules.{breaks_none, neither}
 use Rattle.stackvars.proofs.Reach.{of_rest}
 use Rattle.plain_form.proofs.Prototypes.{own_declared}
-use Rattle.plain_form.proofs.Standing.{StandsIn}
+use Rattle.instructions.proofs.Standing.{StandsIn}
 use Rattle.plain_form.proofs.Spaces.{constant_is, differ, first_constant, kind_of_first, low, only, same_is}
 use Rattle.plain_form.proofs.Rules.{ends_within, narrow_in, output_narrow, output_stays, stays_in}
 use Rattle.plain_form.proofs.Formed.{IsInput, IsWritten, Inside}
-
-no_second : (a b : Bool) → b ≡ false → (a && b) ≡ false
-no_second true b h = h
-no_second false b h = refl
 
 -- What holds of a range that there may be.
 pub one_in : (P : Varnode → Type 0) (o : Option Varnode) → IfSome o P → (v : Varnode) → IsIn v (one_range o) → P v
@@ -186,7 +183,7 @@ module _ (l : Listing) (read : IsWellFormed l) (good : first_bad l ≡ None) whe
   storage_input v is = record {
     some = is.register.some;
     narrow = is.few;
-    stays = no_second (not (v.space == 0)) (leaves l.spaces v.space v.offset v.size) is.register.inside;
+    stays = ap (λ b. not (v.space == 0) && b) is.register.inside ∙ and-false (not (v.space == 0));
     fits = λ e. absurd (not_constant v.space (inl (storage_home v is)) e);
   }
 

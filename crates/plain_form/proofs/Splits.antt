@@ -1,23 +1,25 @@
 -- The ends of kept ranges cut, so that each atom of the register space lies in a kept range or apart from it.
 use Rattle.std.proofs.Common.{◌≡◌, ◌≤◌, ◌<◌, ◌+◌, ◌-◌, ◌⊎◌, ℕ, false, List, [], ◌∷◌, refl, inl, inr, sym, subst, ap, arith, ⊎_elim}
-use Rattle.std.specs.Prelude.{ℤ, pos}
+use Rattle.std.specs.Prelude.{pos}
 use Rattle.std.proofs.lemmas.Bool.{cases_lt}
 use Rattle.std.proofs.lemmas.Bool.Decides.{nat_tests}
 use Rattle.pcode_model.specs.declared.storage.ParamStorage.{ParamStorage}
 use Rattle.pcode_model.specs.declared.storage.ParamStorage.TheVariants as P
 use Rattle.pcode_model.specs.declared.atoms.Atom.{Atom}
+use Rattle.pcode_model.specs.declared.frame.Frame.{Frame}
 use Rattle.pcode_model.specs.declared.listing.Listing.{Listing}
 use Rattle.pcode_model.specs.declared.listing.Proto.{Proto}
 use Rattle.pcode_model.specs.declared.listing.Varnode.{Varnode}
 use Rattle.pcode_model.specs.Atoms.{AreAtoms, IsAtom, IsCut, Registers, kept_ranges, range, registers_at, varnode}
 use Rattle.pcode_model.specs.Flow.{IsIn}
-use Rattle.pcode_model.specs.Frame.{no_variables}
 use Rattle.pcode_model.specs.Ranges.{meets}
 use Rattle.pcode_model.specs.Spaces.{register_space, unique_space}
-use Rattle.pcode_model.specs.WellFormed.{ShareNothing}
+use Rattle.pcode_model.specs.WellFormed.{IsWellFormed, ShareNothing}
 use Rattle.pcode_model.proofs.Members.{behind, in_front}
+use Rattle.stackvars.proofs.Reach.{spaces_differ}
 use Rattle.op_code.specs.Form.{IsSplitBy}
 use Rattle.op_code.specs.Lowered.{range_of, ranges_of}
+use Rattle.plain_form.proofs.Halves.{off_frame}
 
 -- ---- kept ranges
 
@@ -62,14 +64,15 @@ no_meeting_before o j k n h = grind (arith, nat_tests)
 
 module _
     (l : Listing)
-    (differ : register_space l ≡ unique_space l → ⊥)
+    (read : IsWellFormed l)
+    (f : Frame)
     (k : Varnode)
     (kept : IsIn (range (P.Register k.offset) k.size) (kept_ranges l.protos))
   where
-    cut_first : IsCut l [] no_variables Registers (pos k.offset)
+    cut_first : IsCut l [] f Registers (pos k.offset)
     cut_first = (range (P.Register k.offset) k.size, (inr (inr kept), (refl, inl refl)))
 
-    cut_last : IsCut l [] no_variables Registers (pos (k.offset + k.size))
+    cut_last : IsCut l [] f Registers (pos (k.offset + k.size))
     cut_last = (range (P.Register k.offset) k.size, (inr (inr kept), (refl, inr refl)))
 
     abbrev Split : ℕ → ℕ → Type 0
@@ -77,18 +80,18 @@ module _
 
     -- no cut stands inside an atom
     none_inside : (o j n : ℕ)
-        → IsAtom l [] no_variables (range (P.Register o) j)
-        → IsCut l [] no_variables Registers (pos n)
+        → IsAtom l [] f (range (P.Register o) j)
+        → IsCut l [] f Registers (pos n)
         → o < n
         → n < o + j
         → ⊥
     none_inside o j n atom cut more less =
         let at : n ≡ o + (n - o) = omega (arith, more) in
-        let C : ℕ → Type 0 = λ m. IsCut l [] no_variables Registers (pos m) in
+        let C : ℕ → Type 0 = λ m. IsCut l [] f Registers (pos m) in
         atom.whole (n - o) (omega (arith, more)) (omega (arith, more, less)) (subst C at cut)
 
     split_meeting : (o j : ℕ)
-        → IsAtom l [] no_variables (range (P.Register o) j)
+        → IsAtom l [] f (range (P.Register o) j)
         → o < k.offset + k.size
         → k.offset < o + j
         → Split o j
@@ -101,7 +104,7 @@ module _
         (cases_lt (k.offset + k.size) (o + j)))
         (cases_lt o k.offset)
 
-    split_at : (o j : ℕ) → IsAtom l [] no_variables (range (P.Register o) j) → Split o j
+    split_at : (o j : ℕ) → IsAtom l [] f (range (P.Register o) j) → Split o j
     split_at o j atom = ⊎_elim
         (λ (before : o < k.offset + k.size). ⊎_elim
         (λ (after : k.offset < o + j). split_meeting o j atom before after)
@@ -111,18 +114,16 @@ module _
         (cases_lt o (k.offset + k.size))
 
     split_by : (s : ParamStorage) (j : ℕ)
-        → IsAtom l [] no_variables (range s j)
+        → IsAtom l [] f (range s j)
         → (range_of l (range s j)).space ≡ register_space l
-        → (stacked : (o : ℤ) → s ≡ P.Stack o → ⊥)
         → Split (range_of l (range s j)).offset j
-    split_by (P.Register o) j atom home stacked = split_at o j atom
-    split_by (P.Unique o) j atom home stacked = absurd (differ (sym home))
-    split_by (P.Stack o) j atom home stacked = absurd (stacked o refl)
+    split_by (P.Register o) j atom home = split_at o j atom
+    split_by (P.Unique o) j atom home = absurd (spaces_differ l read (sym home))
+    split_by (P.Stack o) j atom home = absurd (off_frame l read (register_space l) (inl refl) (sym home))
 
     module _
         (atoms : List Atom)
-        (are : AreAtoms l [] no_variables atoms)
-        (stacked : (a : Atom) → IsIn a atoms → (o : ℤ) → a.storage ≡ P.Stack o → ⊥)
+        (are : AreAtoms l [] f atoms)
       where
         -- Each variable of a register lies in the kept range or apart from it.
         pub splits : IsSplitBy l (ranges_of l atoms) k
@@ -132,8 +133,7 @@ module _
             let H : Varnode → Type 0 = λ x. x.space ≡ register_space l in
             let G : Varnode → Type 0 = λ x.
             ((k.offset ≤ x.offset) × (x.offset + x.size ≤ k.offset + k.size)) ⊎ ShareNothing x k in
-            let there = split_by a.storage a.size ((are.each a).0 r.among) (subst H r.range_is home)
-            (stacked a r.among) in
+            let there = split_by a.storage a.size ((are.each a).0 r.among) (subst H r.range_is home) in
             subst G (sym r.range_is) (sized a.storage a.size there)
           where
             sized : (s : ParamStorage) (j : ℕ)

@@ -1,26 +1,29 @@
 -- The words of ranges that are made of several variables obey the rules, and so do the parts that are assigned.
-use Rattle.std.proofs.Common.{◌≡◌, ℕ, ◌+◌, ◌-◌, ◌<◌, ◌≤◌, ◌^◌, Bool, true, false, List, [], ◌∷◌, ◌++◌, length, map, reverse, Some, refl, sym, subst, arith}
+use Rattle.std.proofs.Common.{◌≡◌, ℕ, zero, suc, Option, ◌+◌, ◌-◌, ◌<◌, ◌≤◌, ◌^◌, Bool, true, false, List, [], ◌∷◌, ◌++◌, length, map, reverse, Some, refl, sym, subst, arith}
 use Rattle.std.specs.Prelude.{slice_get}
 use Rattle.std.proofs.lemmas.List.{reverse-append}
 use Rattle.std.proofs.lemmas.Option.{slice_get_within}
+use Rattle.bits_core.specs.declared.ops.Binary.TheVariants as B
 use Rattle.pcode_model.specs.declared.listing.Varnode.{Varnode}
 use Rattle.pcode_model.specs.declared.listing.Listing.{Listing}
-use Rattle.pcode_model.specs.Spaces.{is_big}
+use Rattle.pcode_model.specs.Spaces.{first_ram, is_big}
+use Rattle.range_words.specs.Own.{frame_range}
+use Rattle.cmeaning.specs.declared.tree.Expr.{Expr}
 use Rattle.cmeaning.specs.declared.tree.Expr.TheVariants as E
 use Rattle.cmeaning.specs.declared.tree.Stmt.{Stmt}
 use Rattle.cmeaning.specs.declared.tree.Stmt.TheVariants as S
 use Rattle.blockcode.specs.declared.code.Exit.{Exit}
-use Rattle.op_values.specs.Nodes.{nearest, part_node}
+use Rattle.op_values.specs.Nodes.{address_node, constant, nearest, part_node}
 use Rattle.op_values.proofs.Means.{nearest_is}
 use Rattle.op_code.specs.declared.covers.Piece.{Piece}
 use Rattle.op_code.specs.Cover.{HasCover, IsRow, cover}
-use Rattle.op_code.specs.Form.{IsNarrow}
-use Rattle.op_code.specs.Made.{range_word}
+use Rattle.op_code.specs.Form.{HasPointer, IsFramed, IsNarrow}
+use Rattle.op_code.specs.Made.{above, above_stack, frame_word, offset_bytes, range_word}
 use Rattle.op_code.specs.Words.{assigns_part, bytes_below, joined, read_range}
 use Rattle.op_code.proofs.Rows.{row_rises}
 use Rattle.op_code.proofs.Sees.{Setting}
-use Rattle.plain_valid.proofs.Shapes.{Fits, as_wide, concat_fits, deeper, variable_fits}
-use Rattle.plain_valid.proofs.Expressions.{part_node_fits}
+use Rattle.plain_valid.proofs.Shapes.{Fits, as_wide, concat_fits, constant_fits, deeper, variable_fits}
+use Rattle.plain_valid.proofs.Expressions.{binary_fits, part_node_fits}
 use Rattle.plain_valid.proofs.EachKind.{IsVariable, Kinds}
 
 -- ---- variables of so many bytes in all
@@ -142,6 +145,38 @@ module _
     pub word_fits : (v : Varnode) → IsNarrow v → HasCover ranges v → Fits ws n (range_word l ranges v) v.size 16
     word_fits v narrow has =
         by_order (is_big l v.space) v narrow (row_fills ranges v.space v.offset v.size (cover ranges v) has)
+
+    -- ---- the frame, and what lies above a range's word
+
+    -- So many bytes of the frame.
+    pub frame_fits : (c k : ℕ)
+        → (0 < k) × (k ≤ 16)
+        → IsFramed l ranges c k
+        → Fits ws n (frame_word l ranges c k) k 16
+    frame_fits c k narrow is = word_fits (frame_range l c k) narrow is.cover
+
+    -- The word so many bytes above that of a range.
+    pub above_fits : (v : Varnode) (k : ℕ)
+        → IsNarrow v
+        → HasCover ranges v
+        → Fits ws n (above l ranges v k) v.size 18
+    above_fits v zero narrow has =
+        deeper ws n (range_word l ranges v) v.size 16 18 (omega arith) (word_fits v narrow has)
+    above_fits v (suc k) narrow has =
+        let e = constant v.size (suc k) in
+        binary_fits ws n v.size 0 v.size v.size (range_word l ranges v) e narrow.0 narrow.1 (word_fits v narrow has)
+        (deeper ws n e v.size 1 16 (omega arith) (constant_fits ws n v.size (suc k) narrow.0 narrow.1)) B.Add
+        narrow.0 narrow.1 (refl, refl)
+
+    -- Where memory lies above the stack pointer: the first ram space has words of one byte.
+    pub pointer_fits : (k : ℕ) (has : HasPointer l ranges)
+        → Fits ws n (above_stack l ranges l.stack k) has.pointer.size 18
+    pointer_fits k has =
+        let sp : Varnode = has.pointer in
+        let e : Expr = above l ranges sp k in
+        let R : ℕ → Type 0 = λ w. Fits ws n (address_node (offset_bytes l (first_ram l)) w sp.size e) sp.size 18 in
+        let O : Option Varnode → Type 0 = λ o. Fits ws n (above_stack l ranges o k) sp.size 18 in
+        subst O (sym has.is) (subst R (sym has.word) (above_fits sp k has.given.1.0 has.given.1.1))
 
     -- ---- writing
 

@@ -3,8 +3,9 @@ use Rattle.std.proofs.Common.{◌≡◌, ℕ, ◌+◌, ◌<◌, ◌≤◌, ◌^�
 use Rattle.std.specs.List.{AllByRecursion}
 use Rattle.pcode_model.specs.declared.listing.Varnode.{Varnode}
 use Rattle.pcode_model.specs.declared.listing.Listing.{Listing}
+use Rattle.pcode_model.specs.declared.listing.Storage.{Storage}
 use Rattle.pcode_model.specs.Spaces.{register_space, size_of}
-use Rattle.pcode_model.specs.Step.{callee_at, proto_of, returns as does_return}
+use Rattle.pcode_model.specs.Step.{Operand, Reads, ReadsStack, arguments, callee_at, proto_of, returns as does_return}
 use Rattle.cmeaning.specs.declared.tree.Expr.{Expr}
 use Rattle.cmeaning.specs.declared.tree.Stmt.{Stmt}
 use Rattle.cmeaning.specs.declared.tree.Stmt.TheVariants as S
@@ -14,9 +15,9 @@ use Rattle.blockcode.specs.declared.code.Exit.{Exit}
 use Rattle.blockcode.specs.declared.code.Exit.TheVariants as X
 use Rattle.blockcode.specs.declared.code.Variable.{Variable}
 use Rattle.op_code.specs.declared.left.Leftover.{Leftover}
-use Rattle.op_code.specs.Left.{argument_ranges, takes_left}
+use Rattle.op_code.specs.Left.{takes_left}
 use Rattle.op_code.specs.Made.{name_of, range_word}
-use Rattle.op_code.specs.Form.{IsMemory, IsNarrow, IsPassed}
+use Rattle.op_code.specs.Form.{IsMemory, IsNarrow}
 use Rattle.op_code.specs.Lowered.{result}
 use Rattle.op_code.proofs.Sees.{AreWide, wide_back, wide_front}
 use Rattle.plain_valid.proofs.Shapes.{Fits}
@@ -44,18 +45,27 @@ abbrev pub AreRight : (ℕ → ℕ) → ℕ → List Expr → Type 0
 AreRight ws n [] = Unit {0}
 AreRight ws n (e ∷ es) = ((w : ℕ) × Fits ws n e w 16) × AreRight ws n es
 
--- as many as these ranges, each as wide as its range
-abbrev pub HaveWidths : (ℕ → ℕ) → ℕ → List Expr → List Varnode → Type 0
+-- as many as these widths of 1 to 16 bytes, each as wide as its own
+abbrev pub HaveWidths : (ℕ → ℕ) → ℕ → List Expr → List ℕ → Type 0
 HaveWidths ws n [] [] = Unit {0}
-HaveWidths ws n [] (v ∷ vs) = ⊥
+HaveWidths ws n [] (k ∷ ks) = ⊥
 HaveWidths ws n (e ∷ es) [] = ⊥
-HaveWidths ws n (e ∷ es) (v ∷ vs) = (IsNarrow v × Fits ws n e v.size 16) × HaveWidths ws n es vs
+HaveWidths ws n (e ∷ es) (k ∷ ks) = (((0 < k) × (k ≤ 16)) × Fits ws n e k 16) × HaveWidths ws n es ks
 
-pub are_right : (ws : ℕ → ℕ) (n : ℕ) (es : List Expr) (vs : List Varnode) → HaveWidths ws n es vs → AreRight ws n es
+pub are_right : (ws : ℕ → ℕ) (n : ℕ) (es : List Expr) (ks : List ℕ) → HaveWidths ws n es ks → AreRight ws n es
 are_right ws n [] [] h = tt
-are_right ws n [] (v ∷ vs) h = absurd h
+are_right ws n [] (k ∷ ks) h = absurd h
 are_right ws n (e ∷ es) [] h = absurd h
-are_right ws n (e ∷ es) (v ∷ vs) h = ((v.size, h.0.1), are_right ws n es vs h.1)
+are_right ws n (e ∷ es) (k ∷ ks) h = ((k, h.0.1), are_right ws n es ks h.1)
+
+-- how many bytes an operand has
+abbrev pub width_read : Operand → ℕ
+width_read (Reads v) = v.size
+width_read (ReadsStack n offset size) = size
+
+-- how many bytes the arguments of a call have
+abbrev pub widths_passed : List Storage → List ℕ
+widths_passed args = map width_read (arguments 0 args)
 
 -- the variable that is assigned the word of a range, where there is one
 abbrev pub IsTarget : (ℕ → ℕ) → ℕ → Option ℕ → Option Varnode → Type 0
@@ -100,8 +110,7 @@ pub record Kinds (l : Listing) (ranges : List Varnode) (ws : ℕ → ℕ) (n blo
       → a < 2 ^ 64
       → does_return (callee_at l a) ≡ true
       → IsTarget ws n v (proto_of l (callee_at l a)).gives
-      → AllByRecursion (IsPassed l ranges) (proto_of l (callee_at l a)).args
-      → HaveWidths ws n args (argument_ranges (proto_of l (callee_at l a)).args)
+      → HaveWidths ws n args (widths_passed (proto_of l (callee_at l a)).args)
       → AllByRecursion (IsLeft l ws n) left
       → P (S.Call v a args ∷ map takes_left left)
   pub indirect : (v : Option ℕ) (out : Option Varnode) (w : ℕ) (to : Expr) (args : List Expr) (left : List Leftover)
@@ -126,8 +135,7 @@ pub record Kinds (l : Listing) (ranges : List Varnode) (ws : ℕ → ℕ) (n blo
   pub stops : (a : ℕ) (args : List Expr)
       → a < 2 ^ 64
       → does_return (callee_at l a) ≡ false
-      → AllByRecursion (IsPassed l ranges) (proto_of l (callee_at l a)).args
-      → HaveWidths ws n args (argument_ranges (proto_of l (callee_at l a)).args)
+      → HaveWidths ws n args (widths_passed (proto_of l (callee_at l a)).args)
       → B (S.Call None a args ∷ []) X.Stop
 
 -- each block's statements and its exit

@@ -1,6 +1,6 @@
 -- The statements of the plain lowering fit its listing, and so do the parameters.
 use Rattle.std.proofs.Common.{◌≡◌, ℕ, suc, ◌+◌, ◌≤◌, ◌^◌, Bool, true, false, List, [], ◌∷◌, length, map, Option, Some, None, refl, sym, ap, ◌∙◌, subst, arith}
-use Rattle.std.specs.Prelude.{◌==◌, ◌&&◌, cond, not, slice_get}
+use Rattle.std.specs.Prelude.{◌==◌, ◌&&◌, cond, not, slice_get, IsSome}
 use Rattle.std.specs.List.{AllByRecursion}
 use Rattle.std.proofs.lemmas.Bool.Decides.{nat_tests}
 use Rattle.pcode_model.specs.declared.atoms.Atom.{Atom}
@@ -11,8 +11,9 @@ use Rattle.pcode_model.specs.declared.listing.Varnode.{Varnode}
 use Rattle.pcode_model.specs.declared.storage.ParamStorage.{ParamStorage}
 use Rattle.pcode_model.specs.declared.storage.ParamStorage.TheVariants as P
 use Rattle.pcode_model.specs.declared.tables.TableAt.{TableAt}
+use Rattle.pcode_model.specs.Memory.{Frame}
 use Rattle.pcode_model.specs.Ranges.{is_kind}
-use Rattle.pcode_model.specs.Spaces.{first_ram, kind_of, register_space, same_kind, size_of}
+use Rattle.pcode_model.specs.Spaces.{first_ram, is_some, kind_of, register_space, same_kind, size_of}
 use Rattle.range_words.specs.Ranges.{IsInside}
 use Rattle.cmeaning.specs.declared.tree.Expr.{Expr}
 use Rattle.cmeaning.specs.declared.tree.Stmt.{Stmt}
@@ -32,9 +33,9 @@ use Rattle.op_code.specs.Left.{takes_left}
 use Rattle.op_code.specs.Made.{name_in, name_of}
 use Rattle.op_code.specs.Form.{IsMemory}
 use Rattle.op_code.specs.Lowered.{lowered, range_at, range_of, ranges_of, variable_for}
-use Rattle.op_code.specs.Lowerable.{AreNarrow, IsLocalStorage, IsLowerable}
+use Rattle.op_code.specs.Lowerable.{AreNarrow, IsLowerable}
 use Rattle.plain_valid.specs.Function.{plain_head}
-use Rattle.plain_valid.specs.Long.{HasLong}
+use Rattle.plain_valid.specs.Long.{AreLong, HasLong, IsLong}
 use Rattle.plain_valid.proofs.EachKind.{AllHold, IsLeft, Kinds}
 use Rattle.plain_valid.proofs.Suits.{below_head}
 use Rattle.plain_valid.proofs.Valid.{plain_params}
@@ -98,7 +99,7 @@ module _ (l : Listing) (ws : ℕ → ℕ) where
         (fits_layer l ws x (Stmt-F.Store (name_of l s) a e) (S.rolls-Store (name_of l s) a e) ∙ space_fits l s mem);
     divide = λ op v w a b is f g. one_fits l ws (S.Divide v op a b)
         (fits_layer l ws (S.Divide v op a b) (Stmt-F.Divide v op a b) (S.rolls-Divide v op a b));
-    call = λ v a args left low is target passed wide all.
+    call = λ v a args left low is target wide all.
         append_fits l ws (S.Call v a args ∷ []) (map takes_left left) (call_fits v a args) (extras_fit n left all);
     indirect = λ v out w to args left target f own all.
         let x = S.CallInd v to args in
@@ -112,7 +113,7 @@ module _ (l : Listing) (ws : ℕ → ℕ) where
     jump = λ to below. refl;
     test = λ c taken other f low high. refl;
     returns = λ given. refl;
-    stops = λ a args low is passed wide. call_fits None a args;
+    stops = λ a args low is wide. call_fits None a args;
   }
 
   all_fit : (xs : List Block) → AllHold BlockFit xs → BlocksFit l ws xs
@@ -120,43 +121,48 @@ module _ (l : Listing) (ws : ℕ → ℕ) where
   all_fit (x ∷ xs) all = (all.0, all_fit xs all.1)
 
 -- The statements name no spaces but ram spaces of the listing, and take bytes of its register space.
-pub plain_body_fits : (l : Listing) (t : List TableAt) (blocks : List flow_block.Block) (atoms : List Atom)
-    → IsLowerable l t blocks atoms
+pub plain_body_fits : (l : Listing) (t : List TableAt) (f : Frame) (blocks : List flow_block.Block) (atoms : List Atom)
+    → IsLowerable l t f blocks atoms
     → HasLong l t atoms
-    → length (lowered l blocks atoms).variables ≤ 2 ^ 32
-    → BlocksFit l (widths_of (plain_head l (lowered l blocks atoms))) (lowered l blocks atoms).blocks
-plain_body_fits l t blocks atoms form long few =
-    let h = plain_head l (lowered l blocks atoms) in
+    → length (lowered l f blocks atoms).variables ≤ 2 ^ 32
+    → BlocksFit l (widths_of (plain_head l (lowered l f blocks atoms))) (lowered l f blocks atoms).blocks
+plain_body_fits l t f blocks atoms form long few =
+    let h = plain_head l (lowered l f blocks atoms) in
     let ws = widths_of h in
-    all_fit l ws (lowered l blocks atoms).blocks
-    (below_head l t blocks atoms (Fit l ws) (BlockFit l ws) form long few
+    all_fit l ws (lowered l f blocks atoms).blocks
+    (below_head l t f blocks atoms (Fit l ws) (BlockFit l ws) form long few
     (fit_kinds l ws (ranges_of l atoms) _ (length blocks)))
 
 -- ---- parameters
 
 in_space : (l : Listing) (s : ParamStorage) (k : ℕ)
-    → IsLocalStorage s
+    → IsLong l s
     → IsInside l (range_at l s k)
     → storage_fits l k s ≡ true
-in_space l (P.Register o) k h inside = grind (arith, nat_tests)
-in_space l (P.Unique o) k h inside = grind (arith, nat_tests)
-in_space l (P.Stack o) k h inside = absurd h
+in_space l (P.Register o) k long inside = grind (arith, nat_tests)
+in_space l (P.Unique o) k long inside = grind (arith, nat_tests)
+in_space l (P.Stack o) k long inside = by l.stack long.1 where
+  by : (o : Option Varnode) → IsSome o → is_some o ≡ true
+  by None some = absurd (cc)
+  by (Some sp) some = refl
 
 in_spaces : (l : Listing) (atoms : List Atom)
     → AreNarrow atoms
+    → AreLong l atoms
     → ((n : ℕ) (v : Varnode) → slice_get (ranges_of l atoms) n ≡ Some v → IsInside l v)
     → params_fit l (params_of (map variable_for atoms)) ≡ true
-in_spaces l [] narrow inside = refl
-in_spaces l (a ∷ atoms) narrow inside =
-    let width = nearest_is a.size (narrow.0.1).0 (narrow.0.1).1 in
+in_spaces l [] narrow long inside = refl
+in_spaces l (a ∷ atoms) narrow long inside =
+    let width = nearest_is a.size narrow.0.0 narrow.0.1 in
     ap (λ n. storage_fits l n a.storage && params_fit l (params_of (map variable_for atoms))) width
     ∙ ap (λ b. b && params_fit l (params_of (map variable_for atoms)))
-    (in_space l a.storage a.size narrow.0.0 (inside 0 (range_of l a) refl))
-    ∙ in_spaces l atoms narrow.1 (λ n. inside (suc n))
+    (in_space l a.storage a.size long.0 (inside 0 (range_of l a) refl))
+    ∙ in_spaces l atoms narrow.1 long.1 (λ n. inside (suc n))
 
 -- The parameters lie in their spaces.
-pub plain_params_fit : (l : Listing) (t : List TableAt) (blocks : List flow_block.Block) (atoms : List Atom)
-    → IsLowerable l t blocks atoms
-    → params_fit l (plain_head l (lowered l blocks atoms)).params ≡ true
-plain_params_fit l t blocks atoms form =
-    ap (params_fit l) (plain_params l blocks atoms) ∙ in_spaces l atoms form.narrow form.table.inside
+pub plain_params_fit : (l : Listing) (t : List TableAt) (f : Frame) (blocks : List flow_block.Block) (atoms : List Atom)
+    → IsLowerable l t f blocks atoms
+    → HasLong l t atoms
+    → params_fit l (plain_head l (lowered l f blocks atoms)).params ≡ true
+plain_params_fit l t f blocks atoms form long =
+    ap (params_fit l) (plain_params l f blocks atoms) ∙ in_spaces l atoms form.narrow long.storages form.table.inside

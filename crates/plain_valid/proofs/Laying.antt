@@ -14,6 +14,7 @@ use Rattle.pcode_model.specs.Spaces.{or}
 use Rattle.pcode_model.specs.Places.{Standing, standing}
 use Rattle.pcode_model.specs.Step.{callee_at, first_place, returns as does_return}
 use Rattle.pcode_model.specs.Flow.{starts_of}
+use Rattle.pcode_model.specs.Memory.{Frame}
 use Rattle.pcode_model.specs.WellFormed.{AreApartByName, AreNamed}
 use Rattle.cmeaning.specs.declared.tree.Expr.{Expr}
 use Rattle.cmeaning.specs.declared.tree.Stmt.{Stmt}
@@ -36,7 +37,7 @@ use Rattle.layout.specs.Callees.{callees_of}
 use Rattle.plain_valid.proofs.Callees.{AllCalled, EachCalled, IsDeclared, all_declared, called_append, called_back, called_front, called_map, callee_layer, callee_of_call, callees_right, calls_none, calls_one, declared_returns}
 use Rattle.op_code.specs.declared.left.Leftover.{Leftover}
 use Rattle.op_code.specs.Left.{takes_left}
-use Rattle.op_code.specs.Made.{ReadOne, name_of}
+use Rattle.op_code.specs.Made.{Own, ReadOne, name_of}
 use Rattle.op_code.specs.Lowered.{block_made, blocks_made, condition_in, directly, lowered, place_made, place_number, places_made, ranges_of, tests, way_out}
 use Rattle.op_code.specs.Lowerable.{IsLowerable}
 use Rattle.op_code.proofs.Entering.{as_many, entry_found}
@@ -213,7 +214,7 @@ module _ (l : Listing) where
         let x = S.Divide v op a b in
         quiet x false (λ returns. piece_of_divide returns v op a b)
         (callee_layer x (Stmt-F.Divide v op a b) (S.rolls-Divide v op a b));
-    call = λ v a args left low is target passed wide all.
+    call = λ v a args left low is target wide all.
         lays_append (S.Call v a args ∷ []) (map takes_left left) (call_lays v a args low is) (extras_lay left);
     indirect = λ v out w to args left target f own all.
         let x = S.CallInd v to args in
@@ -229,7 +230,7 @@ module _ (l : Listing) where
     jump = λ to h. record { low = tt; simple = λ returns each. tt; leave = tt; below = h };
     test = λ c taken other f h g. record { low = tt; simple = λ returns each. tt; leave = tt; below = (h, g) };
     returns = λ given. record { low = tt; simple = λ returns each. tt; leave = tt; below = tt };
-    stops = λ a args low is passed wide. last_lays m a args low is;
+    stops = λ a args low is wide. last_lays m a args low is;
   }
 
   -- ---- blocks
@@ -263,26 +264,27 @@ module _ (l : Listing) where
     all_leave (y ∷ ys) (suc n) x h e = all_leave ys n x h.1 e
 
 -- There are as many blocks of code as of the flow.
-pub blocks_length : (l : Listing) (ranges : List Varnode) (next : ℕ) (blocks : List flow_block.Block)
-    → length (blocks_made l ranges next blocks).blocks ≡ length blocks
-blocks_length l ranges next [] = refl
-blocks_length l ranges next (b ∷ blocks) =
-    ap suc (blocks_length l ranges (next + length (block_made l ranges next b).locals) blocks)
+pub blocks_length : (l : Listing) (own : Place → Own) (ranges : List Varnode) (next : ℕ) (blocks : List flow_block.Block)
+    → length (blocks_made l own ranges next blocks).blocks ≡ length blocks
+blocks_length l own ranges next [] = refl
+blocks_length l own ranges next (b ∷ blocks) =
+    ap suc (blocks_length l own ranges (next + length (block_made l own ranges next b).locals) blocks)
 
 module _
     (l : Listing)
     (t : List TableAt)
+    (f : Frame)
     (blocks : List flow_block.Block)
     (atoms : List Atom)
-    (form : IsLowerable l t blocks atoms)
+    (form : IsLowerable l t f blocks atoms)
     (long : HasLong l t atoms)
-    (few : length (lowered l blocks atoms).variables ≤ 2 ^ 32)
+    (few : length (lowered l f blocks atoms).variables ≤ 2 ^ 32)
   where
     abbrev code : Code
-    code = lowered l blocks atoms
+    code = lowered l f blocks atoms
 
     all_lay : AllHold (Lays l (length blocks)) code.blocks
-    all_lay = each_block l t blocks atoms form long few (LaysOut l) (Lays l (length blocks))
+    all_lay = each_block l t f blocks atoms form long few (LaysOut l) (Lays l (length blocks))
         (lay_kinds l (ranges_of l atoms) _ _ (length blocks))
 
     -- Each address that the code calls is a number of 64 bits.
@@ -294,7 +296,7 @@ module _
     can_lay =
         let cs = callees_of l code in
         let starts = starts_of blocks in
-        let same : length code.blocks ≡ length blocks = blocks_length l (ranges_of l atoms) (length atoms) blocks in
+        let same : length code.blocks ≡ length blocks = blocks_length l f.own (ranges_of l atoms) (length atoms) blocks in
         let R : ℕ → Type 0 = λ m. ExitsBelow m code.blocks in
         record {
           numbers = record {
@@ -320,7 +322,7 @@ module _
 
 -- ---- no switch
 
-module _ (l : Listing) (ranges : List Varnode) where
+module _ (l : Listing) (own : Place → Own) (ranges : List Varnode) where
   no_switch_by : (next : ℕ) (here : Standing) (e : flow_exit.Exit)
       → is_switch (way_out l ranges next here e).exit ≡ false
   no_switch_by next here F.Return = refl
@@ -333,22 +335,22 @@ module _ (l : Listing) (ranges : List Varnode) where
   no_switch_by next here F.Stop = refl
 
   no_switch_of : (next : ℕ) (ps : List Place) (e : flow_exit.Exit)
-      → is_switch (places_made l ranges next ps e).block.exit ≡ false
+      → is_switch (places_made l own ranges next ps e).block.exit ≡ false
   no_switch_of next [] e = refl
   no_switch_of next (p ∷ []) e =
-      no_switch_by (next + length (place_made l ranges next p).locals) (standing l p) e
+      no_switch_by (next + length (place_made l own ranges next p).locals) (standing l p) e
   no_switch_of next (p ∷ q ∷ ps) e =
-      no_switch_of (next + length (place_made l ranges next p).locals) (q ∷ ps) e
+      no_switch_of (next + length (place_made l own ranges next p).locals) (q ∷ ps) e
 
   none_switches : (next : ℕ) (blocks : List flow_block.Block)
-      → any_switch (blocks_made l ranges next blocks).blocks ≡ false
+      → any_switch (blocks_made l own ranges next blocks).blocks ≡ false
   none_switches next [] = refl
   none_switches next (b ∷ blocks) =
-      let free = next + length (block_made l ranges next b).locals in
-      ap (λ t. or t (any_switch (blocks_made l ranges free blocks).blocks)) (no_switch_of next b.places b.exit)
+      let free = next + length (block_made l own ranges next b).locals in
+      ap (λ t. or t (any_switch (blocks_made l own ranges free blocks).blocks)) (no_switch_of next b.places b.exit)
       ∙ none_switches free blocks
 
 -- The code has no switch.
-pub no_switch : (l : Listing) (blocks : List flow_block.Block) (atoms : List Atom)
-    → has_switch (lowered l blocks atoms) ≡ false
-no_switch l blocks atoms = none_switches l (ranges_of l atoms) (length atoms) blocks
+pub no_switch : (l : Listing) (f : Frame) (blocks : List flow_block.Block) (atoms : List Atom)
+    → has_switch (lowered l f blocks atoms) ≡ false
+no_switch l f blocks atoms = none_switches l f.own (ranges_of l atoms) (length atoms) blocks

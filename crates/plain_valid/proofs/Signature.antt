@@ -3,6 +3,7 @@ use Rattle.std.proofs.Common.{◌≡◌, ℕ, Bool, true, false, List, [], ◌�
 use Rattle.std.specs.Prelude.{cond}
 use Rattle.std.specs.List.{AllByRecursion}
 use Rattle.pcode_model.specs.declared.atoms.Atom.{Atom}
+use Rattle.pcode_model.specs.Memory.{Frame}
 use Rattle.pcode_model.specs.declared.flow.Block as flow_block
 use Rattle.pcode_model.specs.declared.listing.Listing.{Listing}
 use Rattle.pcode_model.specs.declared.tables.TableAt.{TableAt}
@@ -22,27 +23,27 @@ use Rattle.plain_valid.specs.Inputs.{AreInputs}
 use Rattle.plain_valid.proofs.Valid.{plain_params}
 
 -- It has the listing's name.
-pub plain_name : (l : Listing) (blocks : List flow_block.Block) (atoms : List Atom)
-    → (plain_function l blocks atoms).name ≡ l.func.name
-plain_name l blocks atoms = refl
+pub plain_name : (l : Listing) (f : Frame) (blocks : List flow_block.Block) (atoms : List Atom)
+    → (plain_function l f blocks atoms).name ≡ l.func.name
+plain_name l f blocks atoms = refl
 
 -- It gives what the prototype gives.
-pub plain_gives : (l : Listing) (blocks : List flow_block.Block) (atoms : List Atom)
-    → (plain_function l blocks atoms).gives ≡ result_width l
-plain_gives l blocks atoms = refl
+pub plain_gives : (l : Listing) (f : Frame) (blocks : List flow_block.Block) (atoms : List Atom)
+    → (plain_function l f blocks atoms).gives ≡ result_width l
+plain_gives l f blocks atoms = refl
 
 inputs : (atoms : List Atom) → AreNarrow atoms → AreInputs atoms (params_of (map variable_for atoms))
 inputs [] narrow = tt
 inputs (a ∷ atoms) narrow = (
-  record { storage = refl; width = nearest_is a.size (narrow.0.1).0 (narrow.0.1).1; unsigned = refl; input = refl },
+  record { storage = refl; width = nearest_is a.size narrow.0.0 narrow.0.1; unsigned = refl; input = refl },
   inputs atoms narrow.1,
 )
 
 -- Its parameters are one `in_` parameter for each atom, in their order.
-pub plain_inputs : (l : Listing) (t : List TableAt) (blocks : List flow_block.Block) (atoms : List Atom)
-    → IsLowerable l t blocks atoms → AreInputs atoms (plain_function l blocks atoms).params
-plain_inputs l t blocks atoms form =
-    subst (AreInputs atoms) (sym (plain_params l blocks atoms)) (inputs atoms form.narrow)
+pub plain_inputs : (l : Listing) (t : List TableAt) (f : Frame) (blocks : List flow_block.Block) (atoms : List Atom)
+    → IsLowerable l t f blocks atoms → AreInputs atoms (plain_function l f blocks atoms).params
+plain_inputs l t f blocks atoms form =
+    subst (AreInputs atoms) (sym (plain_params l f blocks atoms)) (inputs atoms form.narrow)
 
 -- ---- callees
 
@@ -78,10 +79,10 @@ module _ (l : Listing) where
 
 -- Its callees are declared with the names that the listing gives them and the widths of their prototypes, and as ones
 -- that return or never do.
-pub plain_declared : (l : Listing) (blocks : List flow_block.Block) (atoms : List Atom)
-    → AllByRecursion (IsDeclaredBy l) (plain_function l blocks atoms).callees
-plain_declared l blocks atoms =
-    let k = lowered l blocks atoms in
+pub plain_declared : (l : Listing) (f : Frame) (blocks : List flow_block.Block) (atoms : List Atom)
+    → AllByRecursion (IsDeclaredBy l) (plain_function l f blocks atoms).callees
+plain_declared l f blocks atoms =
+    let k = lowered l f blocks atoms in
     let h = plain_head l k in
     of_all l (callees_of l k) (order_of (length h.params) (laid_body k)).callees
     (of_addresses l (called_in [] k.blocks))

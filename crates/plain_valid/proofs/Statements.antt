@@ -1,5 +1,5 @@
 -- The statements and exits of the plain lowering suit a head that has the variables which they name.
-use Rattle.std.proofs.Common.{◌≡◌, ℕ, ◌+◌, ◌<◌, ◌≤◌, ◌^◌, Bool, true, false, List, [], ◌∷◌, ◌++◌, length, map, Option, Some, None, refl, sym, ap, ◌∙◌, arith}
+use Rattle.std.proofs.Common.{◌≡◌, ℕ, suc, ◌+◌, ◌<◌, ◌≤◌, ◌^◌, Bool, true, false, List, [], ◌∷◌, ◌++◌, length, map, Option, Some, None, refl, sym, ap, ◌∙◌, arith}
 use Rattle.std.specs.Prelude.{◌==◌, ◌&&◌, cond, nat_lt, slice_get}
 use Rattle.std.specs.List.{AllByRecursion}
 use Rattle.std.proofs.lemmas.Bool.Decides.{nat_tests}
@@ -10,7 +10,7 @@ use Rattle.pcode_model.specs.declared.listing.Listing.{Listing}
 use Rattle.pcode_model.specs.declared.listing.Storage.{Storage}
 use Rattle.pcode_model.specs.declared.listing.Storage.TheVariants.{At, Stack}
 use Rattle.pcode_model.specs.Spaces.{first_ram, kind_in}
-use Rattle.pcode_model.specs.Step.{callee_at, proto_of, returns as does_return}
+use Rattle.pcode_model.specs.Step.{arguments, callee_at, proto_of, returns as does_return}
 use Rattle.pcode_model.specs.WellFormed.{IsNamedSpace}
 use Rattle.pcode_model.proofs.Members.{member_at, of_member}
 use Rattle.cmeaning.specs.declared.tree.Arm.{Arm}
@@ -37,12 +37,12 @@ use Rattle.plain_valid.proofs.Callees.{EachCalled, IsDeclared, called_back, call
 use Rattle.op_values.specs.Nodes.{nearest, width_of_range}
 use Rattle.op_values.proofs.Means.{nearest_is}
 use Rattle.op_code.specs.declared.left.Leftover.{Leftover}
-use Rattle.op_code.specs.Left.{argument_ranges, takes_left}
+use Rattle.op_code.specs.Left.{takes_left}
 use Rattle.op_code.specs.Made.{name_in, name_of, range_word}
-use Rattle.op_code.specs.Form.{IsMemory, IsPassed}
+use Rattle.op_code.specs.Form.{IsMemory}
 use Rattle.op_code.specs.Lowered.{result, result_in, result_width}
 use Rattle.plain_valid.proofs.Shapes.{AllBelow, Fits, below_append}
-use Rattle.plain_valid.proofs.EachKind.{AreRight, Gives, HaveWidths, IsLeft, IsTarget, IsVariable, Kinds, are_right as rights}
+use Rattle.plain_valid.proofs.EachKind.{AreRight, Gives, HaveWidths, IsLeft, IsTarget, IsVariable, Kinds, are_right as rights, width_read, widths_passed}
 
 -- ---- names of spaces
 
@@ -138,18 +138,22 @@ module _ (ws : ℕ → ℕ) (n : ℕ) where
   below_all (e ∷ es) h = below_append n (in_expr e) (in_exprs es) h.0.1.mentions (below_all es h.1)
 
   -- arguments have the widths that are declared
-  passed_are : (l : Listing) (ranges : List Varnode) (es : List Expr) (args : List Storage)
-      → AllByRecursion (IsPassed l ranges) args
-      → HaveWidths ws n es (argument_ranges args)
+  one_passed : (e : Expr) (k : ℕ) → ((0 < k) × (k ≤ 16)) × Fits ws n e k 16 → has_width (nearest k) (shape_of ws e) ≡ true
+  one_passed e k h = ap (λ w. has_width w (shape_of ws e)) (nearest_is k h.0.0 h.0.1) ∙ width_is e k 16 h.1
+
+  passed_are : (es : List Expr) (j : ℕ) (args : List Storage)
+      → HaveWidths ws n es (map width_read (arguments j args))
       → have_widths ws es (map width_passed args) ≡ true
-  passed_are l ranges [] [] passed h = refl
-  passed_are l ranges (e ∷ es) [] passed h = absurd h
-  passed_are l ranges [] (At v ∷ args) passed h = absurd h
-  passed_are l ranges (e ∷ es) (At v ∷ args) passed h =
-      ap (λ t. t && have_widths ws es (map width_passed args))
-      (ap (λ k. has_width k (shape_of ws e)) (nearest_is v.size h.0.0.0 h.0.0.1) ∙ width_is e v.size 16 h.0.1)
-      ∙ passed_are l ranges es args passed.1 h.1
-  passed_are l ranges es (Stack offset size ∷ args) passed h = absurd passed.0
+  passed_are [] j [] h = refl
+  passed_are (e ∷ es) j [] h = absurd h
+  passed_are [] j (At v ∷ args) h = absurd h
+  passed_are [] j (Stack offset size ∷ args) h = absurd h
+  passed_are (e ∷ es) j (At v ∷ args) h =
+      ap (λ t. t && have_widths ws es (map width_passed args)) (one_passed e v.size h.0)
+      ∙ passed_are es (suc j) args h.1
+  passed_are (e ∷ es) j (Stack offset size ∷ args) h =
+      ap (λ t. t && have_widths ws es (map width_passed args)) (one_passed e size h.0)
+      ∙ passed_are es (suc j) args h.1
 
 -- ---- below a head
 
@@ -343,14 +347,13 @@ module _ (l : Listing) (ranges : List Varnode) (h : Head) (few : length h.params
   declared_call : (t : Bool) (v : Option ℕ) (a : ℕ) (args : List Expr)
       → does_return (callee_at l a) ≡ t
       → takes (widths_of h) v (gives_by t (proto_of l (callee_at l a)).gives) ≡ true
-      → AllByRecursion (IsPassed l ranges) (proto_of l (callee_at l a)).args
-      → HaveWidths (widths_of h) (variables h) args (argument_ranges (proto_of l (callee_at l a)).args)
+      → HaveWidths (widths_of h) (variables h) args (widths_passed (proto_of l (callee_at l a)).args)
       → is_call (widths_of h) v args (Some (callee_decl l a)) ≡ true
-  declared_call t v a args is target passed wide =
+  declared_call t v a args is target wide =
       let ws = widths_of h in
       let p = proto_of l (callee_at l a) in
       ap (λ b. b && takes ws v (gives_by (does_return (callee_at l a)) p.gives))
-      (passed_are ws (variables h) l ranges args p.args passed wide)
+      (passed_are ws (variables h) args 0 p.args wide)
       ∙ ap (λ b. takes ws v (gives_by b p.gives)) is
       ∙ target
 
@@ -442,13 +445,13 @@ module _ (l : Listing) (ranges : List Varnode) (h : Head) (few : length h.params
       let rest = g (called_back D xs ys called) in
       (suits_append h xs ys (f (called_front D xs ys called)) rest.0, rest.1)
 
-  knows_args : (args : List Expr) (vs : List Varnode)
-      → HaveWidths (widths_of h) (variables h) args vs
+  knows_args : (args : List Expr) (ks : List ℕ)
+      → HaveWidths (widths_of h) (variables h) args ks
       → Knows h (in_exprs args)
-  knows_args args vs wide =
+  knows_args args ks wide =
       let ws = widths_of h in
       let n = variables h in
-      knows_below h (in_exprs args) (below_all ws n args (rights ws n args vs wide))
+      knows_below h (in_exprs args) (below_all ws n args (rights ws n args ks wide))
 
   -- The kinds of statements and exits suit a head, where the listing's spaces are named and the head gives the result.
   pub suit_kinds : (m : ℕ)
@@ -466,11 +469,11 @@ module _ (l : Listing) (ranges : List Varnode) (h : Head) (few : length h.params
     store = λ s u d w c a e mem f g called.
         store_suits u d w c (name_of l s) a e (space_named l s named mem) f g;
     divide = λ op v w a b is f g called. divide_suits op v w a b is f g;
-    call = λ v a args left low is target passed wide all called.
+    call = λ v a args left low is target wide all called.
         let p = proto_of l (callee_at l a) in
-        call_suits v a args left (knows_target h v p.gives target) (knows_args args (argument_ranges p.args) wide)
+        call_suits v a args left (knows_target h v p.gives target) (knows_args args (widths_passed p.args) wide)
         (called.0 a (callee_of_call v a args))
-        (declared_call true v a args is (takes_is (widths_of h) (variables h) v p.gives few target) passed wide) all;
+        (declared_call true v a args is (takes_is (widths_of h) (variables h) v p.gives few target) wide) all;
     indirect = λ v out w to args left target f own all called. indirect_suits v out w to args left target f own all;
     other = λ v out index args low target own called. other_suits v out index args low target own;
     before = before_suits;
@@ -480,9 +483,9 @@ module _ (l : Listing) (ranges : List Varnode) (h : Head) (few : length h.params
       (condition_is (widths_of h) (variables h) c 1 f, knows_below h (in_expr c) f.mentions),
     );
     returns = λ given called. (suits_none h, return_suits gives given);
-    stops = λ a args low is passed wide called. (
-      call_suits None a args [] tt (knows_args args (argument_ranges (proto_of l (callee_at l a)).args) wide)
-          (called.0 a (callee_of_call None a args)) (declared_call false None a args is refl passed wide) tt,
+    stops = λ a args low is wide called. (
+      call_suits None a args [] tt (knows_args args (widths_passed (proto_of l (callee_at l a)).args) wide)
+          (called.0 a (callee_of_call None a args)) (declared_call false None a args is refl wide) tt,
       tt,
     );
   }

@@ -4,6 +4,7 @@ use Rattle.std.specs.List.{AllByRecursion}
 use Rattle.pcode_model.specs.declared.listing.Listing.{Listing}
 use Rattle.pcode_model.specs.declared.tables.TableAt.{TableAt}
 use Rattle.pcode_model.specs.declared.atoms.Atom.{Atom}
+use Rattle.pcode_model.specs.Memory.{Frame}
 use Rattle.pcode_model.specs.declared.flow.Block as flow_block
 use Rattle.pcode_model.specs.WellFormed.{IsNamedSpace}
 use Rattle.cmeaning.specs.declared.tree.Stmt.{Stmt}
@@ -23,21 +24,21 @@ use Rattle.plain_valid.proofs.Valid.{few_declared, head, variables_declared, wid
 use Rattle.plain_valid.proofs.Whole.{each_block}
 
 -- What holds of each kind of statement and exit by the head's variables holds of all blocks.
-pub below_head : (l : Listing) (t : List TableAt) (blocks : List flow_block.Block) (atoms : List Atom)
+pub below_head : (l : Listing) (t : List TableAt) (f : Frame) (blocks : List flow_block.Block) (atoms : List Atom)
     (P : List Stmt → Type 0) (B : List Stmt → Exit → Type 0)
-    → IsLowerable l t blocks atoms
+    → IsLowerable l t f blocks atoms
     → HasLong l t atoms
-    → length (lowered l blocks atoms).variables ≤ 2 ^ 32
-    → (let h = plain_head l (lowered l blocks atoms) in
+    → length (lowered l f blocks atoms).variables ≤ 2 ^ 32
+    → (let h = plain_head l (lowered l f blocks atoms) in
     Kinds l (ranges_of l atoms) (widths_of h) (length h.params + length h.locals) (length blocks) P B
-    → AllHold B (lowered l blocks atoms).blocks)
-below_head l t blocks atoms P B form long few kinds =
-    let vs = (lowered l blocks atoms).variables in
+    → AllHold B (lowered l f blocks atoms).blocks)
+below_head l t f blocks atoms P B form long few kinds =
+    let vs = (lowered l f blocks atoms).variables in
     let K : (ℕ → ℕ) → Type 0 = λ ws. Kinds l (ranges_of l atoms) ws (length vs) (length blocks) P B in
     let L : ℕ → Type 0 =
-    λ n. Kinds l (ranges_of l atoms) (widths_of (head l blocks atoms)) n (length blocks) P B in
-    each_block l t blocks atoms form long few P B
-    (subst K (sym (widths_kept l blocks atoms)) (subst L (sym (variables_declared l blocks atoms)) kinds))
+    λ n. Kinds l (ranges_of l atoms) (widths_of (head l f blocks atoms)) n (length blocks) P B in
+    each_block l t f blocks atoms form long few P B
+    (subst K (sym (widths_kept l f blocks atoms)) (subst L (sym (variables_declared l f blocks atoms)) kinds))
 
 all_suit : (l : Listing) (h : Head) (xs : List Block)
     → AllHold (BlockSuits l h) xs
@@ -48,16 +49,16 @@ all_suit l h (x ∷ xs) all called = (all.0 called.0, all_suit l h xs all.1 call
 
 -- Each statement and each exit of the plain lowering obeys its rule, and mentions what the head has, where the
 -- variables have numbers of 32 bits and the names of the listing's spaces have the form of names.
-pub plain_suits : (l : Listing) (t : List TableAt) (blocks : List flow_block.Block) (atoms : List Atom)
-    → IsLowerable l t blocks atoms
+pub plain_suits : (l : Listing) (t : List TableAt) (f : Frame) (blocks : List flow_block.Block) (atoms : List Atom)
+    → IsLowerable l t f blocks atoms
     → HasLong l t atoms
-    → length (lowered l blocks atoms).variables ≤ 2 ^ 32
+    → length (lowered l f blocks atoms).variables ≤ 2 ^ 32
     → AllByRecursion IsNamedSpace l.spaces
-    → AllSuit (plain_head l (lowered l blocks atoms)) (lowered l blocks atoms).blocks
-plain_suits l t blocks atoms form long few named =
-    let k = lowered l blocks atoms in
+    → AllSuit (plain_head l (lowered l f blocks atoms)) (lowered l f blocks atoms).blocks
+plain_suits l t f blocks atoms form long few named =
+    let k = lowered l f blocks atoms in
     let h = plain_head l k in
     all_suit l h k.blocks
-    (below_head l t blocks atoms (Suit l h) (BlockSuits l h) form long few
-    (suit_kinds l (ranges_of l atoms) h (few_declared l blocks atoms few) (length blocks) named refl))
+    (below_head l t f blocks atoms (Suit l h) (BlockSuits l h) form long few
+    (suit_kinds l (ranges_of l atoms) h (few_declared l f blocks atoms few) (length blocks) named refl))
     (all_declared l k)

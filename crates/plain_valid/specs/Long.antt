@@ -1,8 +1,9 @@
 -- The numbers that have to have 64 bits, so that a C text has them. This project's own.
-use Rattle.std.specs.Prelude.{◌^◌, ◌<◌, List, [], ◌∷◌}
+use Rattle.std.specs.Prelude.{◌-◌, ◌^◌, ◌<◌, List, [], ◌∷◌, IsSome, pos, negsuc, ◌+ℤ◌, ◌≤ℤ◌, ◌<ℤ◌}
 use Rattle.pcode_model.specs.declared.storage.ParamStorage.{ParamStorage}
 use Rattle.pcode_model.specs.declared.storage.ParamStorage.TheVariants as P
 use Rattle.pcode_model.specs.declared.atoms.Atom.{Atom}
+use Rattle.pcode_model.specs.declared.frame.FrameAccess.{FrameAccess}
 use Rattle.pcode_model.specs.declared.listing.Listing.{Listing}
 use Rattle.pcode_model.specs.declared.listing.Place.{Place}
 use Rattle.pcode_model.specs.declared.listing.Varnode.{Varnode}
@@ -15,15 +16,21 @@ use Rattle.pcode_model.specs.Step.{varnode_at}
 
 -- ---- where atoms begin that can stand as parameters
 
--- at a number of 64 bits of the register space or the unique space
-abbrev pub IsLong : ParamStorage → Type 0
-IsLong (P.Register o) = o < 2 ^ 64
-IsLong (P.Unique o) = o < 2 ^ 64
-IsLong (P.Stack o) = ⊥
+-- at a number of 64 bits of the register space or the unique space, or at an offset of 32 bits of a stack
+abbrev pub IsLong : Listing → ParamStorage → Type 0
+IsLong l (P.Register o) = o < 2 ^ 64
+IsLong l (P.Unique o) = o < 2 ^ 64
+IsLong l (P.Stack o) = ((negsuc (2 ^ 31 - 1) ≤ℤ o) × (o <ℤ pos (2 ^ 31))) × IsSome l.stack
 
-abbrev pub AreLong : List Atom → Type 0
-AreLong [] = Unit {0}
-AreLong (a ∷ rest) = IsLong a.storage × AreLong rest
+abbrev pub AreLong : Listing → List Atom → Type 0
+AreLong l [] = Unit {0}
+AreLong l (a ∷ rest) = IsLong l a.storage × AreLong l rest
+
+-- an access of the frame whose ends are such offsets
+pub record IsLongAccess (l : Listing) (a : FrameAccess) : Type 0 where
+  pub begins : negsuc (2 ^ 31 - 1) ≤ℤ a.offset
+  pub ends : (a.offset +ℤ pos a.size) ≤ℤ pos (2 ^ 31)
+  pub stack : IsSome l.stack
 
 -- ---- what calls name
 
@@ -44,5 +51,5 @@ StandsLong (Does i op) = NamesLong op.code op.inputs
 -- storages: where the atoms begin.
 -- places: what the op at a reached place names.
 pub record HasLong (l : Listing) (t : List TableAt) (atoms : List Atom) : Type 0 where
-  pub storages : AreLong atoms
+  pub storages : AreLong l atoms
   pub places : (p : Place) → Reached l t p → StandsLong (standing l p)

@@ -10,10 +10,10 @@ use Rattle.pcode_model.specs.declared.flow.Exit as flow_exit
 use Rattle.pcode_model.specs.Places.{standing}
 use Rattle.cmeaning.specs.declared.tree.Stmt.{Stmt}
 use Rattle.blockcode.specs.declared.code.Variable.{Variable}
-use Rattle.op_code.specs.Made.{Made, nothing}
+use Rattle.op_code.specs.Made.{Made, Own, nothing, followed}
 use Rattle.op_code.specs.Lowered.{BlockMade, WayOut, in_front, last_made, place_made, places_made, way_out}
 use Rattle.op_code.proofs.Each.{grown_length}
-use Rattle.plaincode.specs.Body.{body_made, followed}
+use Rattle.plaincode.specs.Body.{body_made}
 
 abbrev made_by : WayOut → List Stmt → List Variable → BlockMade
 made_by w body locals = record { block = record { body = body; exit = w.exit }; locals = locals }
@@ -26,7 +26,7 @@ front_made here rest w =
     ∙ ap (λ x. made_by w ((here.statements ++ rest.statements) ++ w.loads) x)
     (sym (append_assoc here.locals rest.locals w.locals))
 
-module _ (l : Listing) (ranges : List Varnode) (e : flow_exit.Exit) where
+module _ (l : Listing) (own : Place → Own) (ranges : List Varnode) (e : flow_exit.Exit) where
   -- these ops, and then the way out of this place
   abbrev ended : ℕ → Made → Place → BlockMade
   ended next m last = last_made m (way_out l ranges (next + length m.locals) (standing l last) e)
@@ -51,40 +51,40 @@ module _ (l : Listing) (ranges : List Varnode) (e : flow_exit.Exit) where
   ended_last : (next : ℕ) (ps : List Place) (k : ℕ) (last : Place)
       → length ps ≡ suc k
       → slice_get ps k ≡ Some last
-      → places_made l ranges next ps e ≡ ended next (body_made l ranges next ps) last
+      → places_made l own ranges next ps e ≡ ended next (body_made l own ranges next ps) last
   ended_last next [] k last long is = absurd (omega (arith, long))
   ended_last next (p ∷ []) zero last long is =
       let same : p ≡ last = cc in
-      ap (λ x. ended next (place_made l ranges next p) x) same ∙ ended_one next (place_made l ranges next p) last
+      ap (λ x. ended next (place_made l own ranges next p) x) same ∙ ended_one next (place_made l own ranges next p) last
   ended_last next (p ∷ []) (suc k) last long is = absurd (omega (arith, long))
   ended_last next (p ∷ q ∷ rest) zero last long is = absurd (omega (arith, long))
   ended_last next (p ∷ q ∷ rest) (suc k) last long is =
-      let here = place_made l ranges next p in
+      let here = place_made l own ranges next p in
       ap (in_front here) (ended_last (next + length here.locals) (q ∷ rest) k last (omega (arith, long)) is)
-      ∙ ended_front next here (body_made l ranges (next + length here.locals) (q ∷ rest)) last
+      ∙ ended_front next here (body_made l own ranges (next + length here.locals) (q ∷ rest)) last
 
   -- A block is what its ops make, and then the way out of its last place, numbered behind the variables of then.
-  pub places_last : (variables then : List Variable) (ps : List Place) (last : Place)
+  pub places_last : (variables made : List Variable) (ps : List Place) (last : Place)
       → Some last ≡ slice_get ps (length ps - 1)
-      → then ≡ variables ++ (body_made l ranges (length variables) ps).locals
-      → places_made l ranges (length variables) ps e
-      ≡ last_made (body_made l ranges (length variables) ps) (way_out l ranges (length then) (standing l last) e)
-  places_last variables then ps last is grown =
+      → made ≡ variables ++ (body_made l own ranges (length variables) ps).locals
+      → places_made l own ranges (length variables) ps e
+      ≡ last_made (body_made l own ranges (length variables) ps) (way_out l ranges (length made) (standing l last) e)
+  places_last variables made ps last is grown =
       let next = length variables in
-      let m = body_made l ranges next ps in
+      let m = body_made l own ranges next ps in
       let within = slice_get_within ps (length ps - 1) last (sym is) in
       ended_last next ps (length ps - 1) last (omega (arith, within)) (sym is)
       ∙ ap (λ n. last_made m (way_out l ranges n (standing l last) e))
-      (grown_length variables then m.locals grown)
+      (grown_length variables made m.locals grown)
 
   -- A block's locals are those of its ops, and then those of the way out.
-  pub locals_last : (variables then all : List Variable) (ps : List Place) (last : Place)
+  pub locals_last : (variables made all : List Variable) (ps : List Place) (last : Place)
       → Some last ≡ slice_get ps (length ps - 1)
-      → then ≡ variables ++ (body_made l ranges (length variables) ps).locals
-      → all ≡ then ++ (way_out l ranges (length then) (standing l last) e).locals
-      → all ≡ variables ++ (places_made l ranges (length variables) ps e).locals
-  locals_last variables then all ps last is grown more =
-      let m = body_made l ranges (length variables) ps in
-      let w = way_out l ranges (length then) (standing l last) e in
+      → made ≡ variables ++ (body_made l own ranges (length variables) ps).locals
+      → all ≡ made ++ (way_out l ranges (length made) (standing l last) e).locals
+      → all ≡ variables ++ (places_made l own ranges (length variables) ps e).locals
+  locals_last variables made all ps last is grown more =
+      let m = body_made l own ranges (length variables) ps in
+      let w = way_out l ranges (length made) (standing l last) e in
       more ∙ ap (λ x. x ++ w.locals) grown ∙ append_assoc variables m.locals w.locals
-      ∙ ap (λ x. variables ++ x.locals) (sym (places_last variables then ps last is grown))
+      ∙ ap (λ x. variables ++ x.locals) (sym (places_last variables made ps last is grown))

@@ -1,7 +1,9 @@
 //! Blocks of code from blocks of the flow.
 
-ghost use Rattle.std.specs.Prelude.{◌≡◌, ◌≤◌, ◌^◌, ◌++◌, length, IfOk, OnOk};
+ghost use Rattle.std.specs.Prelude.{◌≡◌, ◌≤◌, ◌^◌, ◌++◌, [], length, IfOk, OnOk};
 ghost use Rattle.pcode_model.specs.Flow.{AreApart};
+ghost use Rattle.op_code.specs.Adds.{Adds};
+ghost use Rattle.op_code.specs.FrameTable.{HasFrameRanges, own_at};
 ghost use Rattle.op_code.specs.LeftTable.{IsLeft};
 ghost use Rattle.op_code.specs.Lowered.{block_made, blocks_made, place_made};
 ghost use Rattle.plaincode.specs.Body.{body_made};
@@ -11,7 +13,7 @@ use bits_core::Memory;
 use blockcode::{Block, Blocks, Exit, Variables};
 use cmeaning::Body;
 use instructions::op_at;
-use op_code::{LeftTable, Table, add_op};
+use op_code::{FrameTable, LeftTable, Table, add_op};
 use pcode_model::{Block as FlowBlock, Listing, Place};
 use std::alloc::Global;
 
@@ -19,6 +21,7 @@ use std::alloc::Global;
 fn add_place(
     alloc: Global,
     listing: &Listing,
+    frame: &FrameTable,
     table: &Table,
     left: &LeftTable,
     variables: &mut Variables,
@@ -26,14 +29,23 @@ fn add_place(
     place: Place,
 ) -> Result<(), Memory>
     requires code { AreApart listing.now.code }
+    requires frame { HasFrameRanges listing.now }
     requires left { IsLeft listing.now table.now left.now }
     requires few { length variables.old ≤ 2 ^ 32 }
-    ensures statements { OnOk result (body.new ≡ body.old ++ (place_made listing.now table.now (length variables.old) place).statements) }
-    ensures locals { OnOk result (variables.new ≡ variables.old ++ (place_made listing.now table.now (length variables.old) place).locals) }
-    ensures few { OnOk result (length variables.new ≤ 2 ^ 32) }
+    ensures { OnOk result (Adds variables.old variables.new body.old body.new
+        (place_made listing.now (own_at frame.now) table.now (length variables.old) place)) }
 {
     match op_at(listing, place) {
-        Some(op) => add_op(alloc, listing, table, left, variables, body, op),
+        Some(op) => add_op(
+            alloc,
+            listing,
+            &frame.at(place),
+            table,
+            left,
+            variables,
+            body,
+            op,
+        ),
         None => Ok(()),
     }
 }
@@ -43,21 +55,22 @@ fn add_place(
 fn body(
     alloc: Global,
     listing: &Listing,
+    frame: &FrameTable,
     table: &Table,
     left: &LeftTable,
     variables: &mut Variables,
     places: &[Place],
 ) -> Result<Body, Memory>
     requires code { AreApart listing.now.code }
+    requires frame { HasFrameRanges listing.now }
     requires left { IsLeft listing.now table.now left.now }
     requires few { length variables.old ≤ 2 ^ 32 }
-    ensures statements { IfOk result (λ b. b ≡ (body_made listing.now table.now (length variables.old) places.now).statements) }
-    ensures locals { OnOk result (variables.new ≡ variables.old ++ (body_made listing.now table.now (length variables.old) places.now).locals) }
-    ensures few { OnOk result (length variables.new ≤ 2 ^ 32) }
+    ensures { IfOk result (λ b. Adds variables.old variables.new [] b
+        (body_made listing.now (own_at frame.now) table.now (length variables.old) places.now)) }
 {
     let mut body = Body::new(alloc);
     for place in places {
-        add_place(alloc, listing, table, left, variables, &mut body, *place)?;
+        add_place(alloc, listing, frame, table, left, variables, &mut body, *place)?;
     }
     Ok(body)
 }
@@ -67,22 +80,26 @@ fn body(
 fn block(
     alloc: Global,
     listing: &Listing,
+    frame: &FrameTable,
     table: &Table,
     left: &LeftTable,
     variables: &mut Variables,
     block: &FlowBlock,
 ) -> Result<Block, Memory>
     requires code { AreApart listing.now.code }
+    requires frame { HasFrameRanges listing.now }
     requires left { IsLeft listing.now table.now left.now }
     requires few { length variables.old ≤ 2 ^ 32 }
-    ensures block { IfOk result (λ b. b ≡ (block_made listing.now table.now (length variables.old) block.now).block) }
-    ensures locals { OnOk result (variables.new ≡ variables.old ++ (block_made listing.now table.now (length variables.old) block.now).locals) }
+    ensures block { IfOk result (λ b.
+        b ≡ (block_made listing.now (own_at frame.now) table.now (length variables.old) block.now).block) }
+    ensures locals { OnOk result (variables.new
+        ≡ variables.old ++ (block_made listing.now (own_at frame.now) table.now (length variables.old) block.now).locals) }
     ensures few { OnOk result (length variables.new ≤ 2 ^ 32) }
 {
     let places = block.places.as_slice();
     match places.last() {
         Some(last) => {
-            let mut body = body(alloc, listing, table, left, variables, places)?;
+            let mut body = body(alloc, listing, frame, table, left, variables, places)?;
             let exit = way_out(
                 alloc,
                 listing,
@@ -106,21 +123,25 @@ fn block(
 pub(crate) fn blocks(
     alloc: Global,
     listing: &Listing,
+    frame: &FrameTable,
     table: &Table,
     left: &LeftTable,
     variables: &mut Variables,
     flow: &[FlowBlock],
 ) -> Result<Blocks, Memory>
     requires code { AreApart listing.now.code }
+    requires frame { HasFrameRanges listing.now }
     requires left { IsLeft listing.now table.now left.now }
     requires few { length variables.old ≤ 2 ^ 32 }
-    ensures blocks { IfOk result (λ bs. bs ≡ (blocks_made listing.now table.now (length variables.old) flow.now).blocks) }
-    ensures locals { OnOk result (variables.new ≡ variables.old ++ (blocks_made listing.now table.now (length variables.old) flow.now).locals) }
+    ensures blocks { IfOk result (λ bs.
+        bs ≡ (blocks_made listing.now (own_at frame.now) table.now (length variables.old) flow.now).blocks) }
+    ensures locals { OnOk result (variables.new
+        ≡ variables.old ++ (blocks_made listing.now (own_at frame.now) table.now (length variables.old) flow.now).locals) }
     ensures few { OnOk result (length variables.new ≤ 2 ^ 32) }
 {
     let mut blocks = Blocks::new(alloc);
     for from in flow {
-        blocks.push(block(alloc, listing, table, left, variables, from)?)?;
+        blocks.push(block(alloc, listing, frame, table, left, variables, from)?)?;
     }
     Ok(blocks)
 }

@@ -3,6 +3,7 @@
 ghost use Rattle.std.specs.Prelude.{◌≡◌, ◌≤◌, ◌^◌, ◌++◌, length, IfOk, OnOk};
 ghost use Rattle.pcode_model.specs.Flow.{AreApart};
 ghost use Rattle.pcode_model.specs.Places.{standing};
+ghost use Rattle.op_code.specs.Adds.{Adds, before_one};
 ghost use Rattle.op_code.specs.Lowered.{condition_in, result as result_for, way_out as way_out_of};
 
 use bits_core::Memory;
@@ -35,10 +36,10 @@ fn condition(
 ) -> Result<Expr, Memory>
     requires code { AreApart listing.now.code }
     requires few { length variables.old ≤ 2 ^ 32 }
-    ensures word { IfOk result (λ e. e ≡ (condition_in listing.now table.now (length variables.old) (standing listing.now place)).word) }
-    ensures loads { OnOk result (body.new ≡ body.old ++ (condition_in listing.now table.now (length variables.old) (standing listing.now place)).loads) }
-    ensures locals { OnOk result (variables.new ≡ variables.old ++ (condition_in listing.now table.now (length variables.old) (standing listing.now place)).locals) }
-    ensures few { OnOk result (length variables.new ≤ 2 ^ 32) }
+    ensures word { IfOk result (λ e.
+        e ≡ (condition_in listing.now table.now (length variables.old) (standing listing.now place)).word) }
+    ensures added { OnOk result (Adds variables.old variables.new body.old body.new
+        (before_one (condition_in listing.now table.now (length variables.old) (standing listing.now place)))) }
 {
     match op_at(listing, place) {
         Some(op) => read(alloc, listing, table, variables, body, op.input(1)),
@@ -58,9 +59,12 @@ pub(crate) fn way_out(
 ) -> Result<Exit, Memory>
     requires code { AreApart listing.now.code }
     requires few { length variables.old ≤ 2 ^ 32 }
-    ensures exit { IfOk result (λ e. e ≡ (way_out_of listing.now table.now (length variables.old) (standing listing.now last) exit.now).exit) }
-    ensures loads { OnOk result (body.new ≡ body.old ++ (way_out_of listing.now table.now (length variables.old) (standing listing.now last) exit.now).loads) }
-    ensures locals { OnOk result (variables.new ≡ variables.old ++ (way_out_of listing.now table.now (length variables.old) (standing listing.now last) exit.now).locals) }
+    ensures exit { IfOk result (λ e.
+        e ≡ (way_out_of listing.now table.now (length variables.old) (standing listing.now last) exit.now).exit) }
+    ensures loads { OnOk result (body.new ≡ body.old
+        ++ (way_out_of listing.now table.now (length variables.old) (standing listing.now last) exit.now).loads) }
+    ensures locals { OnOk result (variables.new ≡ variables.old
+        ++ (way_out_of listing.now table.now (length variables.old) (standing listing.now last) exit.now).locals) }
     ensures few { OnOk result (length variables.new ≤ 2 ^ 32) }
 {
     match exit {

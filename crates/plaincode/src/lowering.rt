@@ -2,6 +2,8 @@
 
 ghost use Rattle.std.specs.Prelude.{◌≡◌, ◌<◌, ◌≤◌, ◌^◌, length, IfOk};
 ghost use Rattle.pcode_model.specs.Flow.{AreApart, starts_of};
+ghost use Rattle.pcode_model.specs.Frame.{frame_of};
+ghost use Rattle.op_code.specs.FrameTable.{HasFrameRanges};
 ghost use Rattle.op_code.specs.Lowered.{lowered, place_number, result_width as width_for, same_place as is_same};
 
 use crate::blocks::blocks;
@@ -9,9 +11,9 @@ use crate::variables::{ranges, variables};
 use bits_core::{Memory, Width};
 use blockcode::Code;
 use instructions::result_range;
-use op_code::{LeftTable, Table};
+use op_code::{FrameTable, LeftTable, Table};
 use op_values::width_by;
-use pcode_model::{Atoms, Block as FlowBlock, Flow, Listing, Place};
+use pcode_model::{Atoms, Block as FlowBlock, Flow, Frame, Listing, Place};
 use std::alloc::Global;
 
 fn same_place(p: Place, q: Place) -> bool
@@ -38,23 +40,31 @@ fn block_number(blocks: &[FlowBlock], start: Place) -> u32
     number
 }
 
-/// The plain lowering: the variables are the atoms, all of them parameters, and behind them the locals that statements
-/// need; the blocks are those of the flow. `Memory` where memory or the numbers of 32 bits run out.
-pub fn plain(alloc: Global, listing: &Listing, flow: &Flow, atoms: &Atoms) -> Result<Code, Memory>
+/// The plain lowering of a listing with this frame: the variables are the atoms, all of them parameters, and behind them
+/// the locals that statements need; the blocks are those of the flow. `Memory` where memory or the numbers of 32 bits run out.
+pub fn plain(
+    alloc: Global,
+    listing: &Listing,
+    frame: &Frame,
+    flow: &Flow,
+    atoms: &Atoms,
+) -> Result<Code, Memory>
     requires code { AreApart listing.now.code }
-    requires spaces { length listing.now.spaces < 256 }
+    requires frame { HasFrameRanges listing.now }
     requires atoms { length atoms.now < 2 ^ 32 }
     requires blocks { length flow.now < 2 ^ 32 }
-    ensures code { IfOk result (λ k. k ≡ lowered listing.now flow.now atoms.now) }
+    ensures code { IfOk result (λ k. k ≡ lowered listing.now (frame_of listing.now frame.now) flow.now atoms.now) }
     ensures few { IfOk result (λ k. length k.variables ≤ 2 ^ 32) }
 {
     let ranges = ranges(alloc, listing, atoms.as_slice())?;
     let table = Table::new(alloc, &ranges)?;
+    let frame = FrameTable::new(alloc, listing, frame)?;
     let left = LeftTable::new(alloc, listing, &ranges)?;
     let mut variables = variables(alloc, atoms.as_slice())?;
     let blocks = blocks(
         alloc,
         listing,
+        &frame,
         &table,
         &left,
         &mut variables,

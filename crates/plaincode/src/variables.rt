@@ -1,17 +1,19 @@
 //! The variables of the atoms, and the ranges that they stand for.
 
-ghost use Rattle.std.specs.Prelude.{◌≡◌, ◌<◌, length, map, IfOk};
+ghost use Rattle.std.specs.Prelude.{◌≡◌, map, IfOk};
+ghost use Rattle.op_code.specs.FrameTable.{HasFrameRanges};
 ghost use Rattle.op_code.specs.Lowered.{range_of as range_for, ranges_of, variable_for};
 
 use bits_core::Memory;
 use blockcode::{Variable, Variables};
+use op_code::{frame_range, stack_offset};
 use op_values::width_by;
 use pcode_model::ranges::number_of;
 use pcode_model::{Atom, Listing, ParamStorage, SpaceKind, Varnode};
 use std::alloc::Global;
 
 fn range_of(listing: &Listing, atom: Atom) -> Varnode
-    requires { length listing.now.spaces < 256 }
+    requires { HasFrameRanges listing.now }
     ensures { result ≡ range_for listing.now atom }
 {
     let spaces = listing.spaces.as_slice();
@@ -26,11 +28,9 @@ fn range_of(listing: &Listing, atom: Atom) -> Varnode
             offset,
             size: atom.size,
         },
-        ParamStorage::Stack(_) => Varnode {
-            space: number_of(SpaceKind::Ram, spaces) as u8,
-            offset: 0,
-            size: atom.size,
-        },
+        ParamStorage::Stack(offset) => {
+            frame_range(listing, stack_offset(listing, offset), atom.size)
+        }
     }
 }
 
@@ -40,7 +40,7 @@ pub(crate) fn ranges(
     listing: &Listing,
     atoms: &[Atom],
 ) -> Result<Vec<Varnode>, Memory>
-    requires { length listing.now.spaces < 256 }
+    requires { HasFrameRanges listing.now }
     ensures { IfOk result (λ v. v.items ≡ ranges_of listing.now atoms.now) }
 {
     let mut ranges = vec![in alloc]?;

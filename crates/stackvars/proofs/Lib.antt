@@ -3,6 +3,7 @@ pub mod Members
 pub mod Swept
 pub mod Passed
 pub mod Marked
+pub mod Areas
 pub mod Placed
 pub mod Reach
 pub mod Found

@@ -1,10 +1,12 @@
--- In a well-formed listing whose ops obey their rules each range whose ends cut ends in a space of 64 bits.
+-- In a well-formed listing whose ops obey their rules, with a frame near the entry word, each range whose ends cut ends in a
+-- space of 64 bits or, in the frame, at an offset of 32 bits.
 use Rattle.std.proofs.Common.{◌≡◌, ◌∙◌, ℕ, zero, suc, ◌+◌, ◌^◌, ◌<◌, ◌≤◌, Bool, true, false, List, [], ◌∷◌, ◌++◌, refl, sym, ap, subst, inl, inr, ⊎_elim, arith, lit<, Option, Some, None, IfSome, if◌then◌else◌, not, ◌&&◌}
 use Rattle.std.specs.Prelude.{slice_get, ◌==◌}
 use Rattle.std.specs.List.{AllByRecursion}
 use Rattle.std.proofs.Math.Nat.{pow-le-pow_right}
 use Rattle.std.proofs.lemmas.Bool.{ne_eqb}
 use Rattle.std.proofs.lemmas.Bool.Decides.{nat_tests}
+use Rattle.std.proofs.lemmas.Int.{ints}
 use Rattle.pcode_model.specs.declared.listing.SpaceKind.{SpaceKind}
 use Rattle.pcode_model.specs.declared.listing.SpaceKind.TheVariants.{Constant, Ram, Register, Unique}
 use Rattle.pcode_model.specs.declared.listing.Space.{Space}
@@ -19,12 +21,13 @@ use Rattle.pcode_model.specs.declared.listing.Varnode.{Varnode}
 use Rattle.pcode_model.specs.declared.opcode.Opcode.{Opcode}
 use Rattle.pcode_model.specs.declared.opcode.Opcode.TheVariants as O
 use Rattle.pcode_model.specs.declared.rules.OpWhy.TheVariants.{OutOfSpace}
+use Rattle.pcode_model.specs.declared.frame.Frame.{Frame}
+use Rattle.pcode_model.specs.declared.frame.FrameAccess.{FrameAccess}
 use Rattle.pcode_model.specs.declared.storage.ParamStorage.{ParamStorage}
 use Rattle.pcode_model.specs.declared.storage.ParamStorage.TheVariants as P
 use Rattle.pcode_model.specs.Atoms as model
-use Rattle.pcode_model.specs.Atoms.{Accesses, Cuts, IsLocal, further_ranges, one_range, op_ranges, ranges_in, ranges_read}
+use Rattle.pcode_model.specs.Atoms.{Accesses, IsAccessed, IsLocal, argument_ranges, further_ranges, kept_ranges, one_range, op_ranges, ranges_in, ranges_read, registers_at}
 use Rattle.pcode_model.specs.Flow.{IsIn}
-use Rattle.pcode_model.specs.Frame.{no_variables}
 use Rattle.pcode_model.specs.Places.{instruction_in, op_in, standing_in, standing_of}
 use Rattle.pcode_model.specs.Ranges.{leaves}
 use Rattle.pcode_model.specs.Rules.{any_leaves, first_bad, input_ranges, leaves_space, names_address, output_leaves, past_first}
@@ -35,10 +38,10 @@ use Rattle.pcode_model.proofs.Members.{in_either, member_at, of_member}
 use Rattle.pcode_laws.proofs.Rules.{breaks_none, neither}
 use Rattle.instructions.proofs.Apart.{found_in}
 use Rattle.stackvars.specs.Accesses.{passed}
+use Rattle.stackvars.specs.Near.{HasNearAccesses, IsNearAccess}
 use Rattle.stackvars.specs.Cuts.{AreInReach, IsInReach}
 use Rattle.stackvars.proofs.Ops.{read_all, read_past}
 use Rattle.stackvars.proofs.Passed.{reads_passed}
-use Rattle.stackvars.proofs.Marked.{OneOf, all_kept, argument_at, kept_at, of}
 
 -- ---- the register space and the unique space
 
@@ -335,44 +338,59 @@ module _ (l : Listing) (read : IsWellFormed l) (checked : first_bad l ≡ None) 
       let r = by_place l v (instruction_in l.code acc.at.address) acc.at.index acc.range in
       good_op r.0 (found_in l.code acc.at.address r.0 r.1.0).0 r.1.1.0 r.1.1.1.0 v acc.is_local r.1.1.1.1
 
-  good_one : (vs : List Varnode) (o k : ℕ)
-      → AllGood vs
-      → OneOf vs (model.range (P.Register o) k)
-      → Good (model.varnode 0 o k)
-  good_one vs o k all one =
-      let same : model.range (P.Register o) k ≡ of one.0 = one.1.1 in
-      let at : o ≡ one.0.offset = same_offset o one.0.offset (ap (λ (r : model.Range). r.storage) same) in
-      let size : k ≡ one.0.size = ap (λ (r : model.Range). r.size) same in
-      let good = all one.0 one.1.0 in
-      (omega (arith, at, size, good.0), omega (arith, size, good.1)) where
-        same_offset : (m n : ℕ) → P.Register m ≡ P.Register n → m ≡ n
-        same_offset m n e = cc
+  abbrev AllReach : List model.Range → Type 0
+  AllReach rs = (r : model.Range) → IsIn r rs → IsInReach r.storage r.size
 
-  no_unique : (vs : List Varnode) (o k : ℕ) → OneOf vs (model.range (P.Unique o) k) → ⊥
-  no_unique vs o k one = other one.0.offset (ap (λ (r : model.Range). r.storage) one.1.1) where
-    other : (n : ℕ) → P.Unique o ≡ P.Register n → ⊥
-    other n e = cc
+  same_reach : (r q : model.Range) → r ≡ q → IsInReach q.storage q.size → IsInReach r.storage r.size
+  same_reach r q e h = subst (λ (x : model.Range). IsInReach x.storage x.size) (sym e) h
 
-  good_kept : (ps : List Proto) → AllByRecursion (IsProto l.spaces l.stack) ps → AllGood (all_kept ps)
-  good_kept [] all v is = absurd is
-  good_kept (p ∷ ps) all v is =
-      ⊎_elim (λ h. (good_proto p all.0).keep v h) (λ h. good_kept ps all.1 v h) (in_either p.keep (all_kept ps) v is)
+  argument_reach : (args : List Storage)
+      → AllByRecursion (IsArgument l.spaces l.stack) args
+      → AllReach (argument_ranges args)
+  argument_reach [] all r is = absurd is
+  argument_reach (At v ∷ args) all r (inl e) = same_reach r _ e (good_register v all.0.register)
+  argument_reach (Stack offset size ∷ args) all r (inl e) =
+      let few : size ≤ 16 = all.0.1 in
+      let low : offset ≤ 0xffff = all.0.2 in
+      same_reach r _ e (omega (arith, ints), (omega (arith, ints), omega arith))
+  argument_reach (a ∷ args) all r (inr is) = argument_reach args all.1 r is
 
-  reach_by : (s : ParamStorage) (k : ℕ) → Cuts l [] no_variables (model.range s k) → IsInReach s k
-  reach_by (P.Register o) k (inl acc) = good_access (model.varnode (register_space l) o k) acc
-  reach_by (P.Unique o) k (inl acc) = good_access (model.varnode (unique_space l) o k) acc
-  reach_by (P.Register o) k (inr (inl is)) =
-      good_one (passed (proto_of l None).args) o k (good_called None).args
-      (argument_at (proto_of l None).args (P.Register o) k tt is)
-  reach_by (P.Unique o) k (inr (inl is)) =
-      absurd (no_unique (passed (proto_of l None).args) o k (argument_at (proto_of l None).args (P.Unique o) k tt is))
-  reach_by (P.Register o) k (inr (inr is)) =
-      good_one (all_kept l.protos) o k (good_kept l.protos read.protos)
-      (kept_at l.protos (model.range (P.Register o) k) is)
-  reach_by (P.Unique o) k (inr (inr is)) =
-      absurd (no_unique (all_kept l.protos) o k (kept_at l.protos (model.range (P.Unique o) k) is))
-  reach_by (P.Stack o) k cuts = tt
+  argument_of : (o : Option Proto)
+      → ((p : Proto) → o ≡ Some p → IsIn p l.protos)
+      → AllReach (argument_ranges (proto_in o).args)
+  argument_of None there r is = absurd is
+  argument_of (Some p) there r is =
+      argument_reach p.args (of_member (IsProto l.spaces l.stack) p l.protos read.protos (there p refl)).args r is
 
-  -- each range whose ends cut ends in a space of 64 bits, and its size has 32
-  pub in_reach : AreInReach l
-  in_reach r cuts = reach_by r.storage r.size cuts
+  registers_reach : (vs : List Varnode) → AllByRecursion (IsRegister l.spaces) vs → AllReach (registers_at vs)
+  registers_reach [] all r is = absurd is
+  registers_reach (v ∷ vs) all r (inl e) = same_reach r _ e (good_register v all.0)
+  registers_reach (v ∷ vs) all r (inr is) = registers_reach vs all.1 r is
+
+  kept_reach : (ps : List Proto) → AllByRecursion (IsProto l.spaces l.stack) ps → AllReach (kept_ranges ps)
+  kept_reach [] all r is = absurd is
+  kept_reach (p ∷ ps) all r is =
+      ⊎_elim (λ h. registers_reach p.keep all.0.keep r h) (λ h. kept_reach ps all.1 r h)
+      (in_either (registers_at p.keep) (kept_ranges ps) r is)
+
+  module _ (f : Frame) (near : HasNearAccesses f) where
+    stacked_reach : (a : FrameAccess) → IsNearAccess a → IsInReach (P.Stack a.offset) a.size
+    stacked_reach a is =
+        let low = is.from in
+        let high = is.to in
+        let few = is.few in
+        (omega (arith, ints), (omega (arith, ints), omega arith))
+
+    access_reach : (s : ParamStorage) (k : ℕ) → IsAccessed l [] f (model.range s k) → IsInReach s k
+    access_reach (P.Register o) k acc = good_access (model.varnode (register_space l) o k) acc
+    access_reach (P.Unique o) k acc = good_access (model.varnode (unique_space l) o k) acc
+    access_reach (P.Stack o) k acc =
+        let reach = stacked_reach acc.0 (of_member IsNearAccess acc.0 f.accesses near acc.1.0) in
+        subst (λ x. IsInReach (P.Stack x) k) acc.1.1.0 (subst (λ n. IsInReach (P.Stack acc.0.offset) n) acc.1.1.1 reach)
+
+    -- each range whose ends cut is in reach
+    pub in_reach : AreInReach l f
+    in_reach r (inl acc) = access_reach r.storage r.size acc
+    in_reach r (inr (inl is)) =
+        argument_of (slice_get l.protos l.func.proto) (λ p e. member_at l.protos l.func.proto p e) r is
+    in_reach r (inr (inr is)) = kept_reach l.protos read.protos r is

@@ -3,12 +3,12 @@ use Rattle.std.proofs.Common.{◌≡◌, ℕ, suc, ◌≤◌, Bool, true, false,
 use Rattle.std.specs.Prelude.{cond}
 use Rattle.std.proofs.lemmas.Bool.{cases_lt}
 use Rattle.std.proofs.lemmas.Bool.Decides.{nat_tests}
-use Rattle.pcode_model.specs.declared.listing.Varnode.{Varnode}
 use Rattle.pcode_model.specs.declared.atoms.Atom.{Atom}
+use Rattle.pcode_model.specs.Atoms.{Range}
 use Rattle.pcode_model.specs.Flow.{IsIn}
 use Rattle.stackvars.specs.declared.sweep.Mark.{Mark}
 use Rattle.stackvars.specs.Cuts.{atoms_of, more_cuts, opens}
-use Rattle.stackvars.specs.Cases.{ByteCuts, KeptCuts, LastByte, NoAccess, OverlapSplits, Splits, TouchingStay}
+use Rattle.stackvars.specs.Cases.{AcrossEntry, ArgumentCuts, ByteCuts, KeptCuts, LastByte, NoAccess, OverlapSplits, Splits, TouchingStay}
 use Rattle.stackvars.proofs.Swept.{Climbs, pieces_climbing, pieces_same, swept}
 
 abbrev placed : Mark → List Mark → List Mark
@@ -76,7 +76,7 @@ in_sorted [] y is = is
 in_sorted (m ∷ ms) y is = ⊎_elim (λ e. inl e) (λ h. inr (in_sorted ms y h)) (in_placed m (sorted ms) y is)
 
 -- the atoms by computation
-splits : (accessed : List Atom) (cuts : List Varnode) (atoms : List Atom)
+splits : (accessed cuts : List Range) (atoms : List Atom)
     → atoms_of (swept 0 0 (sorted (opens accessed ++ more_cuts cuts))) ≡ atoms
     → Splits accessed cuts atoms
 splits accessed cuts atoms made =
@@ -106,3 +106,9 @@ no_access = splits _ _ _ refl
 
 pub last_byte : LastByte
 last_byte = splits _ _ _ refl
+
+pub across_entry : AcrossEntry
+across_entry = splits _ _ _ refl
+
+pub argument_cuts : ArgumentCuts
+argument_cuts = splits _ _ _ refl

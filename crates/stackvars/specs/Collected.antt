@@ -1,4 +1,5 @@
--- The atoms of the ranges that ops access, op by op, and the range of an atom. This project's own.
+-- The ranges that ops access, op by op, and those of frame variables, as atoms, and the range of an atom. This project's
+-- own.
 use Rattle.std.specs.Prelude.{ℕ, ◌==◌, if◌then◌else◌, List, [], ◌∷◌, ◌++◌, Option, Some, None}
 use Rattle.pcode_model.specs.declared.listing.Place.{Place}
 use Rattle.pcode_model.specs.declared.listing.Varnode.{Varnode}
@@ -7,6 +8,8 @@ use Rattle.pcode_model.specs.declared.storage.ParamStorage.{ParamStorage}
 use Rattle.pcode_model.specs.declared.storage.ParamStorage.TheVariants as P
 use Rattle.pcode_model.specs.declared.atoms.Atom.{Atom}
 use Rattle.pcode_model.specs.declared.flow.Block.{Block}
+use Rattle.pcode_model.specs.declared.frame.Frame.{Frame}
+use Rattle.pcode_model.specs.declared.frame.FrameAccess.{FrameAccess}
 use Rattle.pcode_model.specs.Spaces.{register_space, unique_space}
 use Rattle.pcode_model.specs.Atoms.{ranges_at}
 
@@ -35,6 +38,14 @@ atoms_at l (p ∷ ps) = atoms_of l (ranges_at l [] p) ++ atoms_at l ps
 abbrev pub atoms_in : Listing → List Block → List Atom
 atoms_in l [] = []
 atoms_in l (b ∷ bs) = atoms_at l b.places ++ atoms_in l bs
+
+-- the ranges of accesses of frame variables
+abbrev pub frame_ranges : List FrameAccess → List Atom
+frame_ranges [] = []
+frame_ranges (a ∷ rest) = record { storage = P.Stack a.offset; size = a.size } ∷ frame_ranges rest
+
+abbrev pub collected : Listing → List Block → Frame → List Atom
+collected l bs f = atoms_in l bs ++ frame_ranges f.accesses
 
 -- ---- back to ranges
 

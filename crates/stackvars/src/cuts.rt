@@ -1,36 +1,55 @@
-// The atoms of a listing without frame variables.
-ghost use Rattle.std.specs.Prelude.{◌≡◌, ◌+◌, ◌++◌, ◌<◌, ◌≤◌, ◌^◌, [], length, None, IfErr, IfOk, OnOk};
+// The atoms of a listing with its frame.
+ghost use Rattle.std.specs.Prelude.{◌≡◌, ◌+◌, ◌++◌, ◌<◌, ◌≤◌, ◌^◌, [], length, None, IfErr, IfOk, OnOk, ◌∷◌, ◌-◌};
 ghost use Rattle.std.specs.List.{AllByRecursion};
 ghost use Rattle.pcode_model.specs.Rules.{first_bad};
 ghost use Rattle.pcode_model.specs.WellFormed.{IsWellFormed};
 ghost use Rattle.pcode_model.specs.Flow.{IsFlow};
-ghost use Rattle.pcode_model.specs.Frame.{no_variables};
-ghost use Rattle.pcode_model.specs.Atoms.{AreAtoms};
+ghost use Rattle.pcode_model.specs.Atoms.{AreAtoms, argument_range, argument_ranges, kept_ranges, registers_at};
 ghost use Rattle.pcode_model.specs.Limits.{max_atoms};
 ghost use Rattle.pcode_model.specs.Step.{proto_of};
-ghost use Rattle.stackvars.specs.Accesses.{passed};
-ghost use Rattle.stackvars.specs.Cuts.{Fits, IsCause, argument_marks, atom, atoms_of, begin, cut_marks, kept_marks, marks, more_cuts, open_marks, opens};
+ghost use Rattle.stackvars.specs.Cuts.{Fits, IsCause, atom, atoms_of, begin, cut_marks, entry_word, frames, from_entry, mark, marks, more_cuts, open_marks, opens, storage_at, uniques};
+ghost use Rattle.stackvars.specs.Near.{HasNearAccesses};
 
-use crate::accesses::accesses;
+use crate::collected::collected;
 use crate::fault::{AtomFault, too_many};
 use crate::sweep::{Mark, Piece, pieces};
 use bits_core::Memory;
-use pcode_model::{Atom, Atoms, Flow, Listing, MAX_ATOMS, ParamStorage, Proto, Storage, Varnode};
+use instructions::arguments;
+use pcode_model::{
+    Atom, Atoms, Flow, Frame, Listing, MAX_ATOMS, ParamStorage, Proto, Storage, Varnode,
+};
 use sqlite_items::Items;
 use std::alloc::Global;
 
 /// Where the unique space begins on the line: past every end of a register range.
 const UNIQUES: u128 = 1 << 65;
 
-/// Where a storage stands on the line that has the register space, then the unique space.
+/// Where the frame begins on the line: past every end of a unique range.
+const FRAMES: u128 = 1 << 66;
+
+/// Where the stack pointer's entry word stands: so far inside the frame that every offset lies there.
+const ENTRY_WORD: u128 = FRAMES + (1 << 32);
+
+// Where an offset of the frame stands.
+fn from_entry(offset: i32) -> u128
+    ensures { result ≡ from_entry offset }
+{
+    if offset < 0 {
+        ENTRY_WORD - u128::from(offset.unsigned_abs())
+    } else {
+        ENTRY_WORD + offset as u128
+    }
+}
+
+/// Where a storage stands on the line that has the register space, then the unique space, then the frame.
 fn begin(storage: ParamStorage) -> u128
     ensures value { result ≡ begin storage }
-    ensures bound { result ≤ 2 ^ 66 }
+    ensures bound { result ≤ 2 ^ 67 }
 {
     match storage {
         ParamStorage::Register(offset) => u128::from(offset),
         ParamStorage::Unique(offset) => UNIQUES + u128::from(offset),
-        ParamStorage::Stack(_) => 2 * UNIQUES,
+        ParamStorage::Stack(offset) => from_entry(offset),
     }
 }
 
@@ -59,11 +78,12 @@ fn push_opens(marks: &mut Vec<Mark>, accessed: &[Atom]) -> Result<(), Memory>
     Ok(())
 }
 
-fn push_cut(marks: &mut Vec<Mark>, range: &Varnode) -> Result<(), Memory>
-    ensures { OnOk result (marks.new.items ≡ marks.old.items ++ cut_marks range.now) }
+// Both ends of so many bytes from a place of the line on.
+fn push_cut(marks: &mut Vec<Mark>, position: u128, size: u32) -> Result<(), Memory>
+    requires { position ≤ 2 ^ 67 }
+    ensures { OnOk result (marks.new.items ≡ marks.old.items ++ mark position 0 ∷ mark (position + size) 0 ∷ []) }
 {
-    let position = u128::from(range.offset);
-    let end = position + u128::from(range.size);
+    let end = position + u128::from(size);
     marks.push(Mark { position, reach: 0 })?;
     marks.push(Mark {
         position: end,
@@ -72,27 +92,17 @@ fn push_cut(marks: &mut Vec<Mark>, range: &Varnode) -> Result<(), Memory>
     Ok(())
 }
 
-fn push_cuts(marks: &mut Vec<Mark>, ranges: &[Varnode]) -> Result<(), Memory>
-    ensures { OnOk result (marks.new.items ≡ marks.old.items ++ more_cuts ranges.now) }
-{
-    for range in ranges {
-        push_cut(marks, range)?;
-    }
-    Ok(())
-}
-
 fn push_argument(marks: &mut Vec<Mark>, argument: &Storage) -> Result<(), Memory>
-    ensures { OnOk result (marks.new.items ≡ marks.old.items ++ argument_marks argument.now) }
+    ensures { OnOk result (marks.new.items ≡ marks.old.items ++ cut_marks (argument_range argument.now)) }
 {
     match argument {
-        Storage::At(range) => push_cut(marks, range),
-        Storage::Stack { .. } => Ok(()),
+        Storage::At(range) => push_cut(marks, u128::from(range.offset), range.size),
+        Storage::Stack { offset, size } => push_cut(marks, ENTRY_WORD + u128::from(*offset), *size),
     }
 }
 
-#[tactic(auto, using(crate::proofs::Marked::cuts_of_both))]
 fn push_arguments(marks: &mut Vec<Mark>, arguments: &[Storage]) -> Result<(), Memory>
-    ensures { OnOk result (marks.new.items ≡ marks.old.items ++ more_cuts (passed arguments.now)) }
+    ensures { OnOk result (marks.new.items ≡ marks.old.items ++ more_cuts (argument_ranges arguments.now)) }
 {
     for argument in arguments {
         push_argument(marks, argument)?;
@@ -100,21 +110,21 @@ fn push_arguments(marks: &mut Vec<Mark>, arguments: &[Storage]) -> Result<(), Me
     Ok(())
 }
 
-fn push_own(marks: &mut Vec<Mark>, listing: &Listing) -> Result<(), Memory>
-    ensures { OnOk result (marks.new.items
-        ≡ marks.old.items ++ more_cuts (passed (proto_of listing.now None).args)) }
+fn push_registers(marks: &mut Vec<Mark>, ranges: &[Varnode]) -> Result<(), Memory>
+    ensures { OnOk result (marks.new.items ≡ marks.old.items ++ more_cuts (registers_at ranges.now)) }
 {
-    match listing.protos.get(listing.func.proto as usize) {
-        Some(proto) => push_arguments(marks, proto.args.as_slice()),
-        None => Ok(()),
+    for range in ranges {
+        push_cut(marks, u128::from(range.offset), range.size)?;
     }
+    Ok(())
 }
 
+#[tactic(auto, using(crate::proofs::Marked::cuts_of_both))]
 fn push_kept(marks: &mut Vec<Mark>, protos: &[Proto]) -> Result<(), Memory>
-    ensures { OnOk result (marks.new.items ≡ marks.old.items ++ kept_marks protos.now) }
+    ensures { OnOk result (marks.new.items ≡ marks.old.items ++ more_cuts (kept_ranges protos.now)) }
 {
     for proto in protos {
-        push_cuts(marks, proto.keep.as_slice())?;
+        push_registers(marks, proto.keep.as_slice())?;
     }
     Ok(())
 }
@@ -124,22 +134,34 @@ fn marks(alloc: Global, listing: &Listing, accessed: &[Atom]) -> Result<Vec<Mark
 {
     let mut marks = Vec::new(alloc);
     push_opens(&mut marks, accessed)?;
-    push_own(&mut marks, listing)?;
+    push_arguments(&mut marks, arguments(listing, listing.func.proto))?;
     push_kept(&mut marks, listing.protos.as_slice())?;
     Ok(marks)
+}
+
+fn storage_at(place: u128) -> ParamStorage
+    requires register { place < uniques → place < 2 ^ 64 }
+    requires unique { place < frames → place < uniques + 2 ^ 64 }
+    requires frame { frames ≤ place → (entry_word - 2 ^ 31 ≤ place) × (place < entry_word + 2 ^ 31) }
+    ensures { result ≡ storage_at place }
+{
+    if place < UNIQUES {
+        ParamStorage::Register(place as u64)
+    } else if place < FRAMES {
+        ParamStorage::Unique((place - UNIQUES) as u64)
+    } else {
+        ParamStorage::Stack((place as i128 - ENTRY_WORD as i128) as i32)
+    }
 }
 
 fn atom(piece: Piece) -> Atom
     requires { Fits piece }
     ensures { result ≡ atom piece }
 {
-    let size = (piece.end - piece.begin) as u32;
-    let storage = if piece.begin < UNIQUES {
-        ParamStorage::Register(piece.begin as u64)
-    } else {
-        ParamStorage::Unique((piece.begin - UNIQUES) as u64)
-    };
-    Atom { storage, size }
+    Atom {
+        storage: storage_at(piece.begin),
+        size: (piece.end - piece.begin) as u32,
+    }
 }
 
 fn atoms_of(alloc: Global, pieces: &[Piece]) -> Result<Vec<Atom>, Memory>
@@ -153,29 +175,41 @@ fn atoms_of(alloc: Global, pieces: &[Piece]) -> Result<Vec<Atom>, Memory>
     Ok(atoms)
 }
 
-fn all_atoms(alloc: Global, listing: &Listing, flow: &Flow) -> Result<Vec<Atom>, Memory>
+fn all_atoms(
+    alloc: Global,
+    listing: &Listing,
+    flow: &Flow,
+    frame: &Frame,
+) -> Result<Vec<Atom>, Memory>
     requires flow { IsFlow listing.now [] flow.now }
     requires read { IsWellFormed listing.now }
     requires ops { first_bad listing.now ≡ None }
-    ensures { IfOk result (λ atoms. AreAtoms listing.now [] no_variables atoms.items) }
+    requires near { HasNearAccesses frame.now }
+    ensures { IfOk result (λ atoms. AreAtoms listing.now [] frame.now atoms.items) }
 {
-    let accessed = accesses(alloc, listing, flow.as_slice())?;
+    let accessed = collected(alloc, listing, flow.as_slice(), frame)?;
     let marks = marks(alloc, listing, &accessed)?;
     let pieces = pieces(alloc, marks)?;
     atoms_of(alloc, &pieces)
 }
 
-/// The atoms of a listing without frame variables. The fault `TooManyAtoms` comes where they are more than `MAX_ATOMS`,
-/// with their number, and `Memory` where memory runs out.
-pub fn atoms(alloc: Global, listing: &Listing, flow: &Flow) -> Result<Atoms, AtomFault>
+/// The atoms of a listing with a frame whose accesses lie near the stack pointer's entry word. The fault `TooManyAtoms`
+/// comes where they are more than `MAX_ATOMS`, with their number, and `Memory` where memory runs out.
+pub fn atoms(
+    alloc: Global,
+    listing: &Listing,
+    flow: &Flow,
+    frame: &Frame,
+) -> Result<Atoms, AtomFault>
     requires flow { IsFlow listing.now [] flow.now }
     requires read { IsWellFormed listing.now }
     requires ops { first_bad listing.now ≡ None }
-    ensures atoms { IfOk result (λ atoms. AreAtoms listing.now [] no_variables atoms) }
+    requires near { HasNearAccesses frame.now }
+    ensures atoms { IfOk result (λ atoms. AreAtoms listing.now [] frame.now atoms) }
     ensures few { IfOk result (λ atoms. length atoms ≤ max_atoms) }
-    ensures err { IfErr result (λ fault. IsCause listing.now fault) }
+    ensures err { IfErr result (λ fault. IsCause listing.now frame.now fault) }
 {
-    let atoms = all_atoms(alloc, listing, flow)?;
+    let atoms = all_atoms(alloc, listing, flow, frame)?;
     if atoms.len() > MAX_ATOMS {
         return Err(too_many(atoms.len()));
     }

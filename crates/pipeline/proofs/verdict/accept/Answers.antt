@@ -15,7 +15,8 @@ returns-clause-accepted c =
     record { read = c.in_ok-listing.ensures.good; ops = c.in_ok-check_ops.ensures.ok } in
     let built : IsSupported l = c.is_supported.ensures.0 c.if-not-is_supported.false in
     accepts c.args.bytes.now l good built c.in_ok-flow.flow c.in_ok-flow.ensures.blocks c.in_ok-flow.ensures.no_fault
-    c.in_ok-flow.ensures.few c.in_ok-atoms.atoms c.in_ok-atoms.ensures.atoms c.in_ok-atoms.ensures.few
+    c.in_ok-flow.ensures.few c.in_ok-frame.frame c.in_ok-frame.ensures.frame c.in_ok-atoms.atoms
+    c.in_ok-atoms.ensures.atoms c.in_ok-atoms.ensures.few
 
 pub returns-in_err-atoms-clause-refused : goal.returns-in_err-atoms-clause-refused
 returns-in_err-atoms-clause-refused c =

@@ -1,5 +1,0 @@
-use Rattle.frame_facts.proofs.Guided as guided
-use Rattle.frame_facts.proofs.law_of_frame.Goals as goal
-
-pub returns : goal.returns
-returns c = guided.law_of_frame

@@ -1,5 +1,0 @@
-use Rattle.frame_facts.proofs.Cases as cases
-use Rattle.frame_facts.proofs.worked_facts.Goals as goal
-
-pub returns : goal.returns
-returns c = cases.worked_facts

@@ -1,0 +1,11 @@
+pub mod Words
+pub mod Calls
+pub mod Made
+pub mod Effects
+pub mod Steps
+pub mod Edges
+pub mod Runs
+pub mod Law
+pub mod Owned
+pub mod Guided
+pub mod Cases
