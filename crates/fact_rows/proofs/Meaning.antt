@@ -99,7 +99,7 @@ all_kept_from keep o (suc k) h =
     (all_kept_from keep (suc o) k (λ x low high. h x (omega (arith, low)) (omega (arith, high))))
 
 -- the range that a number is at
-at_is : (w : ℕ) (o : Option Varnode) (n : ℕ)
+pub at_is : (w : ℕ) (o : Option Varnode) (n : ℕ)
     → is_at w o n ≡ true
     → (u : Varnode) × ((o ≡ Some u) × ((u.size ≡ w) × ((u.offset < 2 ^ 64) × (key u ≡ n))))
 at_is w None n h = absurd (cc)
@@ -108,7 +108,7 @@ at_is w (Some u) n h =
     let q = wide_is w u p.0 in
     (u, (refl, (q.0, (q.1, eqb-true (key u) n p.1))))
 
-is_at_from : (w : ℕ) (o : Option Varnode) (v : Varnode)
+pub is_at_from : (w : ℕ) (o : Option Varnode) (v : Varnode)
     → o ≡ Some v
     → v.size ≡ w
     → v.offset < 2 ^ 64

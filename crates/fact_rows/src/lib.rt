@@ -16,5 +16,5 @@ mod offsets;
 mod rows;
 mod slots;
 
-pub use rows::{Row, offset, over};
+pub use rows::{Row, is_stack, offset, over};
 pub use slots::{Slots, slots_of};

@@ -145,7 +145,8 @@ fn over_other(listing: &Listing, slots: &Slots, row: &mut Row, op: &Op)
     }
 }
 
-fn is_stack(listing: &Listing, slots: &Slots, slot: usize) -> bool
+/// Whether a slot is the stack pointer's.
+pub fn is_stack(listing: &Listing, slots: &Slots, slot: usize) -> bool
     requires { slot < length slots.now.keys.items }
     ensures { result ≡ is_at slots.now.width listing.now.stack (slice_index slots.now.keys.items slot) }
 {

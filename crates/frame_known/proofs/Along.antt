@@ -1,6 +1,6 @@
 -- What is known along a block, and where its places lead.
-use Rattle.std.proofs.Common.{◌≡◌, ℕ, zero, suc, ◌+◌, ◌<◌, ◌%◌, Bool, true, false, List, [], ◌∷◌, ◌++◌, length, Option, Some, None, refl, sym, ap, ◌∙◌, subst, ◌⊎◌, inl, inr, ⊎_elim, arith}
-use Rattle.std.specs.Prelude.{slice_get, cond, ◌==◌, ◌&&◌}
+use Rattle.std.proofs.Common.{◌≡◌, ℕ, zero, suc, Bool, true, false, List, [], ◌∷◌, ◌++◌, Option, Some, None, refl, sym, ap, ◌∙◌, subst, inl, inr}
+use Rattle.std.specs.Prelude.{slice_get, cond, ◌==◌}
 use Rattle.std.proofs.lemmas.Bool.{and_from, and_parts, eq-eqb, eqb-true}
 use Rattle.bits_core.specs.declared.ops.Unary.TheVariants as U
 use Rattle.bits_core.specs.declared.ops.Binary.TheVariants as B
@@ -10,30 +10,24 @@ use Rattle.pcode_model.specs.declared.listing.Proto.{Proto}
 use Rattle.pcode_model.specs.declared.listing.Varnode.{Varnode}
 use Rattle.pcode_model.specs.declared.listing.Listing.{Listing}
 use Rattle.pcode_model.specs.declared.flow.Block.{Block}
-use Rattle.pcode_model.specs.declared.flow.Exit.{Exit}
 use Rattle.pcode_model.specs.declared.opcode.Opcode.{Opcode}
 use Rattle.pcode_model.specs.declared.opcode.Opcode.TheVariants as O
 use Rattle.pcode_model.specs.Places.{Standing, Nothing, Passes, Does, standing}
 use Rattle.pcode_model.specs.Step.{callee_at, proto_of, varnode_at}
-use Rattle.pcode_model.specs.Flow.{IsBefore, IsIn, LeadsTo, NoFault, Reached, Rising, RunsBlock, places_of, stands, stands_by}
-use Rattle.pcode_model.specs.WellFormed.{IsWellFormed}
+use Rattle.pcode_model.specs.Flow.{IsBefore, IsIn, Rising, places_of}
 use Rattle.pcode_model.proofs.Members.{in_front, behind, same_place}
 use Rattle.flow.proofs.Order.{not_before, rising_head, rising_rest}
-use Rattle.frame_facts.specs.Facts.{AreSupported, CanHold, Facts, IsDifference, IsSum, Known, Makes, Over, OverCall, OverOp, OverOther}
+use Rattle.frame_facts.specs.Facts.{IsDifference, IsSum, Known, Makes, Over, OverCall, OverOp, OverOther}
 use Rattle.fact_rows.specs.declared.slots.Slots.{Slots}
 use Rattle.fact_rows.specs.Slots.{AreSlots}
-use Rattle.fact_rows.specs.Rows.{IsRow, Row, knows, over_row}
+use Rattle.fact_rows.specs.Rows.{IsRow, Row, over_row}
 use Rattle.fact_rows.proofs.Below.{over_fine}
-use Rattle.fact_rows.proofs.Meaning.{over_is}
 use Rattle.frame_known.specs.Rows.{along}
 use Rattle.frame_known.specs.Known.{Before}
-use Rattle.frame_known.specs.Entering.{nexts}
-use Rattle.frame_known.proofs.Ways.{Behind, inner_back, inner_on, last_back, last_on, reached_stands}
+use Rattle.frame_known.specs.Passing.{is_place}
+use Rattle.frame_known.specs.Settling.{KnowsNoLess}
 
 -- ---- from more an op passes on no less
-
-abbrev pub KnowsNoLess : Known → Known → Type 0
-KnowsNoLess h k = (v : Varnode) (c : ℕ) → h v c ≡ true → k v c ≡ true
 
 module _ (l : Listing) (h k : Known) (more : KnowsNoLess h k) where
   sum_more : (v n : Varnode) (c : ℕ) → IsSum l h v n c → IsSum l k v n c
@@ -69,6 +63,24 @@ module _ (l : Listing) (h k : Known) (more : KnowsNoLess h k) where
   over_more (Passes i) v c x = more v c x
   over_more (Does i op) v c x = op_more op.code op.out op.inputs v c x
 
+-- ---- a place by a test
+
+pub place_is : (q p : Place) → is_place q p ≡ true → q ≡ p
+place_is q p h =
+    let x = and_parts (q.address == p.address) (q.index == p.index) h in
+    same_place q p (eqb-true q.address p.address x.0) (eqb-true q.index p.index x.1)
+
+pub is_place_from : (q p : Place) → p ≡ q → is_place q p ≡ true
+is_place_from q p e =
+    and_from (q.address == p.address) (q.index == p.index) (eq-eqb q.address p.address (ap (λ x. x.address) (sym e)))
+    (eq-eqb q.index p.index (ap (λ x. x.index) (sym e)))
+
+isnt_place : (q p : Place) → (q ≡ p → ⊥) → is_place q p ≡ false
+isnt_place q p h = by (is_place q p) refl where
+  by : (b : Bool) → is_place q p ≡ b → b ≡ false
+  by true e = absurd (h (place_is q p e))
+  by false e = refl
+
 -- ---- one block
 
 module _ (l : Listing) (s : Slots) where
@@ -84,25 +96,6 @@ module _ (l : Listing) (s : Slots) where
       let x = in_before ps (over_row l s row (standing l q)) p h in (x.0, inr x.1)
 
   -- ---- the row before a place, by the place
-
-  abbrev pub is_place : Place → Place → Bool
-  is_place q p = q.address == p.address && q.index == p.index
-
-  place_is : (q p : Place) → is_place q p ≡ true → q ≡ p
-  place_is q p h =
-      let x = and_parts (q.address == p.address) (q.index == p.index) h in
-      same_place q p (eqb-true q.address p.address x.0) (eqb-true q.index p.index x.1)
-
-  is_place_from : (q p : Place) → p ≡ q → is_place q p ≡ true
-  is_place_from q p e =
-      and_from (q.address == p.address) (q.index == p.index) (eq-eqb q.address p.address (ap (λ x. x.address) (sym e)))
-      (eq-eqb q.index p.index (ap (λ x. x.index) (sym e)))
-
-  isnt_place : (q p : Place) → (q ≡ p → ⊥) → is_place q p ≡ false
-  isnt_place q p h = by (is_place q p) refl where
-    by : (b : Bool) → is_place q p ≡ b → b ≡ false
-    by true e = absurd (h (place_is q p e))
-    by false e = refl
 
   abbrev pub find_along : Row → List Place → Place → Option Row
   find_along row [] p = None

@@ -1,14 +1,13 @@
 -- What two rows know, and how much a row may still lose.
-use Rattle.std.proofs.Common.{◌≡◌, ℕ, zero, suc, ◌+◌, ◌<◌, ◌≤◌, Bool, true, false, List, [], ◌∷◌, length, get_or, set, map, Option, Some, None, refl, sym, ap, ◌∙◌, subst, ◌⊎◌, inl, inr, ⊎_elim, arith}
-use Rattle.std.specs.Prelude.{cond, ◌==◌, slice_get}
-use Rattle.std.proofs.Math.ListN.{length-set}
-use Rattle.std.proofs.lemmas.Bool.{cases_eq, eq-eqb, eqb-true}
+use Rattle.std.proofs.Common.{◌≡◌, ℕ, zero, suc, ◌+◌, ◌<◌, ◌≤◌, Bool, true, false, List, [], ◌∷◌, length, get_or, set, Option, Some, None, refl, sym, ap, ◌∙◌, arith}
+use Rattle.std.specs.Prelude.{cond, ◌==◌}
+use Rattle.std.proofs.lemmas.Bool.{eq-eqb, eqb-true}
 use Rattle.pcode_model.specs.declared.listing.Varnode.{Varnode}
 use Rattle.fact_rows.specs.declared.slots.Slots.{Slots}
 use Rattle.fact_rows.specs.Rows.{AreBelow, IsBelow, IsRow, Row, knows, offset_in}
-use Rattle.fact_rows.proofs.Meaning.{Held, held, knows_from}
+use Rattle.fact_rows.proofs.Meaning.{held, knows_from}
 use Rattle.frame_known.specs.Rows.{both, common, count, one_known}
-use Rattle.frame_known.specs.Entering.{AreLong, IsLong, brought, row_at, waiting, weight, weights}
+use Rattle.frame_known.specs.Entering.{row_at, waiting, weight, weights}
 
 -- ---- one entry
 
@@ -34,7 +33,7 @@ both_from r t c e f =
 
 -- ---- rows
 
-common_long : (row other : Row) → length row ≡ length other → length (common row other) ≡ length row
+pub common_long : (row other : Row) → length row ≡ length other → length (common row other) ≡ length row
 common_long [] other e = refl
 common_long (r ∷ row) [] e = absurd (omega (arith, e))
 common_long (r ∷ row) (t ∷ other) e =

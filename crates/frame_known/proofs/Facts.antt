@@ -1,30 +1,28 @@
 -- Rows that are settled say just the facts before each place.
-use Rattle.std.proofs.Common.{◌≡◌, ℕ, zero, suc, ◌<◌, Bool, true, false, List, [], ◌∷◌, length, map, Option, Some, None, refl, sym, ap, ◌∙◌, subst, ◌⊎◌, inl, inr, ⊎_elim, arith}
-use Rattle.std.specs.Prelude.{slice_get, cond, ◌↔◌}
-use Rattle.std.proofs.lemmas.List.{length-map}
-use Rattle.std.proofs.lemmas.Option.{slice_get-get_or, slice_get_within, get_or_from_slice_get}
+use Rattle.std.proofs.Common.{◌≡◌, ℕ, zero, suc, Bool, true, false, List, [], ◌∷◌, get_or, Option, Some, None, refl, sym, ap, ◌∙◌, subst, inl, inr, ⊎_elim}
+use Rattle.std.specs.Prelude.{slice_get}
+use Rattle.std.proofs.lemmas.Option.{slice_get-get_or, get_or_from_slice_get}
 use Rattle.pcode_model.specs.declared.listing.Place.{Place}
 use Rattle.pcode_model.specs.declared.listing.Varnode.{Varnode}
 use Rattle.pcode_model.specs.declared.listing.Listing.{Listing}
 use Rattle.pcode_model.specs.declared.flow.Block.{Block}
+use Rattle.pcode_model.specs.declared.flow.Exit.TheVariants.{Stop}
 use Rattle.pcode_model.specs.Places.{standing}
 use Rattle.pcode_model.specs.Step.{first_place}
 use Rattle.pcode_model.specs.Flow.{Entry, First, IsFlow, IsIn, LeadsTo, Next, NoFault, Reached, RunsBlock, starts_of}
 use Rattle.pcode_model.specs.WellFormed.{IsWellFormed}
-use Rattle.pcode_model.proofs.Members.{member_at}
-use Rattle.frame_facts.specs.Facts.{AreSupported, CanHold, Fact, Facts, Known, Over}
+use Rattle.frame_facts.specs.Facts.{AreSupported, CanHold, Facts, Known, Over}
 use Rattle.fact_rows.specs.declared.slots.Slots.{Slots}
 use Rattle.fact_rows.specs.Slots.{AreSlots}
 use Rattle.fact_rows.specs.Rows.{IsRow, Row, knows, over_row}
 use Rattle.fact_rows.proofs.Meaning.{can_from, held}
-use Rattle.frame_known.specs.Rows.{along}
-use Rattle.frame_known.specs.Known.{Before, IsFactRow}
+use Rattle.frame_known.specs.declared.known.Known as known
+use Rattle.frame_known.specs.Known.{AreKnown, Before, IsFactRow}
 use Rattle.frame_known.specs.Entering.{nexts, row_at, waits_at}
-use Rattle.frame_known.proofs.Along.{KnowsNoLess, before_in, find_in, found_fine, found_in, in_before, one_block}
-use Rattle.frame_known.proofs.Settled.{IsDone, Nothing_owed, Settling}
-use Rattle.frame_known.proofs.Shaped.{Begins, begins_at, block_of, block_reached, starts_at}
+use Rattle.frame_known.proofs.Along.{before_in, find_in, found_fine, found_in, one_block}
+use Rattle.frame_known.specs.Settling.{IsDone, Nothing_owed, Settled, Settling}
+use Rattle.frame_known.proofs.Shaped.{Begins, begins_at, block_reached, starts_at}
 use Rattle.frame_known.proofs.Walked.{all_before, leads_on, step_over}
-use Rattle.frame_known.proofs.Ways.{Behind}
 
 module _
     (l : Listing)
@@ -180,6 +178,7 @@ module _
         → LeadsTo l [] p q
         → said q v c ≡ true
         → Over l (said p) (standing l p) v c
+    unfolding is_done stood_at_start
     said_edge p q v c r h is =
         let d = stood p r in
         let fine = fine_at p d in
@@ -210,6 +209,7 @@ module _
             (reached_in d.number d.block d.is) (runs d.number d.block d.is) d.place h)
 
     said_first : (v : Varnode) (c : ℕ) → said (first_place l) v c ≡ true → (l.stack ≡ Some v) × (c ≡ 0)
+    unfolding stood_at_start
     said_first v c h =
         let n = number_of_start (first_place l) ((flow.starts.each (first_place l)).1 Entry) in
         let row = x.begun n.0 n.1 in
@@ -231,3 +231,34 @@ module _
           (subst (λ ps. Before l s d.row ps p d.before) b.places d.place) v c h.1.0,
       λ h. (said, (ap (λ o. known_at o v c) (found_at p d) ∙ h, supported)),
     )
+
+pub are_known : (l : Listing) (blocks : List Block) (k : known.Known)
+    → IsWellFormed l
+    → NoFault l []
+    → AreSlots l k.slots
+    → IsFlow l [] blocks
+    → Settled l k.slots blocks k.rows.items
+    → AreKnown l blocks k
+are_known l blocks k read sound slots flow settled = record {
+  slots = slots;
+  long = settled.settling.long;
+  all = λ n lt.
+      let b = slice_get-get_or blocks n nothing lt in
+      let r = all_rows l read sound k.slots slots blocks flow k.rows.items settled.waits settled.settling settled.none n (get_or blocks n nothing) b in
+      (r.0, get_row l read sound k.slots slots blocks flow k.rows.items settled.waits settled.settling settled.none n r.0 r.1);
+  rows = λ n row e. fine_rows l read sound k.slots slots blocks flow k.rows.items settled.waits settled.settling settled.none n row e;
+  facts = λ n b row p r is has before.
+      fact_row l read sound k.slots slots blocks flow k.rows.items settled.waits settled.settling settled.none p
+      (record {
+        number = n;
+        block = b;
+        is = is;
+        row = row;
+        has = get_at l read sound k.slots slots blocks flow k.rows.items settled.waits settled.settling settled.none n row has;
+        before = r;
+        place = before;
+      });
+}
+  where
+    nothing : Block
+    nothing = record { places = []; exit = Stop }

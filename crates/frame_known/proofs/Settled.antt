@@ -1,5 +1,5 @@
 -- What the passing of blocks keeps.
-use Rattle.std.proofs.Common.{◌≡◌, ◌≢◌, ℕ, zero, suc, ◌+◌, ◌<◌, ◌≤◌, Bool, true, false, List, [], ◌∷◌, length, get_or, set, Option, Some, None, refl, sym, ap, ◌∙◌, subst, ◌⊎◌, inl, inr, ⊎_elim, arith}
+use Rattle.std.proofs.Common.{◌≡◌, ◌≢◌, ℕ, ◌+◌, ◌<◌, ◌≤◌, Bool, true, false, List, [], ◌∷◌, length, set, Option, Some, None, refl, sym, ap, ◌∙◌, subst, ◌⊎◌, inl, inr, ⊎_elim, arith}
 use Rattle.std.specs.Prelude.{slice_get}
 use Rattle.std.proofs.Math.ListN.{length-set}
 use Rattle.std.proofs.lemmas.List.{get_or-set_same, get_or-set_other}
@@ -9,50 +9,16 @@ use Rattle.pcode_model.specs.declared.listing.Varnode.{Varnode}
 use Rattle.pcode_model.specs.declared.listing.Listing.{Listing}
 use Rattle.pcode_model.specs.declared.flow.Block.{Block}
 use Rattle.pcode_model.specs.Step.{first_place}
-use Rattle.pcode_model.specs.Flow.{IsFlow, IsIn, NoFault, starts_of}
-use Rattle.pcode_model.specs.WellFormed.{IsWellFormed}
+use Rattle.pcode_model.specs.Flow.{IsIn, starts_of}
 use Rattle.frame_facts.specs.Facts.{AreSupported, Facts}
 use Rattle.fact_rows.specs.declared.slots.Slots.{Slots}
-use Rattle.fact_rows.specs.Slots.{AreSlots}
 use Rattle.fact_rows.specs.Rows.{IsRow, Row, knows}
-use Rattle.frame_known.specs.Rows.{along, common, count}
-use Rattle.frame_known.specs.Entering.{AreInside, Entered, EnteredAll, brought, nexts, row_at, waiting, waits_at, weight, weights}
-use Rattle.frame_known.proofs.Along.{KnowsNoLess, along_fine}
+use Rattle.frame_known.specs.Rows.{along, common}
+use Rattle.frame_known.specs.Entering.{Entered, EnteredAll, brought, nexts, row_at, waiting, waits_at, weight, weights}
+use Rattle.frame_known.specs.Settling.{IsDone, KnowsNoLess, Nothing_owed, Owes, Settling}
 use Rattle.frame_known.proofs.Common.{common_both, common_fine, common_left, common_right, waiting_on, weights_set}
-use Rattle.frame_known.proofs.Shaped.{Begins, begins_at, block_reached}
-use Rattle.frame_known.proofs.Walked.{all_behind}
 
 module _ (l : Listing) (s : Slots) (blocks : List Block) where
-  -- what is known where the block of a number begins is known at the end of a block that has this row
-  abbrev pub IsDone : List (Option Row) → Row → Block → ℕ → Type 0
-  IsDone rows row b m =
-      (row' : Row) × ((row_at rows m ≡ Some row') × KnowsNoLess (knows s row') (knows s (along l s row b.places)))
-
-  -- What holds as blocks are passed. What is known at the end of a block that doesn't wait was brought to each block
-  -- behind it, but for what is owed still.
-  pub record Settling (owed : ℕ → ℕ → Type 0) (rows : List (Option Row)) (waits : List Bool) : Type 0 where
-    pub long : length rows ≡ length blocks
-    pub long_waits : length waits ≡ length blocks
-    pub fine : (n : ℕ) (row : Row) → row_at rows n ≡ Some row → IsRow s row
-    pub start : (n : ℕ) (row : Row) (v : Varnode) (c : ℕ)
-        → slice_get (starts_of blocks) n ≡ Some (first_place l)
-        → row_at rows n ≡ Some row
-        → knows s row v c ≡ true
-        → (l.stack ≡ Some v) × (c ≡ 0)
-    pub begun : (n : ℕ) → slice_get (starts_of blocks) n ≡ Some (first_place l) → (row : Row) × (row_at rows n ≡ Some row)
-    pub all : (f : Facts) (n : ℕ) (p : Place) (row : Row)
-        → AreSupported l [] f
-        → slice_get (starts_of blocks) n ≡ Some p
-        → row_at rows n ≡ Some row
-        → KnowsNoLess (f p) (knows s row)
-    pub done : (n : ℕ) (b : Block) (row : Row) (m : ℕ)
-        → slice_get blocks n ≡ Some b
-        → row_at rows n ≡ Some row
-        → waits_at waits n ≡ false
-        → IsIn m (nexts b.exit)
-        → IsDone rows row b m ⊎ owed n m
-    pub waited : (n : ℕ) → waits_at waits n ≡ true → (row : Row) × (row_at rows n ≡ Some row)
-
   no_less_over : (row' row'' : Row) (out : Row)
       → KnowsNoLess (knows s row'') (knows s row')
       → KnowsNoLess (knows s row') (knows s out)
@@ -103,13 +69,13 @@ module _ (l : Listing) (s : Slots) (blocks : List Block) where
       (out : Row)
       (rows' : List (Option Row))
       (waits' : List Bool)
-      (x : Settling owed rows waits)
+      (x : Settling l s blocks owed rows waits)
       (inside : m < length blocks)
       (good : IsRow s out)
       (whole : (f : Facts) (p : Place)
-          → AreSupported l [] f
-          → slice_get (starts_of blocks) m ≡ Some p
-          → KnowsNoLess (f p) (knows s out))
+      → AreSupported l [] f
+      → slice_get (starts_of blocks) m ≡ Some p
+      → KnowsNoLess (f p) (knows s out))
       (entered : Entered k rows waits m out rows' waits')
     where
       abbrev new : Row
@@ -149,13 +115,17 @@ module _ (l : Listing) (s : Slots) (blocks : List Block) where
           (cases_eq n m)
 
       -- what was known at the end of a block in front still is
-      still_done : (row : Row) (b : Block) (j : ℕ) → IsDone rows row b j → IsDone rows' row b j
+      still_done : (row : Row) (b : Block) (j : ℕ) → IsDone l s blocks rows row b j → IsDone l s blocks rows' row b j
       still_done row b j h =
           ⊎_elim
           (λ (same : j ≡ m).
-          let was : row_at rows m ≡ Some h.0 = ap (row_at rows) (sym same) ∙ h.1.0 in
-          (new, (ap (row_at rows') same ∙ at_it,
-          no_less_over h.0 new (along l s row b.places) (brought_old (row_at rows m) out good old_fine h.0 was) h.1.1)))
+          let was : row_at rows m ≡ Some h.0 = ap (row_at rows) (sym same) ∙ h.1.0 in (
+            new,
+            (
+              ap (row_at rows') same ∙ at_it,
+              no_less_over h.0 new (along l s row b.places) (brought_old (row_at rows m) out good old_fine h.0 was) h.1.1,
+            ),
+          ))
           (λ (ne : j ≢ m). (h.0, (elsewhere j ne ∙ h.1.0, h.1.1)))
           (cases_eq j m)
 
@@ -172,11 +142,13 @@ module _ (l : Listing) (s : Slots) (blocks : List Block) where
           (λ (ne : n ≢ m).
           (sym (get_or-set_other waits m n true false ne) ∙ sym (ap (λ w. waits_at w n) a.0) ∙ h, elsewhere n ne))
           (cases_eq n m))
-          (λ a. (ap (λ w. waits_at w n) (sym a.0) ∙ h,
-          ⊎_elim
-          (λ (same : n ≡ m). ap (row_at rows') same ∙ at_it ∙ sym a.1 ∙ ap (row_at rows) (sym same))
-          (λ (ne : n ≢ m). elsewhere n ne)
-          (cases_eq n m)))
+          (λ a. (
+            ap (λ w. waits_at w n) (sym a.0) ∙ h,
+            ⊎_elim
+                (λ (same : n ≡ m). ap (row_at rows') same ∙ at_it ∙ sym a.1 ∙ ap (row_at rows) (sym same))
+                (λ (ne : n ≢ m). elsewhere n ne)
+                (cases_eq n m),
+          ))
           entered.less
 
       long_waits' : length waits' ≡ length waits
@@ -191,7 +163,7 @@ module _ (l : Listing) (s : Slots) (blocks : List Block) where
           (λ a. inr (ap (λ w. waits_at w n) (sym a.0) ∙ h))
           entered.less
 
-      pub settling_on : Settling owed rows' waits'
+      pub settling_on : Settling l s blocks owed rows' waits'
       settling_on = record {
         long = ap length entered.rows_are ∙ length-set rows m (Some new) ∙ x.long;
         long_waits = long_waits' ∙ x.long_waits;
@@ -247,13 +219,6 @@ module _ (l : Listing) (s : Slots) (blocks : List Block) where
 
   -- ---- a block that is passed
 
-  -- what is owed to these blocks from the end of one
-  abbrev pub Owes : ℕ → List ℕ → ℕ → ℕ → Type 0
-  Owes n ms j m = (j ≡ n) × IsIn m ms
-
-  abbrev pub Nothing_owed : ℕ → ℕ → Type 0
-  Nothing_owed n m = ⊥
-
   module _
       (k n : ℕ)
       (b : Block)
@@ -269,10 +234,10 @@ module _ (l : Listing) (s : Slots) (blocks : List Block) where
           → KnowsNoLess (f p) (knows s out)
 
       less_owed : (ms : List ℕ) (m : ℕ) (rows : List (Option Row)) (waits : List Bool)
-          → Settling (Owes n (m ∷ ms)) rows waits
+          → Settling l s blocks (Owes n (m ∷ ms)) rows waits
           → (waits_at waits n ≡ false → row_at rows n ≡ Some row)
           → (row' : Row) × ((row_at rows m ≡ Some row') × KnowsNoLess (knows s row') (knows s out))
-          → Settling (Owes n ms) rows waits
+          → Settling l s blocks (Owes n ms) rows waits
       less_owed ms m rows waits x own got = record {
         long = x.long;
         long_waits = x.long_waits;
@@ -289,8 +254,13 @@ module _ (l : Listing) (s : Slots) (blocks : List Block) where
             let this : r ≡ row = let f : Some r ≡ Some row = sym e ∙ ap (row_at rows) o.0 ∙ mine in cc in
             let end : out ≡ along l s r d.places =
             out_is ∙ ap (λ z. along l s z b.places) (sym this) ∙ ap (λ z. along l s r z.places) (sym here) in
-            inl (got.0, (ap (row_at rows) same ∙ got.1.0,
-            subst (λ z. KnowsNoLess (knows s got.0) (knows s z)) end got.1.1)))
+            inl (
+              got.0,
+              (
+                ap (row_at rows) same ∙ got.1.0,
+                subst (λ z. KnowsNoLess (knows s got.0) (knows s z)) end got.1.1,
+              ),
+            ))
             (λ later. inr (o.0, later))
             o.1)
             (x.done j d r q is_d e h next);
@@ -299,14 +269,14 @@ module _ (l : Listing) (s : Slots) (blocks : List Block) where
 
       pub settling_all : (ms : List ℕ) (rows : List (Option Row)) (waits : List Bool) (rows' : List (Option Row))
           (waits' : List Bool)
-          → Settling (Owes n ms) rows waits
+          → Settling l s blocks (Owes n ms) rows waits
           → (waits_at waits n ≡ false → row_at rows n ≡ Some row)
           → ((m : ℕ) → IsIn m ms → m < length blocks)
           → ((m : ℕ) → IsIn m ms → Whole m)
           → EnteredAll k out rows waits ms rows' waits'
-          → Settling Nothing_owed rows' waits' × (weights k rows' + waiting waits' ≤ weights k rows + waiting waits)
+          → Settling l s blocks Nothing_owed rows' waits' × (weights k rows' + waiting waits' ≤ weights k rows + waiting waits)
       settling_all [] rows waits rows' waits' x own inside whole h =
-          let y : Settling Nothing_owed rows waits = record {
+          let y : Settling l s blocks Nothing_owed rows waits = record {
             long = x.long;
             long_waits = x.long_waits;
             fine = x.fine;
@@ -317,9 +287,10 @@ module _ (l : Listing) (s : Slots) (blocks : List Block) where
             waited = x.waited;
           } in
           let p : weights k rows' ≡ weights k rows = ap (weights k) h.0 in
-          let q : waiting waits' ≡ waiting waits = ap waiting h.1 in
-          (subst (λ r. Settling Nothing_owed r waits') (sym h.0) (subst (λ w. Settling Nothing_owed rows w) (sym h.1) y),
-          omega (arith, p, q))
+          let q : waiting waits' ≡ waiting waits = ap waiting h.1 in (
+            subst (λ r. Settling l s blocks Nothing_owed r waits') (sym h.0) (subst (λ w. Settling l s blocks Nothing_owed rows w) (sym h.1) y),
+            omega (arith, p, q),
+          )
       settling_all (m ∷ ms) rows waits rows' waits' x own inside whole h =
           let r = h.0 in
           let w = h.1.0 in
@@ -337,10 +308,10 @@ module _ (l : Listing) (s : Slots) (blocks : List Block) where
 
   -- as a block is taken from those that wait, what its end knows is owed
   pub taken : (n : ℕ) (b : Block) (rows : List (Option Row)) (waits : List Bool)
-      → Settling Nothing_owed rows waits
+      → Settling l s blocks Nothing_owed rows waits
       → slice_get blocks n ≡ Some b
       → n < length blocks
-      → Settling (Owes n (nexts b.exit)) rows (set waits n false)
+      → Settling l s blocks (Owes n (nexts b.exit)) rows (set waits n false)
   taken n b rows waits x is inside = record {
     long = x.long;
     long_waits = length-set waits n false ∙ x.long_waits;

@@ -1,13 +1,13 @@
 -- Facts of sets that support themselves are known along a block, and where a place of a block leads is known what it
 -- passes on.
-use Rattle.std.proofs.Common.{◌≡◌, ℕ, zero, suc, Bool, true, false, List, [], ◌∷◌, length, Option, Some, None, refl, sym, ap, ◌∙◌, subst, ◌⊎◌, inl, inr, ⊎_elim}
+use Rattle.std.proofs.Common.{◌≡◌, ℕ, true, false, List, [], ◌∷◌, Some, refl, sym, ap, ◌∙◌, subst, ◌⊎◌, inl, inr, ⊎_elim}
 use Rattle.std.specs.Prelude.{slice_get}
 use Rattle.pcode_model.specs.declared.listing.Place.{Place}
 use Rattle.pcode_model.specs.declared.listing.Varnode.{Varnode}
 use Rattle.pcode_model.specs.declared.listing.Listing.{Listing}
 use Rattle.pcode_model.specs.declared.flow.Exit.{Exit}
-use Rattle.pcode_model.specs.Places.{Standing, Nothing, standing}
-use Rattle.pcode_model.specs.Flow.{GoesOnTo, IsIn, Leaves, LeadsTo, NoFault, Reached, RunsBlock, stands_by}
+use Rattle.pcode_model.specs.Places.{Nothing, standing}
+use Rattle.pcode_model.specs.Flow.{IsIn, LeadsTo, NoFault, Reached, RunsBlock, stands_by}
 use Rattle.pcode_model.specs.WellFormed.{IsWellFormed}
 use Rattle.frame_facts.specs.Facts.{AreSupported, CanHold, Facts, Over}
 use Rattle.fact_rows.specs.declared.slots.Slots.{Slots}
@@ -18,7 +18,8 @@ use Rattle.fact_rows.proofs.Meaning.{over_is}
 use Rattle.frame_known.specs.Rows.{along}
 use Rattle.frame_known.specs.Known.{Before}
 use Rattle.frame_known.specs.Entering.{nexts}
-use Rattle.frame_known.proofs.Along.{KnowsNoLess, over_more}
+use Rattle.frame_known.specs.Settling.{KnowsNoLess}
+use Rattle.frame_known.proofs.Along.{over_more}
 use Rattle.frame_known.proofs.Ways.{Behind, inner_back, inner_on, last_back, last_on, reached_stands}
 
 module _

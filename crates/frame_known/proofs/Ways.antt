@@ -1,10 +1,9 @@
 -- Where the places of a block lead: inside it to the next one, and at its end to the blocks behind it.
-use Rattle.std.proofs.Common.{◌≡◌, ℕ, Bool, true, false, List, [], ◌∷◌, Option, Some, None, refl, sym, ap, ◌∙◌, subst, ◌⊎◌, inl, inr, ⊎_elim}
+use Rattle.std.proofs.Common.{◌≡◌, ℕ, true, List, [], ◌∷◌, Option, Some, None, refl, sym, ap, ◌∙◌, subst, ◌⊎◌, inl, inr, ⊎_elim}
 use Rattle.std.specs.Prelude.{slice_get}
 use Rattle.pcode_model.specs.declared.listing.Op.{Op}
 use Rattle.pcode_model.specs.declared.listing.Instruction.{Instruction}
 use Rattle.pcode_model.specs.declared.listing.Place.{Place}
-use Rattle.pcode_model.specs.declared.listing.Varnode.{Varnode}
 use Rattle.pcode_model.specs.declared.listing.Listing.{Listing}
 use Rattle.pcode_model.specs.declared.flow.FlowWhy.{FlowWhy}
 use Rattle.pcode_model.specs.declared.flow.FlowWhy.TheVariants.{FallsOff, NoTarget}
@@ -13,8 +12,7 @@ use Rattle.pcode_model.specs.declared.flow.Turn.TheVariants.{GoesOn, Returns, St
 use Rattle.pcode_model.specs.declared.flow.Exit.{Exit}
 use Rattle.pcode_model.specs.declared.flow.Exit.TheVariants.{Return, Jump, Test, Switch, Stop}
 use Rattle.pcode_model.specs.Places.{Standing, Nothing, Passes, Does, standing, branch_place, next_instruction, next_place}
-use Rattle.pcode_model.specs.Step.{first_place}
-use Rattle.pcode_model.specs.Flow.{IsIn, Way, Leads, Fails, stands, stands_by, way_to, branch_way, turn_ways, standing_ways, ways, turn_at, turn_in, turn_of, next_in, LeadsTo, Reached, First, Next, NoFault, IsStart, JumpsTo, TestsTo, LeavesBy, Leaves, GoesOnTo}
+use Rattle.pcode_model.specs.Flow.{IsIn, Way, Leads, Fails, stands, stands_by, way_to, branch_way, turn_ways, standing_ways, ways, turn_in, turn_of, next_in, LeadsTo, Reached, First, Next, NoFault, IsStart, JumpsTo, TestsTo, LeavesBy, Leaves, GoesOnTo}
 use Rattle.flow.proofs.Adjacent.{branch_is, lead_is, lead_next, some_same}
 use Rattle.flow.proofs.Reaching.{lead_stands}
 use Rattle.frame_known.specs.Entering.{nexts}
@@ -250,3 +248,54 @@ module _ (l : Listing) (sound : NoFault l []) where
           (next_onto FallsOff (next_instruction i)) (λ why f. none why (inl (sym f)))
           (jump_back e (Some (next_instruction i)) m q h is get))
       by (Does i op) h none = turn_back p i op (turn_of l op.code op.inputs) e m q h none is get
+
+    -- each block behind begins at a start
+    pub next_start : (p : Place) (e : Exit) (m : ℕ)
+        → Leaves l [] starts p e
+        → IsIn m (nexts e)
+        → (q : Place) × (slice_get starts m ≡ Some q)
+    next_start p e m = by (standing l p) where
+      start_of : (to : Option Place) (n : ℕ) → IsStart starts to n → m ≡ n → (q : Place) × (slice_get starts m ≡ Some q)
+      start_of to n h same = (h.0, ap (slice_get starts) same ∙ h.1.1)
+
+      jump_start : (x : Exit) (to : Option Place)
+          → JumpsTo starts to x
+          → IsIn m (nexts x)
+          → (q : Place) × (slice_get starts m ≡ Some q)
+      jump_start Return to h is = absurd h
+      jump_start (Jump n) to h (inl is) = start_of to n h is
+      jump_start (Jump n) to h (inr is) = absurd is
+      jump_start (Test a b) to h is = absurd h
+      jump_start (Switch table ns) to h is = absurd h
+      jump_start Stop to h is = absurd h
+
+      test_start : (x : Exit) (to next : Option Place)
+          → TestsTo starts to next x
+          → IsIn m (nexts x)
+          → (q : Place) × (slice_get starts m ≡ Some q)
+      test_start Return to next h is = absurd h
+      test_start (Jump n) to next h is = absurd h
+      test_start (Test a b) to next h (inl is) = start_of to a h.0 is
+      test_start (Test a b) to next h (inr (inl is)) = start_of next b h.1 is
+      test_start (Test a b) to next h (inr (inr is)) = absurd is
+      test_start (Switch table ns) to next h is = absurd h
+      test_start Stop to next h is = absurd h
+
+      turned : (i : Instruction) (op : Op) (t : Turn)
+          → LeavesBy [] starts p (Does i op) t e
+          → IsIn m (nexts e)
+          → (q : Place) × (slice_get starts m ≡ Some q)
+      turned i op GoesOn h is = jump_start e (Some (next_place i p.index)) h is
+      turned i op Returns h is = absurd (none_on e m (inl h) is)
+      turned i op Stops h is = absurd (none_on e m (inr h) is)
+      turned i op (Branches to) h is = jump_start e (branch_place i p.index to) h is
+      turned i op (Tests to) h is = test_start e (branch_place i p.index to) (Some (next_place i p.index)) h is
+      turned i op Switches h is = absurd h
+
+      by : (here : Standing)
+          → LeavesBy [] starts p here (turn_in l here) e
+          → IsIn m (nexts e)
+          → (q : Place) × (slice_get starts m ≡ Some q)
+      by Nothing h is = absurd (none_on e m (inr h) is)
+      by (Passes i) h is = jump_start e (Some (next_instruction i)) h is
+      by (Does i op) h is = turned i op (turn_of l op.code op.inputs) h is

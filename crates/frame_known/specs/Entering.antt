@@ -65,3 +65,9 @@ AreLong k rows = AllByRecursion (IsLong k) rows
 
 abbrev pub AreInside : ℕ → List ℕ → Type 0
 AreInside n ms = AllByRecursion (λ m. m < n) ms
+
+-- The row is what comes of the old one as another one is brought; it is new or knows less, or is the same.
+pub record Brought (old : Option Row) (out : Row) (fewer : Bool) (new : Option Row) : Type 0 where
+  pub is : new ≡ Some (brought old out)
+  pub less : fewer ≡ true → weight (length out) new < weight (length out) old
+  pub same : fewer ≡ false → old ≡ new

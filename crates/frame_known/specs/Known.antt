@@ -1,5 +1,5 @@
 -- What rows at the beginnings of blocks say of all places. This project's own.
-use Rattle.std.specs.Prelude.{◌≡◌, ℕ, ◌<◌, ◌↔◌, ◌⊎◌, true, List, [], ◌∷◌, length, slice_get, Option, Some}
+use Rattle.std.specs.Prelude.{◌≡◌, ℕ, ◌<◌, ◌↔◌, ◌⊎◌, true, List, [], ◌∷◌, length, slice_get, Some}
 use Rattle.pcode_model.specs.declared.listing.Place.{Place}
 use Rattle.pcode_model.specs.declared.listing.Varnode.{Varnode}
 use Rattle.pcode_model.specs.declared.listing.Listing.{Listing}

@@ -1,6 +1,5 @@
 -- Rows at the entry, along a block, and where edges meet. This project's own.
-use Rattle.std.specs.Prelude.{◌≡◌, ℕ, ◌+◌, ◌<◌, ◌==◌, Bool, true, false, if◌then◌else◌, List, [], ◌∷◌, map, length, Option, Some, None}
-use Rattle.std.specs.List.{slice_index_or}
+use Rattle.std.specs.Prelude.{◌≡◌, ℕ, ◌+◌, ◌<◌, ◌==◌, not, Bool, true, false, if◌then◌else◌, List, [], ◌∷◌, map, Option, Some, None}
 use Rattle.pcode_model.specs.declared.listing.Place.{Place}
 use Rattle.pcode_model.specs.declared.listing.Listing.{Listing}
 use Rattle.pcode_model.specs.Places.{standing}
@@ -21,15 +20,18 @@ first_entry l s n = if is_at s.width l.stack n then Some 0 else None
 abbrev pub first_entries : Listing → Slots → Row
 first_entries l s = map (first_entry l s) s.keys.items
 
-abbrev pub HasEntry : Listing → Slots → ℕ → Option ℕ → Type 0
-HasEntry l s slot r = r ≡ first_entry l s (slice_index_or s.keys.items slot 0)
-
 -- ---- where edges meet
 
 abbrev pub both : Option ℕ → Option ℕ → Option ℕ
 both None r = None
 both (Some c) None = None
 both (Some c) (Some d) = if c == d then Some c else None
+
+-- the other doesn't know what the one knows
+abbrev pub is_lost : Option ℕ → Option ℕ → Bool
+is_lost None r = false
+is_lost (Some c) None = true
+is_lost (Some c) (Some d) = not (c == d)
 
 -- what two rows know
 abbrev pub common : Row → Row → Row

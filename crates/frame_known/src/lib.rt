@@ -6,15 +6,15 @@
 //! to each block behind it. Blocks that wait are passed by rising number, round after round (`src/known.rt`).
 //!
 //! Why the rows are the facts. Each fact of any set that supports itself is in each row that was made: it is known where
-//! the block begins that was passed, so at its end, since an op passes on no less from more, and so in what is brought.
-//! And once no block waits, what a row knows is supported on each edge: by the block in front, which was passed after its
-//! row changed last. So the rows support themselves, and hold every set that does (`proofs/Settled.antt`). It ends, since
-//! rows only lose facts: what they may still lose and the blocks that wait are less after each pass.
+//! the block begins that was passed, so at its end, since an op passes on no less from more, and so in what is brought
+//! (`proofs/Walked.antt`, `proofs/Settled.antt`). And once no block waits, what a row knows is supported on each edge: by
+//! the block in front, which was passed after its row changed last. So the rows support themselves, and hold every set that
+//! does (`proofs/Facts.antt`). It ends, since rows only lose facts: what they may still lose and the blocks that wait are
+//! less after each pass.
 #![tactic(auto)]
 
-
-
+mod entering;
 mod known;
+mod rows;
 
-
-pub use known::{Known, Rows};
+pub use known::{Known, known_facts};
