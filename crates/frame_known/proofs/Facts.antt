@@ -244,7 +244,9 @@ are_known l blocks k read sound slots flow settled = record {
   long = settled.settling.long;
   all = λ n lt.
       let b = slice_get-get_or blocks n nothing lt in
-      let r = all_rows l read sound k.slots slots blocks flow k.rows.items settled.waits settled.settling settled.none n (get_or blocks n nothing) b in
+      let r =
+      all_rows l read sound k.slots slots blocks flow k.rows.items settled.waits settled.settling settled.none n
+      (get_or blocks n nothing) b in
       (r.0, get_row l read sound k.slots slots blocks flow k.rows.items settled.waits settled.settling settled.none n r.0 r.1);
   rows = λ n row e. fine_rows l read sound k.slots slots blocks flow k.rows.items settled.waits settled.settling settled.none n row e;
   facts = λ n b row p r is has before.

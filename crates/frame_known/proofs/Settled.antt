@@ -288,7 +288,8 @@ module _ (l : Listing) (s : Slots) (blocks : List Block) where
           } in
           let p : weights k rows' ≡ weights k rows = ap (weights k) h.0 in
           let q : waiting waits' ≡ waiting waits = ap waiting h.1 in (
-            subst (λ r. Settling l s blocks Nothing_owed r waits') (sym h.0) (subst (λ w. Settling l s blocks Nothing_owed rows w) (sym h.1) y),
+            subst (λ r. Settling l s blocks Nothing_owed r waits') (sym h.0)
+                (subst (λ w. Settling l s blocks Nothing_owed rows w) (sym h.1) y),
             omega (arith, p, q),
           )
       settling_all (m ∷ ms) rows waits rows' waits' x own inside whole h =
