@@ -67,8 +67,7 @@ module _ (l : Listing) (t : List TableAt) (evaluated : List Place) where
       let v_first = to v.offset (omega (arith, ints), omega (arith, ints, some)) in
       let w_first = from w.offset (omega (arith, ints), omega (arith, ints, more)) in
       let v_last = to ((v.offset +ℤ pos v.size) -ℤ pos 1) (omega (arith, ints, some), omega (arith, ints, some)) in
-      let w_last = from ((w.offset +ℤ pos w.size) -ℤ pos 1) (omega (arith, ints, more), omega (arith, ints, more)) in
-      (
+      let w_last = from ((w.offset +ℤ pos w.size) -ℤ pos 1) (omega (arith, ints, more), omega (arith, ints, more)) in (
         omega (arith, ints, v_first.0, w_first.0),
         omega (arith, ints, v_first.0, w_first.0, v_last.1, w_last.1, some, more),
       )

@@ -11,8 +11,9 @@ use Rattle.pcode_model.specs.declared.listing.Listing.{Listing}
 use Rattle.pcode_model.specs.Spaces.{kind_of}
 use Rattle.pcode_model.specs.Memory.{Acts, Bytes, Frame, plain}
 use Rattle.pcode_model.specs.World.{store}
-use Rattle.pcode_model.specs.Step.{State, all_read, byte_address, bytes_in, in_world, moved, read_all, write_varnode}
+use Rattle.pcode_model.specs.Step.{Operand, Reads, State, all_read, byte_address, bytes_in, in_world, moved, read_all, read_varnode, write_varnode}
 use Rattle.pcode_laws.specs.AsBytes.{AsBytes}
+use Rattle.range_words.specs.Own.{HasOwn}
 use Rattle.cmeaning.specs.declared.tree.Expr.{Expr}
 use Rattle.cmeaning.specs.declared.tree.Stmt.{Stmt}
 use Rattle.cmeaning.specs.declared.tree.Stmt.TheVariants as S
@@ -28,14 +29,18 @@ use Rattle.op_code.proofs.Sets.{Fails, Makes, fail_runs, set_meets}
 
 -- ---- the words of one operand and of two
 
-module _ {M : Type 0} (m : Acts M) (l : Listing) (ws : ℕ → ℕ) (s : State M) (env : ℕ → Option ℕ) where
+module _ {M : Type 0} (m : Acts M) (l : Listing) (f : Frame) (ws : ℕ → ℕ) (s : State M) (env : ℕ → Option ℕ) where
+  -- the operand's word, and what stands for it
+  abbrev HasWord : Varnode → Expr → ℕ → Type 0
+  HasWord v d a = Has ws env v.size (read_varnode m l (kind_of l v.space) v s) d a
+
   pub record One (v : Varnode) (d : Expr) (words : List ℕ) : Type 0 where
     pub word : ℕ
     pub are : words ≡ word ∷ []
-    pub has : Has m l ws s env (kind_of l v.space) v d word
+    pub has : HasWord v d word
 
   pub one_of : (v : Varnode) (d : Expr) (words : List ℕ)
-      → AllHave m l ws s env (v ∷ []) (d ∷ []) words
+      → AllHave m l f ws s env (Reads v ∷ []) (d ∷ []) words
       → One v d words
   one_of v d [] h = absurd h
   one_of v d (a ∷ []) h = record { word = a; are = refl; has = h.0 }
@@ -45,11 +50,11 @@ module _ {M : Type 0} (m : Acts M) (l : Listing) (ws : ℕ → ℕ) (s : State M
     pub first : ℕ
     pub second : ℕ
     pub are : words ≡ first ∷ second ∷ []
-    pub has : Has m l ws s env (kind_of l v.space) v d first
-    pub also : Has m l ws s env (kind_of l w.space) w e second
+    pub has : HasWord v d first
+    pub also : HasWord w e second
 
   pub two_of : (v w : Varnode) (d e : Expr) (words : List ℕ)
-      → AllHave m l ws s env (v ∷ w ∷ []) (d ∷ e ∷ []) words
+      → AllHave m l f ws s env (Reads v ∷ Reads w ∷ []) (d ∷ e ∷ []) words
       → Two v w d e words
   two_of v w d e [] h = absurd h
   two_of v w d e (a ∷ []) h = absurd h.1
@@ -60,7 +65,7 @@ module _ {M : Type 0} (m : Acts M) (l : Listing) (ws : ℕ → ℕ) (s : State M
   -- a constant's word is the constant
   pub constant_has : (k : SpaceKind) (v : Varnode) (e : Expr) (a : ℕ)
       → k ≡ Constant
-      → Has m l ws s env k v e a
+      → Has ws env v.size (read_varnode m l k v s) e a
       → v.offset ≡ a
   constant_has Constant v e a is h = let r : Ok v.offset ≡ Ok a = h.read in cc
   constant_has Ram v e a is h = absurd (cc)
@@ -75,9 +80,11 @@ module _
     (l : Listing)
     (f : Frame)
     (look : M → Bytes)
+    (own : M → ℕ → ℕ)
     (ranges : List Varnode)
     (ws : ℕ → ℕ)
     (is : AsBytes m l look)
+    (has : HasOwn m l look own)
     (set : Setting l ranges ws)
     (next : Place)
     (s : State M)
@@ -104,7 +111,8 @@ module _
       pub fails : Fails l ws make y to
       pub meets : Meets l ranges look own next t to
 
-    sets_meet : (z : Varnode) (returns : List Stmt → Bool) (make : ℕ → Stmt) (k : ℕ) (y : Local) (t : State M)
+    -- An output is set to what is made.
+    pub sets_meet : (z : Varnode) (returns : List Stmt → Bool) (make : ℕ → Stmt) (k : ℕ) (y : Local) (t : State M)
         → IsOutput l ranges z
         → n ≤ k
         → AreWide ws k (sets l ranges k (Some z) make).locals
@@ -118,7 +126,8 @@ module _
         let P : State M → Type 0 = λ u. Meets l ranges look own next u
         (run_all l ws returns (sets l ranges k (Some z) make).statements y) in
         subst P (sym c.step)
-        (set_meets m l look own ranges ws is has set next c.base y c.to on c.on c.sees returns make kind k z c.word out.0 out.1
+        (set_meets m l look own ranges ws is has set next c.base y c.to on c.on c.sees returns make kind k z c.word refl
+        out.0 out.1
         c.below (omega (arith, free, later)) wide c.makes))
         (λ (c : Failed make y t).
         let P : Local → Type 0 = λ u. Meets l ranges look own next t u in
@@ -144,17 +153,17 @@ module _
     }
 
     -- The operands are read, and an output is set to what is made of them.
-    pub computes_meets : (vs : List Varnode) (z : Varnode) (returns : List Stmt → Bool) (make : ℕ → Stmt) (x : Local)
+    pub computes_meets : (vs : List Operand) (z : Varnode) (returns : List Stmt → Bool) (make : ℕ → Stmt) (x : Local)
         (t : State M)
         → IsOutput l ranges z
-        → AllOperands l ranges vs
-        → AreWide ws n (computes l ranges n (Some z) (reads l ranges n vs) make).locals
+        → AllOperands l (f.own s.at) ranges vs
+        → AreWide ws n (computes l ranges n (Some z) (reads l (f.own s.at) ranges n vs) make).locals
         → Sees l ranges look own s x
         → ((y : Local) → ReadsAll m l f look own ranges ws n vs s x y → Computed z make y t ⊎ Failed make y t)
         → Meets l ranges look own next t
-        (run_all l ws returns (computes l ranges n (Some z) (reads l ranges n vs) make).statements x)
+        (run_all l ws returns (computes l ranges n (Some z) (reads l (f.own s.at) ranges n vs) make).statements x)
     computes_meets vs z returns make x t out ops wide sees made =
-        let reading = reads l ranges n vs in
+        let reading = reads l (f.own s.at) ranges n vs in
         let k = n + length reading.locals in
         let setting = sets l ranges k (Some z) make in
         let rest = λ (ss : List Stmt). returns (ss ++ setting.statements) in
@@ -169,25 +178,26 @@ module _
     -- Two operands are read, the address in a space and what is stored there.
     pub stores_meet : (at : ℕ) (v w : Varnode) (returns : List Stmt → Bool) (x : Local) (t : State M)
         → IsMemory l at
-        → AllOperands l ranges (v ∷ w ∷ [])
-        → AreWide ws n (stores l at v.size (reads l ranges n (v ∷ w ∷ []))).locals
+        → AllOperands l (f.own s.at) ranges (Reads v ∷ Reads w ∷ [])
+        → AreWide ws n (stores l at v.size (reads l (f.own s.at) ranges n (Reads v ∷ Reads w ∷ []))).locals
         → Sees l ranges look own s x
         → ((a b : ℕ)
         → read_all m l f s (all_read (v ∷ w ∷ [])) ≡ Ok (a ∷ b ∷ [])
         → t ≡ in_world (store m at (byte_address l at a) (bytes_in l at w.size b) s.world) (moved next s))
         → Meets l ranges look own next t
-        (run_all l ws returns (stores l at v.size (reads l ranges n (v ∷ w ∷ []))).statements x)
+        (run_all l ws returns (stores l at v.size (reads l (f.own s.at) ranges n (Reads v ∷ Reads w ∷ []))).statements
+        x)
     stores_meet at v w returns x t mem ops wide sees step =
-        let reading = reads l ranges n (v ∷ w ∷ []) in
+        let reading = reads l (f.own s.at) ranges n (Reads v ∷ Reads w ∷ []) in
         let d = word_at reading 0 in
         let e = word_at reading 1 in
         let one = S.Store (name_of l at) (address l at v.size d) e in
         let rest = λ (ss : List Stmt). returns (ss ++ one ∷ []) in
         let y : Local = run_all l ws rest reading.loads x in
-        let r = reads_all m l f look own ranges ws is has set s go (v ∷ w ∷ []) rest n x ops free
+        let r = reads_all m l f look own ranges ws is has set s go (Reads v ∷ Reads w ∷ []) rest n x ops free
         (wide_front ws n reading.locals [] wide) sees in
         let on = goes m l f look own ranges ws is has set s go y r.sees in
-        let o = two_of m l ws s y.env v w d e r.words r.have in
+        let o = two_of m l f ws s y.env v w d e r.words r.have in
         let bytes = bytes_in l at w.size o.second in
         let to = byte_address l at o.first in
         let u : Local = code.in_world (store (plain l) at to bytes y.world) y in
@@ -198,4 +208,4 @@ module _
         let Q : State M → Type 0 = λ z. Meets l ranges look own next z u in
         subst P (sym (run_append l ws returns reading.loads (one ∷ []) x ∙ ran))
         (subst Q (sym (step o.first o.second (r.read ∙ ap (λ q. Ok q) o.are)))
-        (store_meets m l look own is has ranges next at to w.size o.second s y r.sees))
+        (store_meets m l look is own has ranges next at to w.size o.second s y r.sees))

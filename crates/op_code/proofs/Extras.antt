@@ -19,6 +19,7 @@ use Rattle.cmeaning.proofs.Do.{do_extra}
 use Rattle.blockcode.proofs.Straight.{run_all}
 use Rattle.op_code.specs.Form.{IsCallable}
 use Rattle.op_code.specs.Left.{Leftover, extras, is_left, left_from, spared, takes_left}
+use Rattle.op_code.specs.Made.{Own}
 use Rattle.op_code.proofs.Kept.{replaced, replaced_else, replaced_here, replaced_in, same_bytes, same_word}
 use Rattle.op_code.proofs.Operands.{run_one}
 use Rattle.op_code.proofs.Sees.{Setting}
@@ -199,13 +200,13 @@ module _ (l : Listing) (p : Proto) (ws : ℕ → ℕ) (returns : List Stmt → B
       pub left : y.left ≡ x.left
       pub holds : Holds l ranges (replaced l (spared l p) x.left m) y.env
 
-    pub extras_hold : (m : Bytes) (x : Local)
+    pub extras_hold : (m : Bytes) (x : Local) (o : Own)
         → Setting l ranges ws
-        → IsCallable l ranges p
+        → IsCallable l o ranges p
         → x.world.over ≡ None
         → Holds l ranges m x.env
         → Replaced m x (run_all l ws returns (extras l p ranges) x)
-    extras_hold m x set call go holds =
+    extras_hold m x own set call go holds =
         let r = takes 0 ranges x go in
         let y : Local = taken_from 0 ranges x in
         let after : Bytes = replaced l (spared l p) x.left m in
@@ -227,7 +228,7 @@ module _ (l : Listing) (p : Proto) (ws : ℕ → ℕ) (returns : List Stmt → B
             → ((j : ℕ) → IsApart 0 ranges j → y.env j ≡ x.env j)
             → y.env n ≡ Some (local_word l v (replaced l (spared l p) x.left m))
         by n v e true h y took kept =
-            let here = left_space l ranges set.table p call v h in
+            let here = left_space l ranges set.table p own call v h in
             let wide = set.widths n v e (set.narrow n v e) in
             let s = register_space l in
             let after : Bytes = replaced l (spared l p) x.left m in
@@ -236,7 +237,7 @@ module _ (l : Listing) (p : Proto) (ws : ℕ → ℕ) (returns : List Stmt → B
             let same : left_word l v.offset v.size x.left ≡ local_word l v after =
             ap (word_of (is_big l s)) (same_bytes (size_of l s) x.left (after s) v.offset v.size (subst P here inside)
             (λ o from to. sym (replaced_here l (spared l p) x.left m o
-            (left_out l ranges set.table p call v o h (from, to)))))
+            (left_out l ranges set.table p own call v o h (from, to)))))
             ∙ ap (λ t. word_of (is_big l t) (bytes_at (size_of l t) (after t) v.offset v.size)) (sym here) in
             let zero_is : n ≡ 0 + n = omega arith in
             let Q : ℕ → Type 0 = λ j. y.env j ≡ Some (word_left j v x) in
@@ -253,6 +254,6 @@ module _ (l : Listing) (p : Proto) (ws : ℕ → ℕ) (returns : List Stmt → B
             let inside = set.table.inside n v e in
             kept n others ∙ holds n v e ∙ ap (λ w. Some w) (same_word l v m after inside (λ o from to. ⊎_elim
             (λ (at : v.space ≡ register_space l). sym (replaced_in l (spared l p) x.left m v.space o
-            (spared_in l ranges set.table p call n v o e (set.narrow n v e).0 h at (from, to))))
+            (spared_in l ranges set.table p own call n v o e (set.narrow n v e).0 h at (from, to))))
             (λ (ne : v.space ≢ register_space l). sym (replaced_else l (spared l p) x.left m v.space o ne))
             (cases_eq v.space (register_space l))))

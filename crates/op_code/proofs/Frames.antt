@@ -1,18 +1,21 @@
 -- The table of the accesses of frame variables, and the numbers of the frame's ranges.
-use Rattle.std.proofs.Common.{◌≡◌, ◌∙◌, ℕ, zero, suc, ◌+◌, ◌≤◌, ◌<◌, ◌^◌, ◌==◌, ◌&&◌, Bool, true, false, List, [], ◌∷◌, Some, cond, length, refl, ap, arith, lit<}
-use Rattle.std.specs.Prelude.{Option, None, nat_lt}
+use Rattle.std.proofs.Common.{◌≡◌, ◌∙◌, ℕ, suc, ◌+◌, ◌*◌, ◌%◌, ◌≤◌, ◌<◌, ◌^◌, ◌==◌, ◌&&◌, Bool, true, false, List, [], ◌∷◌, Some, cond, length, refl, ap, sym, subst, arith, lit<}
+use Rattle.std.specs.Prelude.{Option, None, nat_lt, slice_get}
 use Rattle.std.specs.Ordering.{is_eq}
 use Rattle.std.specs.BTreeMap.{BTreeMap, get, Updates}
 use Rattle.std.proofs.Math.Path.{fun_ext}
 use Rattle.std.proofs.Math.Nat.{pow-le-pow_right}
 use Rattle.std.proofs.lemmas.Bool.Decides.{nat_tests}
 use Rattle.pcode_model.specs.declared.frame.FrameAccess.{FrameAccess}
+use Rattle.pcode_model.specs.declared.listing.Listing.{Listing}
 use Rattle.pcode_model.specs.declared.listing.Place.{Place}
 use Rattle.pcode_model.specs.declared.listing.Space.{Space}
 use Rattle.pcode_model.specs.declared.listing.SpaceKind.{SpaceKind}
 use Rattle.pcode_model.specs.Frame.{own_in, wrapped}
-use Rattle.pcode_model.specs.Spaces.{number_of, offset_bytes_in, same_kind, size_in}
-use Rattle.op_code.specs.Made.{Own}
+use Rattle.pcode_model.specs.Spaces.{first_ram, number_of, offset_bytes_in, same_kind, size_in}
+use Rattle.pcode_model.proofs.Sizes.{shift_is}
+use Rattle.range_words.specs.Own.{stack_size}
+use Rattle.op_code.specs.Made.{Own, offset_bytes}
 use Rattle.op_code.specs.FrameTable.{Key, access_cmp, access_key, offset_at}
 
 -- ---- numbers of spaces, and their sizes
@@ -39,6 +42,25 @@ few_bytes k small = by_less (nat_lt 8 k) refl
     by_less true wide = let more : 256 ^ 9 ≤ 256 ^ k = pow-le-pow_right (lit< tt) (grind (arith, nat_tests)) in
         absurd (omega (arith, more, small))
     by_less false narrow = grind (arith, nat_tests)
+
+-- The number of the first ram space, and the bytes of its offsets.
+module _ (l : Listing) (n k : ℕ) (ram : n ≡ first_ram l) (bytes : k ≡ offset_bytes l n) where
+  size_is_power : stack_size l ≡ 256 ^ k
+  size_is_power = size_by_bytes (slice_get l.spaces (first_ram l))
+      ∙ ap (λ m. 256 ^ offset_bytes l m) (sym ram)
+      ∙ ap (λ j. 256 ^ j) (sym bytes)
+
+  module _ (small : stack_size l ≤ 2 ^ 64) where
+    pub stack_few : k ≤ 8
+    stack_few = few_bytes k (subst (λ s. s ≤ 2 ^ 64) size_is_power small)
+
+    pub stack_shift : 1 * 2 ^ (8 * k) % 2 ^ 128 ≡ stack_size l
+    stack_shift = shift_is k stack_few ∙ sym size_is_power
+
+    pub stack_some : 0 < 1 * 2 ^ (8 * k) % 2 ^ 128
+    stack_some =
+        let some : 256 ^ 0 ≤ 256 ^ k = pow-le-pow_right (lit< tt) {i = 0} {j = k} (omega arith) in
+        omega (arith, some, shift_is k stack_few)
 
 -- ---- the table
 

@@ -1,20 +1,24 @@
 -- The bytes of registers after a call, range by range.
-use Rattle.std.proofs.Common.{◌≡◌, ◌≢◌, ℕ, zero, suc, ◌+◌, ◌<◌, ◌≤◌, Bool, true, false, List, [], ◌∷◌, length, None, refl, sym, ap, ◌∙◌, ◌⊎◌, inl, inr, ⊎_elim, arith}
-use Rattle.std.specs.Prelude.{◌==◌, cond, if◌then◌else◌}
+use Rattle.std.proofs.Common.{◌≡◌, ◌≢◌, ℕ, zero, suc, ◌+◌, ◌%◌, ◌<◌, ◌≤◌, Bool, true, false, List, [], ◌∷◌, ◌++◌, length, Option, Some, None, refl, sym, ap, ◌∙◌, ◌⊎◌, inl, inr, ⊎_elim, arith}
+use Rattle.std.specs.Prelude.{◌==◌, ◌&&◌, cond, nat_lt, if◌then◌else◌, IfSome}
 use Rattle.std.proofs.Math.Path.{fun_ext}
 use Rattle.std.proofs.lemmas.Bool.{cases_eq, cases_lt}
 use Rattle.std.proofs.lemmas.Bool.Decides.{nat_tests}
 use Rattle.bits_core.specs.Bytes.{word_of}
+use Rattle.bits_core.specs.Value.{limit}
 use Rattle.laws.proofs.Bytes.{length-word_bytes}
 use Rattle.pcode_model.specs.declared.listing.Varnode.{Varnode}
 use Rattle.pcode_model.specs.declared.listing.Proto.{Proto}
 use Rattle.pcode_model.specs.declared.listing.Listing.{Listing}
-use Rattle.pcode_model.specs.Spaces.{bytes_at, each_at, is_big, next, put_in, register_space, size_of}
+use Rattle.pcode_model.specs.Atoms.{one_range}
+use Rattle.pcode_model.specs.Spaces.{bytes_at, each_at, first_ram, is_big, next, put_in, register_space, size_of}
 use Rattle.pcode_model.specs.Memory.{Bytes}
 use Rattle.pcode_model.specs.World.{Answer}
-use Rattle.pcode_model.specs.Step.{after_call, after_callee, bytes_in, in_option, in_some, local_word, with_pop, with_result, with_word}
+use Rattle.pcode_model.specs.Step.{after_callee, bytes_in, in_option, in_range, in_some, local_word, with_pop, with_result, with_word}
 use Rattle.pcode_laws.proofs.Puts.{IsOther, next_within, put_in_at, put_in_else}
+use Rattle.range_words.specs.Own.{centred, stack_size, with_own}
 use Rattle.range_words.specs.Ranges.{AreBytes, IsInside}
+use Rattle.range_words.proofs.Own.{word_else, written_else}
 use Rattle.range_words.proofs.Written.{IsOff}
 
 -- ---- bytes that are the same in a range
@@ -123,14 +127,79 @@ module _ (l : Listing) (spared : List Varnode) (r : ℕ → ℕ) (m : Bytes) whe
       one true false = small o
       one false c = are s o
 
--- Without a stack pointer a call leaves the answer's bytes but for what its prototype keeps, and then its result.
-pub after_is : (l : Listing) (p : Proto) (a : Answer) (m : Bytes)
-    → l.stack ≡ None
-    → after_call l p a m ≡ with_result l p.gives a.word (replaced l p.keep a.registers m)
-after_is l p a m none =
-    ap (λ st. with_pop l st p.pop (with_result l p.gives a.word (after_callee l p a m))) none
-    ∙ ap (λ st. with_result l p.gives a.word (λ s o. if s == register_space l then (if in_some p.keep o then m s o
-    else (if in_option st o then m s o else a.registers o)) else m s o)) none
+-- what a callee leaves as it was: what its prototype keeps, and the stack pointer
+abbrev pub left_alone : Listing → Proto → List Varnode
+left_alone l p = p.keep ++ one_range l.stack
+
+same_true : (b : Bool) (x y : ℕ) → cond (cond b true false) x y ≡ cond b x y
+same_true true x y = refl
+same_true false x y = refl
+
+some_or : (ws : List Varnode) (st : Option Varnode) (o x y : ℕ)
+    → cond (in_some ws o) x (cond (in_option st o) x y) ≡ cond (in_some (ws ++ one_range st) o) x y
+some_or [] None o x y = refl
+some_or [] (Some v) o x y = sym (same_true (in_range v o) x y)
+some_or (w ∷ ws) st o x y = by (in_range w o) (some_or ws st o x y)
+  where
+    by : (b : Bool)
+        → cond (in_some ws o) x (cond (in_option st o) x y) ≡ cond (in_some (ws ++ one_range st) o) x y
+        → cond (cond b true (in_some ws o)) x (cond (in_option st o) x y)
+        ≡ cond (cond b true (in_some (ws ++ one_range st) o)) x y
+    by true rest = refl
+    by false rest = rest
+
+-- A callee leaves the answer's bytes but for these.
+pub callee_is : (l : Listing) (p : Proto) (a : Answer) (m : Bytes)
+    → after_callee l p a m ≡ replaced l (left_alone l p) a.registers m
+callee_is l p a m = fun_ext (λ s. fun_ext (λ o.
+    ap (λ n. cond (s == register_space l) n (m s o)) (some_or p.keep l.stack o (m s o) (a.registers o))))
+
+-- beside bytes of the frame
+module _ (l : Listing) (own : ℕ → ℕ) (registers : register_space l ≢ first_ram l) where
+  replaced_own : (spared : List Varnode) (r : ℕ → ℕ) (m : Bytes)
+      → with_own l own (replaced l spared r m) ≡ replaced l spared r (with_own l own m)
+  replaced_own spared r m = fun_ext (λ s. fun_ext (λ o.
+      by s o (s == first_ram l && nat_lt o (stack_size l)) (s == register_space l) (in_some spared o) refl refl))
+    where
+      by : (s o : ℕ) (b c d : Bool)
+          → (s == first_ram l && nat_lt o (stack_size l)) ≡ b
+          → (s == register_space l) ≡ c
+          → (let x = own (centred (stack_size l) o) in
+          cond b x (cond c (cond d (m s o) (r o)) (m s o))
+          ≡ cond c (cond d (cond b x (m s o)) (r o)) (cond b x (m s o)))
+      by s o true true d e g =
+          let there : s ≡ first_ram l = grind (arith, nat_tests) in
+          let here : s ≡ register_space l = grind (arith, nat_tests) in
+          absurd (registers (sym here ∙ there))
+      by s o true false d e g = refl
+      by s o false true true e g = refl
+      by s o false true false e g = refl
+      by s o false false d e g = refl
+
+  result_by : (gives : Option Varnode) (n : ℕ) (m : Bytes)
+      → IfSome gives (λ z. z.space ≡ register_space l)
+      → with_own l own (with_result l gives n m) ≡ with_result l gives n (with_own l own m)
+  result_by None n m at = refl
+  result_by (Some z) n m at = written_else l own z (n % limit z.size) m (λ e. registers (sym at ∙ e))
+
+  -- what is seen before the pop
+  pub result_own : (p : Proto) (a : Answer) (m : Bytes)
+      → IfSome p.gives (λ z. z.space ≡ register_space l)
+      → with_own l own (with_result l p.gives a.word (after_callee l p a m))
+      ≡ with_result l p.gives a.word (replaced l (left_alone l p) a.registers (with_own l own m))
+  result_own p a m at =
+      result_by p.gives a.word (after_callee l p a m) at
+      ∙ ap (λ b. with_result l p.gives a.word (with_own l own b)) (callee_is l p a m)
+      ∙ ap (with_result l p.gives a.word) (replaced_own (left_alone l p) a.registers m)
+
+  -- and behind it
+  pub pop_own : (sp : Varnode) (n : ℕ) (m : Bytes)
+      → sp.space ≡ register_space l
+      → with_own l own (with_pop l (Some sp) n m) ≡ with_pop l (Some sp) n (with_own l own m)
+  pop_own sp n m at =
+      let off : sp.space ≢ first_ram l = λ e. registers (sym at ∙ e) in
+      written_else l own sp ((local_word l sp m + n) % limit sp.size) m off
+      ∙ ap (λ w. with_word l sp ((w + n) % limit sp.size) (with_own l own m)) (sym (word_else l own m sp off))
 
 -- The range of a result may keep its bytes until the result is written to it.
 pub result_over : (l : Listing) (spared more : List Varnode) (r : ℕ → ℕ) (z : Varnode) (n : ℕ) (m : Bytes)

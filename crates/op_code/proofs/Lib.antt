@@ -1,4 +1,5 @@
 pub mod Access
+pub mod Adds
 pub mod Rows
 pub mod Bytes
 pub mod Reading
@@ -12,6 +13,9 @@ pub mod Frames
 pub mod Joined
 pub mod Numbers
 pub mod Operands
+pub mod Pointer
+pub mod Framed
+pub mod Popped
 pub mod Ops
 pub mod Sees
 pub mod Taken
@@ -31,3 +35,4 @@ pub mod Worked
 pub mod WorkedBlocks
 pub mod WorkedSeveral
 pub mod WorkedCalls
+pub mod WorkedFrame

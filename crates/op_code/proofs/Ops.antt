@@ -23,9 +23,10 @@ use Rattle.pcode_model.specs.Flow.{call_turn, turn_of}
 use Rattle.pcode_model.specs.Places.{Does, next_place}
 use Rattle.pcode_model.specs.Spaces.{kind_of}
 use Rattle.pcode_model.specs.Memory.{Acts, Bytes, Frame}
-use Rattle.pcode_model.specs.Step.{State, all_read, byte_address, callee_at, moved, read_all, step_at, word_in_bytes, write_varnode}
+use Rattle.pcode_model.specs.Step.{Reads, State, all_read, byte_address, callee_at, moved, read_all, step_at, word_in_bytes, write_varnode}
 use Rattle.pcode_model.specs.Step.{returns as does_return}
 use Rattle.pcode_laws.specs.AsBytes.{AsBytes}
+use Rattle.range_words.specs.Own.{HasOwn}
 use Rattle.range_words.proofs.Variables.{word_below}
 use Rattle.cmeaning.specs.declared.tree.Expr.{Expr}
 use Rattle.cmeaning.specs.declared.tree.Stmt.{Stmt}
@@ -33,28 +34,25 @@ use Rattle.cmeaning.specs.declared.tree.Stmt.TheVariants as S
 use Rattle.cmeaning.specs.Do.{Local, assigned, divide_of, do_simple, ends}
 use Rattle.cmeaning.specs.Do as code
 use Rattle.cmeaning.specs.Value.{value_of, width_of}
-use Rattle.cmeaning.proofs.Do.{do_assign, do_divide}
+use Rattle.cmeaning.proofs.Do.{do_divide}
 use Rattle.blockcode.proofs.Straight.{run_all}
 use Rattle.op_values.specs.Nodes.{binary_node, divides_by, division_node, nearest, statement_of, unary_node}
 use Rattle.op_values.proofs.Means.{Means, nearest_is}
 use Rattle.op_values.proofs.Operations.{IsDropped, binary_means, unary_means}
 use Rattle.op_values.proofs.Divisions.{division_means, divides_some, statement_is}
-use Rattle.op_code.specs.Made.{address, divides, divides_at, name_of, op_made, reads, word_at}
-use Rattle.op_code.specs.Form.{IsPlainOp, IsSecond}
+use Rattle.op_code.specs.Made.{address, divides, divides_at, loads_by, name_of, op_made, reads, stores_by, word_at}
+use Rattle.op_code.specs.Form.{IsLoad, IsOperand, IsOutput, IsPlainOp, IsSecond, IsStore}
 use Rattle.op_code.proofs.Access.{address_points, load_runs}
 use Rattle.op_code.proofs.Calling.{indirect_meets, other_meets, returning_meets}
 use Rattle.op_code.proofs.Computes.{computed, computes_meets, constant_has, one_of, stores_meet, two_of}
+use Rattle.op_code.proofs.Framed.{load_framed, store_framed}
 use Rattle.op_code.proofs.Sees.{AreWide, Meets, Sees, Setting}
-use Rattle.op_code.proofs.Sets.{Fails, Makes, ended_meets}
+use Rattle.op_code.proofs.Sets.{Fails, Makes, assign_makes, ended_meets}
 use Rattle.op_code.proofs.Steps.{op_of, binary_step, divide_ends, divide_step, load_step, store_step, unary_step}
 
 -- ---- statements that assign a word
 
 module _ (l : Listing) (ws : ℕ → ℕ) (x : Local) where
-  assign_makes : (e : Expr) (k n : ℕ) → Means ws x.env e k n → Makes l ws (λ v. S.Assign v e) k n x x
-  assign_makes e k n means v returns wide =
-      do_assign l ws returns v e x ∙ ap (λ o. code.with_word o x (λ n. assigned v n x)) means.value
-
   -- a division as a statement
   divided_is : (op : Divide) (v k a b : ℕ) (d e : Expr) (returns : ℕ → Bool)
       → Means ws x.env d k a
@@ -146,15 +144,16 @@ module _
     (l : Listing)
     (f : Frame)
     (look : M → Bytes)
+    (own : M → ℕ → ℕ)
     (ranges : List Varnode)
     (ws : ℕ → ℕ)
     (is : AsBytes m l look)
+    (has : HasOwn m l look own)
     (set : Setting l ranges ws)
     (i : Instruction)
     (s : State M)
     (x : Local)
     (go : s.world.over ≡ None)
-    (unframed : f.own s.at 0 ≡ None)
     (sees : Sees l ranges look own s x)
     (n : ℕ)
     (free : length ranges ≤ n)
@@ -169,23 +168,23 @@ module _
 
     abbrev Meet : Opcode → Option Varnode → List Varnode → Type 0
     Meet code out vs = Meets l ranges look own at (done code out vs)
-        (run_all l ws returns (op_made l ranges n code out vs).statements x)
+        (run_all l ws returns (op_made l (f.own s.at) ranges n code out vs).statements x)
 
     unary_meets : (op : Unary) (z v : Varnode)
-        → IsPlainOp l ranges (O.Unary op) (Some z) (v ∷ [])
-        → AreWide ws n (op_made l ranges n (O.Unary op) (Some z) (v ∷ [])).locals
+        → IsPlainOp l (f.own s.at) ranges (O.Unary op) (Some z) (v ∷ [])
+        → AreWide ws n (op_made l (f.own s.at) ranges n (O.Unary op) (Some z) (v ∷ [])).locals
         → Meet (O.Unary op) (Some z) (v ∷ [])
     unary_meets op z v h wide =
-        let d = word_at (reads l ranges n (v ∷ [])) 0 in
+        let d = word_at (reads l (f.own s.at) ranges n (Reads v ∷ [])) 0 in
         let node = unary_node op z.size d in
         let small = h.1.1.0 in
         let made = computed m l f look own ranges ws is has set at s go n free in
-        computes_meets m l f look own ranges ws is has set at s go n free (v ∷ []) z returns
+        computes_meets m l f look own ranges ws is has set at s go n free (Reads v ∷ []) z returns
         (λ u. S.Assign u node) x (done (O.Unary op) (Some z) (v ∷ [])) h.1.1
         (h.1.0, tt) wide
         sees
         (λ y r.
-        let o = one_of m l ws s y.env v d r.words r.have in
+        let o = one_of m l f ws s y.env v d r.words r.have in
         let word = unary_value op v.size o.word z.size in
         inl (made z (λ u. S.Assign u node) y (done (O.Unary op) (Some z) (v ∷ [])) word r.sees
         (unary_word op v.size z.size o.word small.0 h.0 o.has.below)
@@ -194,24 +193,25 @@ module _
         (unary_step m l f i s op z v o.word (r.read ∙ ap (λ q. Ok q) o.are))))
 
     binary_meets : (op : Binary) (z v w : Varnode)
-        → IsPlainOp l ranges (O.Binary op) (Some z) (v ∷ w ∷ [])
-        → AreWide ws n (op_made l ranges n (O.Binary op) (Some z) (v ∷ w ∷ [])).locals
+        → IsPlainOp l (f.own s.at) ranges (O.Binary op) (Some z) (v ∷ w ∷ [])
+        → AreWide ws n (op_made l (f.own s.at) ranges n (O.Binary op) (Some z) (v ∷ w ∷ [])).locals
         → Meet (O.Binary op) (Some z) (v ∷ w ∷ [])
     binary_meets op z v w h wide =
-        let reading = reads l ranges n (v ∷ w ∷ []) in
+        let reading = reads l (f.own s.at) ranges n (Reads v ∷ Reads w ∷ []) in
         let d = word_at reading 0 in
         let e = word_at reading 1 in
         let node = binary_node op v.size w.offset z.size d e in
         let small = h.1.1.0 in
         let made = computed m l f look own ranges ws is has set at s go n free in
-        computes_meets m l f look own ranges ws is has set at s go n free (v ∷ w ∷ []) z returns
+        computes_meets m l f look own ranges ws is has set at s go n free (Reads v ∷ Reads w ∷ []) z
+        returns
         (λ u. S.Assign u node) x (done (O.Binary op) (Some z) (v ∷ w ∷ [])) h.1.1
         (h.1.0.0, (h.1.0.1, tt)) wide sees
         (λ y r.
-        let o = two_of m l ws s y.env v w d e r.words r.have in
+        let o = two_of m l f ws s y.env v w d e r.words r.have in
         let word = binary_value op v.size o.first w.size o.second z.size in
         let drops = dropped_by l op w o.second h.0.0
-        (λ c. constant_has m l ws s y.env (kind_of l w.space) w e o.second c o.also) in
+        (λ c. constant_has m l f ws s y.env (kind_of l w.space) w e o.second c o.also) in
         inl (made z (λ u. S.Assign u node) y (done (O.Binary op) (Some z) (v ∷ w ∷ [])) word r.sees
         (binary_word op v.size w.size z.size o.first o.second small.0 h.0.1 o.has.below o.also.below)
         (assign_makes l ws y node z.size word
@@ -220,22 +220,23 @@ module _
         (binary_step m l f i s op z v w o.first o.second (r.read ∙ ap (λ q. Ok q) o.are))))
 
     divide_meets : (op : Divide) (z v w : Varnode)
-        → IsPlainOp l ranges (O.Divide op) (Some z) (v ∷ w ∷ [])
-        → AreWide ws n (op_made l ranges n (O.Divide op) (Some z) (v ∷ w ∷ [])).locals
+        → IsPlainOp l (f.own s.at) ranges (O.Divide op) (Some z) (v ∷ w ∷ [])
+        → AreWide ws n (op_made l (f.own s.at) ranges n (O.Divide op) (Some z) (v ∷ w ∷ [])).locals
         → Meet (O.Divide op) (Some z) (v ∷ w ∷ [])
     divide_meets op z v w h wide =
-        let reading = reads l ranges n (v ∷ w ∷ []) in
+        let reading = reads l (f.own s.at) ranges n (Reads v ∷ Reads w ∷ []) in
         let d = word_at reading 0 in
         let e = word_at reading 1 in
         let t = divides_at (kind_of l w.space) op w in
         let small = h.1.1.0 in
         let there = done (O.Divide op) (Some z) (v ∷ w ∷ []) in
         let made = computed m l f look own ranges ws is has set at s go n free in
-        computes_meets m l f look own ranges ws is has set at s go n free (v ∷ w ∷ []) z returns
+        computes_meets m l f look own ranges ws is has set at s go n free (Reads v ∷ Reads w ∷ []) z
+        returns
         (divides l op w d e) x (done (O.Divide op) (Some z) (v ∷ w ∷ [])) h.1.1
         (h.1.0.0, (h.1.0.1, tt)) wide sees
         (λ y r.
-        let o = two_of m l ws s y.env v w d e r.words r.have in
+        let o = two_of m l f ws s y.env v w d e r.words r.have in
         let a = o.first in
         let b = o.second in
         let P : ℕ → Type 0 = λ k. Means ws y.env d k a in
@@ -244,7 +245,7 @@ module _
         let means : Means ws y.env d z.size a = subst P h.0.0 o.has.means in
         let also : Means ws y.env e z.size b = subst Q h.0.1 o.also.means in
         let fixed : kind_of l w.space ≡ Constant → w.offset ≡ b =
-        λ c. constant_has m l ws s y.env (kind_of l w.space) w e b c o.also in
+        λ c. constant_has m l f ws s y.env (kind_of l w.space) w e b c o.also in
         let near : nearest w.size ≡ z.size = ap nearest h.0.1 ∙ nearest_is z.size small.0 small.1 in
         let read : read_all m l f s (all_read (v ∷ w ∷ [])) ≡ Ok (a ∷ b ∷ []) = r.read ∙ ap (λ q. Ok q) o.are in
         ⊎_elim
@@ -267,30 +268,53 @@ module _
         (divide_step m l f i s op z v w a b read some)))
         (cases_eq b 0))
 
-    load_meets : (z from v : Varnode)
-        → IsPlainOp l ranges O.Load (Some z) (from ∷ v ∷ [])
-        → AreWide ws n (op_made l ranges n O.Load (Some z) (from ∷ v ∷ [])).locals
-        → Meet O.Load (Some z) (from ∷ v ∷ [])
-    load_meets z from v h wide =
-        let d = word_at (reads l ranges n (v ∷ [])) 0 in
+    -- a LOAD by a pointer, or of a frame variable
+    load_by : (o : Option ℕ) (z from v : Varnode)
+        → f.own s.at 0 ≡ o
+        → IsLoad o l ranges from z
+        → IsOperand l ranges v
+        → IsOutput l ranges z
+        → AreWide ws n (loads_by o l ranges n (Some z) (from ∷ v ∷ [])).locals
+        → Meets l ranges look own at (done O.Load (Some z) (from ∷ v ∷ []))
+        (run_all l ws returns (loads_by o l ranges n (Some z) (from ∷ v ∷ [])).statements x)
+    load_by None z from v unframed h operand output wide =
+        let d = word_at (reads l (f.own s.at) ranges n (Reads v ∷ [])) 0 in
         let e = address l from.offset v.size d in
         let there = done O.Load (Some z) (from ∷ v ∷ []) in
         let made = computed m l f look own ranges ws is has set at s go n free in
-        computes_meets m l f look own ranges ws is has set at s go n free (v ∷ []) z returns
-        (λ u. S.Load u (name_of l from.offset) e) x there h.1.1 (h.1.0, tt) wide sees
+        computes_meets m l f look own ranges ws is has set at s go n free (Reads v ∷ []) z returns
+        (λ u. S.Load u (name_of l from.offset) e) x there output (operand, tt) wide sees
         (λ y r.
-        let o = one_of m l ws s y.env v d r.words r.have in
+        let o = one_of m l f ws s y.env v d r.words r.have in
         let to = byte_address l from.offset o.word in
         let mem : look s.world.memory ≡ y.world.memory = ap (λ w. w.memory) r.sees.world in
         let P : Bytes → Type 0 = λ b. word_in_bytes l from.offset to z.size b < limit z.size in
         inl (made z (λ u. S.Load u (name_of l from.offset) e) y there
         (word_in_bytes l from.offset to z.size y.world.memory) r.sees
         (subst P mem (word_below l from.offset to z.size (look s.world.memory) r.sees.memory))
-        (λ u returns wide. load_runs l ws returns from.offset h.0 u z.size to e y wide
-        (address_points ws y.env l from.offset v.size o.word d h.0 h.1.0.0.0 h.1.0.0.1 o.has.means))
+        (λ u returns wide. load_runs l ws returns from.offset h u z.size to e y wide
+        (address_points ws y.env l from.offset v.size o.word d h operand.0.0 operand.0.1 o.has.means))
         (load_step m l f i s look is from v z o.word (r.read ∙ ap (λ q. Ok q) o.are) unframed
         ∙ ap (λ b. write_varnode m l (kind_of l z.space) z (word_in_bytes l from.offset to z.size b) (moved at s))
         mem)))
+    load_by (Some c) z from v framed h operand output wide =
+        load_framed m l f look own ranges ws is has set i s x go sees n free returns c framed z from v h output wide
+
+    -- a STORE by a pointer, or of a frame variable
+    store_by : (o : Option ℕ) (to v w : Varnode)
+        → f.own s.at 0 ≡ o
+        → IsStore o l ranges to w
+        → IsOperand l ranges v
+        → IsOperand l ranges w
+        → AreWide ws n (stores_by o l ranges n (to ∷ v ∷ w ∷ [])).locals
+        → Meets l ranges look own at (done O.Store None (to ∷ v ∷ w ∷ []))
+        (run_all l ws returns (stores_by o l ranges n (to ∷ v ∷ w ∷ [])).statements x)
+    store_by None to v w unframed h address stored wide =
+        stores_meet m l f look own ranges ws is has set at s go n free to.offset v w returns x
+        (done O.Store None (to ∷ v ∷ w ∷ [])) h (address, (stored, tt)) wide sees
+        (λ a b read. store_step m l f i s to v w a b read unframed)
+    store_by (Some c) to v w framed h address stored wide =
+        store_framed m l f look own ranges ws is has set i s x go sees n free returns c framed to v w h stored wide
 
     -- A call that returns.
     call_goes : (to : Varnode) (b : Bool) → does_return (callee_at l to.offset) ≡ b → call_turn b ≡ GoesOn → b ≡ true
@@ -299,20 +323,19 @@ module _
 
     -- An op that goes on, where a call in front of any statements returns.
     pub op_meets : (code : Opcode) (out : Option Varnode) (vs : List Varnode)
-        → IsPlainOp l ranges code out vs
+        → IsPlainOp l (f.own s.at) ranges code out vs
         → turn_of l code vs ≡ GoesOn
-        → AreWide ws n (op_made l ranges n code out vs).locals
+        → AreWide ws n (op_made l (f.own s.at) ranges n code out vs).locals
         → ((ss : List Stmt) → returns ss ≡ true)
         → Meets l ranges look own (next_place i s.at.index) (step_at m l f (Does i (op_of code out vs)) s)
-        (run_all l ws returns (op_made l ranges n code out vs).statements x)
+        (run_all l ws returns (op_made l (f.own s.at) ranges n code out vs).statements x)
     op_meets (O.Unary op) (Some z) (v ∷ []) h turn wide all = unary_meets op z v h wide
     op_meets (O.Binary op) (Some z) (v ∷ w ∷ []) h turn wide all = binary_meets op z v w h wide
     op_meets (O.Divide op) (Some z) (v ∷ w ∷ []) h turn wide all = divide_meets op z v w h wide
-    op_meets O.Load (Some z) (from ∷ v ∷ []) h turn wide all = load_meets z from v h wide
+    op_meets O.Load (Some z) (from ∷ v ∷ []) h turn wide all =
+        load_by (f.own s.at 0) z from v refl h.0 h.1.0 h.1.1 wide
     op_meets O.Store None (to ∷ v ∷ w ∷ []) h turn wide all =
-        stores_meet m l f look own ranges ws is has set at s go n free to.offset v w returns x
-        (done O.Store None (to ∷ v ∷ w ∷ [])) h.0 (h.1.0, (h.1.1, tt)) wide sees
-        (λ a b read. store_step m l f i s to v w a b read unframed)
+        store_by (f.own s.at 0) to v w refl h.0 h.1.0 h.1.1 wide
     op_meets O.Call None (to ∷ []) h turn wide all =
         let goes = call_goes to (does_return (callee_at l to.offset)) refl turn in
         returning_meets m l f look own ranges ws is has set i s x go sees n free returns to h goes wide all

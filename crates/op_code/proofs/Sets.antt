@@ -1,5 +1,5 @@
 -- An output is set: its variable is assigned, or a local that is stored or written to several variables then.
-use Rattle.std.proofs.Common.{◌≡◌, ℕ, ◌+◌, ◌<◌, ◌≤◌, Bool, List, [], ◌∷◌, length, Some, None, refl, sym, ap, ◌∙◌, subst, arith}
+use Rattle.std.proofs.Common.{◌≡◌, ◌≢◌, ℕ, ◌+◌, ◌<◌, ◌≤◌, Bool, List, [], ◌∷◌, length, Some, None, refl, sym, ap, ◌∙◌, subst, arith}
 use Rattle.std.proofs.lemmas.Option.{slice_get_past}
 use Rattle.machine.specs.Trace.{End}
 use Rattle.bits_core.specs.Value.{limit}
@@ -8,18 +8,23 @@ use Rattle.pcode_model.specs.declared.listing.SpaceKind.TheVariants.{Constant, R
 use Rattle.pcode_model.specs.declared.listing.Varnode.{Varnode}
 use Rattle.pcode_model.specs.declared.listing.Place.{Place}
 use Rattle.pcode_model.specs.declared.listing.Listing.{Listing}
-use Rattle.pcode_model.specs.Spaces.{is_big}
+use Rattle.pcode_model.specs.Spaces.{first_ram, is_big, kind_of}
 use Rattle.pcode_model.specs.Memory.{Acts, Bytes, plain}
-use Rattle.pcode_model.specs.World.{ended, store}
+use Rattle.pcode_model.specs.World.{AllAnswers, Answer, World, ended, store}
 use Rattle.pcode_model.specs.Step.{State, bytes_in, in_world, moved, with_word, write_varnode}
-use Rattle.pcode_laws.specs.AsBytes.{AsBytes}
+use Rattle.pcode_laws.specs.AsBytes.{AsBytes, seen_over}
 use Rattle.pcode_laws.proofs.Puts.{put_at}
+use Rattle.range_words.specs.Own.{HasOwn}
+use Rattle.range_words.specs.Ranges.{AreBytes, Holds}
+use Rattle.range_words.proofs.Own.{register_off, unique_off, written_else}
 use Rattle.range_words.proofs.Variables.{bytes_written}
+use Rattle.cmeaning.specs.declared.tree.Expr.{Expr}
 use Rattle.cmeaning.specs.declared.tree.Expr.TheVariants as E
 use Rattle.cmeaning.specs.declared.tree.Stmt.{Stmt}
 use Rattle.cmeaning.specs.declared.tree.Stmt.TheVariants as S
 use Rattle.cmeaning.specs.Do.{Local, assigned, do_simple, ends}
 use Rattle.cmeaning.specs.Do as code
+use Rattle.cmeaning.proofs.Do.{do_assign}
 use Rattle.cmeaning.proofs.Value.{width_of_var, value_of_var}
 use Rattle.blockcode.proofs.Straight.{run_all, run_over}
 use Rattle.op_values.proofs.Means.{Means, nearest_is}
@@ -30,13 +35,19 @@ use Rattle.op_code.specs.Made.{address_of, local_for, name_of, set_by, settle_by
 use Rattle.op_code.specs.Form.{IsDirect, IsNarrow, IsOutputBy}
 use Rattle.op_code.proofs.Access.{direct_points, store_meets, store_runs}
 use Rattle.op_code.proofs.Operands.{run_one}
-use Rattle.op_code.proofs.Sees.{AreWide, Meets, Sees, Setting, sees_local}
+use Rattle.op_code.proofs.Sees.{AreWide, Meets, Sees, Setting, seen_bytes, sees_local}
 use Rattle.op_code.proofs.Writing.{write_wrote}
 
 -- The statement leads from the one state to the other, and assigns this word to any variable of so many bytes.
 abbrev pub Makes : Listing → (ℕ → ℕ) → (ℕ → Stmt) → (k n : ℕ) → Local → Local → Type 0
 Makes l ws make k n x y =
     (v : ℕ) (returns : ℕ → Bool) → ws v ≡ k → do_simple l ws returns (make v) x ≡ assigned v n y
+
+pub assign_makes : (l : Listing) (ws : ℕ → ℕ) (x : Local) (e : Expr) (k n : ℕ)
+    → Means ws x.env e k n
+    → Makes l ws (λ v. S.Assign v e) k n x x
+assign_makes l ws x e k n means v returns wide =
+    do_assign l ws returns v e x ∙ ap (λ o. code.with_word o x (λ n. assigned v n x)) means.value
 
 -- The statement leads from the one state to the other, whichever variable it would assign.
 abbrev pub Fails : Listing → (ℕ → ℕ) → (ℕ → Stmt) → Local → Local → Type 0
@@ -55,8 +66,8 @@ fail_runs l ranges ws returns make x y e k t z go over fails =
     run_one l ws returns (make v) rest x y go (fails v (λ c. returns rest)) ∙ run_over l ws returns rest y e over
 
 -- Both have ended.
-pub ended_meets : {M : Type 0} (l : Listing) (ranges : List Varnode) (look : M → Bytes) (next : Place) (s : State M)
-    (x : Local) (e : End)
+pub ended_meets : {M : Type 0} (l : Listing) (ranges : List Varnode) (look : M → Bytes) (own : M → ℕ → ℕ) (next : Place)
+    (s : State M) (x : Local) (e : End)
     → Sees l ranges look own s x
     → Meets l ranges look own next (in_world (ended e s.world) s) (ends e x)
 ended_meets l ranges look own next s x e sees = record {
@@ -89,9 +100,11 @@ module _
     (m : Acts M)
     (l : Listing)
     (look : M → Bytes)
+    (own : M → ℕ → ℕ)
     (ranges : List Varnode)
     (ws : ℕ → ℕ)
     (is : AsBytes m l look)
+    (has : HasOwn m l look own)
     (set : Setting l ranges ws)
     (next : Place)
     (s : State M)
@@ -102,8 +115,45 @@ module _
     (returns : List Stmt → Bool)
     (make : ℕ → Stmt)
   where
-    -- a range of variables
-    range_meets : (t : ℕ) (z : Varnode) (n : ℕ)
+    -- A word is written to a range of variables, by which the state becomes one with the word in the range.
+    pub range_meets : (t : ℕ) (z : Varnode) (n : ℕ) (there : State M)
+        → IsNarrow z
+        → HasCover ranges z
+        → n < limit z.size
+        → length ranges ≤ t
+        → AreWide ws t (local_for (cover ranges z) z)
+        → Makes l ws make z.size n x y
+        → seen_bytes l own there ≡ with_word l z n (seen_bytes l own s)
+        → seen_over look there.world ≡ seen_over look s.world
+        → there.at ≡ next
+        → Meets l ranges look own next there
+        (run_all l ws returns (make (target ranges t z) ∷ write_range (is_big l z.space) ranges z t) x)
+    range_meets t z n there narrow h below behind wide makes bytes world at =
+        let v = target ranges t z in
+        let parts = write_range (is_big l z.space) ranges z t in
+        let width = target_wide l ranges ws t z (cover ranges z) set narrow h wide in
+        let ran = run_one l ws returns (make v) parts x (assigned v n y) go (makes v (λ c. returns parts) width) in
+        let wrote = write_wrote l ranges set.table ws returns z narrow.0 narrow.1 n below t (seen_bytes l own s) y h
+        (slice_get_past ranges t behind) width sees.holds on in
+        let u : Local = run_all l ws returns parts (assigned v n y) in
+        let P : Local → Type 0 = λ u. Meets l ranges look own next there u in
+        let H : Bytes → Type 0 = λ b. Holds l ranges b u.env in
+        let B : Bytes → Type 0 = λ b. AreBytes b in
+        let A : List Answer → Type 0 = λ a. AllAnswers l a in
+        subst P (sym ran) (record {
+          sees = record {
+            world = world ∙ sees.world ∙ sym wrote.world;
+            holds = subst H (sym bytes) wrote.holds;
+            bytes = subst B (sym bytes) (bytes_written l z n (seen_bytes l own s) sees.bytes);
+            memory = subst B (sym (ap (λ (w : World Bytes). w.memory) world)) sees.memory;
+            answers = subst A (sym (ap (λ (w : World Bytes). w.answers) world)) sees.answers;
+          };
+          at = λ _. at;
+        })
+
+    -- one that is none of the frame's
+    local_meets : (t : ℕ) (z : Varnode) (n : ℕ)
+        → z.space ≢ first_ram l
         → IsNarrow z
         → HasCover ranges z
         → n < limit z.size
@@ -113,25 +163,9 @@ module _
         → (let there : State M = record { at = next; local = with_word l z n s.local; world = s.world } in
         Meets l ranges look own next there
         (run_all l ws returns (make (target ranges t z) ∷ write_range (is_big l z.space) ranges z t) x))
-    range_meets t z n narrow h below behind wide makes =
-        let v = target ranges t z in
-        let parts = write_range (is_big l z.space) ranges z t in
-        let there : State M = record { at = next; local = with_word l z n s.local; world = s.world } in
-        let width = target_wide l ranges ws t z (cover ranges z) set narrow h wide in
-        let ran = run_one l ws returns (make v) parts x (assigned v n y) go (makes v (λ c. returns parts) width) in
-        let wrote = write_wrote l ranges set.table ws returns z narrow.0 narrow.1 n below t s.local y h
-        (slice_get_past ranges t behind) width sees.holds on in
-        let P : Local → Type 0 = λ u. Meets l ranges look own next there u in
-        subst P (sym ran) (record {
-          sees = record {
-            world = sees.world ∙ sym wrote.world;
-            holds = wrote.holds;
-            bytes = bytes_written l z n s.local sees.bytes;
-            memory = sees.memory;
-            answers = sees.answers;
-          };
-          at = λ _. refl;
-        })
+    local_meets t z n off narrow h below behind wide makes =
+        range_meets t z n (record { at = next; local = with_word l z n s.local; world = s.world }) narrow h below behind
+        wide makes (written_else l (own s.world.memory) z n s.local off) refl refl
 
     -- a direct range of memory
     memory_meets : (t : ℕ) (z : Varnode) (n : ℕ)
@@ -158,11 +192,12 @@ module _
         let P : Local → Type 0 = λ u. Meets l ranges look own next
         (in_world (store m z.space z.offset (bytes_in l z.space z.size n) s.world) (moved next s)) u in
         subst P (sym (first ∙ second))
-        (store_meets m l look own is has ranges next z.space z.offset z.size n s u
+        (store_meets m l look is own has ranges next z.space z.offset z.size n s u
         (sees_local l ranges look own s y t n behind sees))
 
     -- A word is written to an output.
     pub set_meets : (k : SpaceKind) (t : ℕ) (z : Varnode) (n : ℕ)
+        → kind_of l z.space ≡ k
         → IsNarrow z
         → IsOutputBy k l ranges z
         → n < limit z.size
@@ -171,8 +206,10 @@ module _
         → Makes l ws make z.size n x y
         → Meets l ranges look own next (write_varnode m l k z n (moved next s))
         (run_all l ws returns (set_by k l ranges t z make).statements x)
-    set_meets Constant t z n narrow h below behind wide makes = absurd h
-    set_meets Ram t z n narrow h below behind wide makes =
+    set_meets Constant t z n kind narrow h below behind wide makes = absurd h
+    set_meets Ram t z n kind narrow h below behind wide makes =
         memory_meets t z n narrow h behind (wide.0 ∙ nearest_is z.size narrow.0 narrow.1) makes
-    set_meets Register t z n narrow h below behind wide makes = range_meets t z n narrow h below behind wide makes
-    set_meets Unique t z n narrow h below behind wide makes = range_meets t z n narrow h below behind wide makes
+    set_meets Register t z n kind narrow h below behind wide makes =
+        local_meets t z n (register_off l z.space kind) narrow h below behind wide makes
+    set_meets Unique t z n kind narrow h below behind wide makes =
+        local_meets t z n (unique_off l z.space kind) narrow h below behind wide makes

@@ -1,5 +1,5 @@
 -- What a call spares and what it doesn't: each variable of a register lies in one range that it spares, or meets none.
-use Rattle.std.proofs.Common.{◌≡◌, ◌≢◌, ℕ, ◌+◌, ◌<◌, ◌≤◌, Bool, true, false, List, [], ◌∷◌, ◌++◌, Option, Some, None, refl, sym, ap, ◌∙◌, subst, ◌⊎◌, inl, inr, ⊎_elim, append-nil, arith}
+use Rattle.std.proofs.Common.{◌≡◌, ◌≢◌, ℕ, ◌+◌, ◌<◌, ◌≤◌, Bool, true, false, List, [], ◌∷◌, ◌++◌, Option, Some, None, refl, sym, ap, ◌∙◌, subst, ◌⊎◌, inl, inr, ⊎_elim, arith}
 use Rattle.std.specs.Prelude.{◌==◌, ◌&&◌, cond, not, slice_get, IfSome}
 use Rattle.std.proofs.lemmas.Bool.{cases_eq, cases_lt}
 use Rattle.std.proofs.lemmas.Bool.Decides.{nat_tests}
@@ -16,7 +16,9 @@ use Rattle.range_words.specs.Ranges.{IsTable}
 use Rattle.op_code.specs.Cover.{HasCover, IsRow, Piece, cover}
 use Rattle.op_code.specs.Form.{IsCallable, IsGiven, IsSplitBy}
 use Rattle.op_code.specs.Left.{is_left, meets_some, spared}
+use Rattle.op_code.specs.Made.{Own}
 use Rattle.op_code.specs.Words.{target, target_by}
+use Rattle.op_code.proofs.Kept.{left_alone}
 use Rattle.op_code.proofs.Rows.{row_rises}
 
 -- ---- offsets
@@ -152,7 +154,7 @@ module _ (l : Listing) (ranges : List Varnode) (table : IsTable l ranges) where
 
   -- ---- variables
 
-  module _ (p : Proto) (call : IsCallable l ranges p) where
+  module _ (p : Proto) (o : Own) (call : IsCallable l o ranges p) where
     pub left_space : (v : Varnode) → is_left l p v ≡ true → v.space ≡ register_space l
     left_space v h = grind (arith, nat_tests)
 
@@ -179,25 +181,22 @@ module _ (l : Listing) (ranges : List Varnode) (table : IsTable l ranges) where
         by true false e g = absurd (cc)
         by false b e g = absurd (cc)
 
-    gives_has : (gives : Option Varnode) (n : ℕ) (v w : Varnode)
-        → IfSome gives (IsGiven l ranges)
-        → IsIn w (one_range gives)
+    -- of one range
+    given_has : (given : Option Varnode) (n : ℕ) (v w : Varnode)
+        → IfSome given (IsGiven l ranges)
+        → IsIn w (one_range given)
         → slice_get ranges n ≡ Some v
         → 0 < v.size
         → v.space ≡ register_space l
         → meets v.offset v.size w.offset w.size ≡ true
         → LiesWithin v w
-    gives_has None n v w given is e wide at met = absurd is
-    gives_has (Some z) n v w given (inl same) e wide at met =
+    given_has None n v w given is e wide at met = absurd is
+    given_has (Some z) n v w given (inl same) e wide at met =
         let P : Varnode → Type 0 = λ x. LiesWithin v x in
         let Q : Varnode → Type 0 = λ x. meets v.offset v.size x.offset x.size ≡ true in
         subst P (sym same)
         (cover_has z n v given.1.1 given.1.0.0 e wide (at ∙ sym given.0) (subst Q same met))
-    gives_has (Some z) n v w given (inr is) e wide at met = absurd is
-
-    stack_has : (stack : Option Varnode) (w : Varnode) → stack ≡ None → IsIn w (one_range stack) → ⊥
-    stack_has None w none is = is
-    stack_has (Some sp) w none is = absurd (cc)
+    given_has (Some z) n v w given (inr is) e wide at met = absurd is
 
     -- any other lies in a range that is spared
     spared_has : (n : ℕ) (v w : Varnode)
@@ -213,8 +212,8 @@ module _ (l : Listing) (ranges : List Varnode) (table : IsTable l ranges) where
         (λ apart. absurd (cc))
         (of_member (IsSplitBy l ranges) w p.keep call.kept kept v (member_at ranges n v e) at))
         (λ others. ⊎_elim
-        (λ (gives : IsIn w (one_range p.gives)). gives_has p.gives n v w call.gives gives e wide at met)
-        (λ (stack : IsIn w (one_range l.stack)). absurd (stack_has l.stack w call.stack stack))
+        (λ (gives : IsIn w (one_range p.gives)). given_has p.gives n v w call.gives gives e wide at met)
+        (λ (stack : IsIn w (one_range l.stack)). given_has l.stack n v w call.stack stack e wide at met)
         (in_either (one_range p.gives) (one_range l.stack) w others))
         (in_either p.keep (one_range p.gives ++ one_range l.stack) w among)
 
@@ -233,41 +232,37 @@ module _ (l : Listing) (ranges : List Varnode) (table : IsTable l ranges) where
 
     -- ---- the result
 
-    -- no member has the offset
-    some_append : (xs ys : List Varnode) (o : ℕ) → in_some ys o ≡ false → in_some (xs ++ ys) o ≡ in_some xs o
-    some_append [] ys o out = out
-    some_append (x ∷ xs) ys o out = ap (λ b. cond (in_range x o) true b) (some_append xs ys o out)
+    -- a range that hasn't the offset
+    some_without : (ws : List Varnode) (z : Varnode) (rest : List Varnode) (o : ℕ)
+        → in_range z o ≡ false
+        → in_some (ws ++ z ∷ rest) o ≡ in_some (ws ++ rest) o
+    some_without [] z rest o out = ap (λ b. cond b true (in_some rest o)) out
+    some_without (w ∷ ws) z rest o out = ap (λ b. cond (in_range w o) true b) (some_without ws z rest o out)
 
-    -- Without a result there is only what is kept.
-    pub spared_kept : p.gives ≡ None → spared l p ≡ p.keep
-    spared_kept none =
-        ap (λ gives. p.keep ++ (one_range gives ++ one_range l.stack)) none
-        ∙ ap (λ stack. p.keep ++ one_range stack) call.stack
-        ∙ append-nil p.keep
+    -- Without a result there is only what a callee leaves alone.
+    pub spared_alone : p.gives ≡ None → spared l p ≡ left_alone l p
+    spared_alone none = ap (λ gives. p.keep ++ (one_range gives ++ one_range l.stack)) none
 
-    spared_is : (z : Varnode) → p.gives ≡ Some z → spared l p ≡ p.keep ++ z ∷ []
-    spared_is z gives =
-        ap (λ g. p.keep ++ (one_range g ++ one_range l.stack)) gives
-        ∙ ap (λ stack. p.keep ++ z ∷ one_range stack) call.stack
+    spared_is : (z : Varnode) → p.gives ≡ Some z → spared l p ≡ p.keep ++ z ∷ one_range l.stack
+    spared_is z gives = ap (λ g. p.keep ++ (one_range g ++ one_range l.stack)) gives
 
     -- and with one it is spared beside
     pub spared_off : (z : Varnode)
         → p.gives ≡ Some z
         → (o : ℕ)
         → (o < z.offset) ⊎ (z.offset + z.size ≤ o)
-        → in_some (spared l p) o ≡ in_some p.keep o
+        → in_some (spared l p) o ≡ in_some (left_alone l p) o
     spared_off z gives o off =
         let out : in_range z o ≡ false = ⊎_elim
         (λ (before : o < z.offset). grind (arith, nat_tests))
         (λ (past : z.offset + z.size ≤ o). grind (arith, nat_tests))
         off in
-        ap (λ ws. in_some ws o) (spared_is z gives)
-        ∙ some_append p.keep (z ∷ []) o (ap (λ b. cond b true false) out)
+        ap (λ ws. in_some ws o) (spared_is z gives) ∙ some_without p.keep z (one_range l.stack) o out
 
     result_spared : (z : Varnode) → p.gives ≡ Some z → IsIn z (spared l p)
     result_spared z gives =
         let P : List Varnode → Type 0 = λ ws. IsIn z ws in
-        subst P (sym (spared_is z gives)) (behind p.keep (z ∷ []) z (inl refl))
+        subst P (sym (spared_is z gives)) (behind p.keep (z ∷ one_range l.stack) z (inl refl))
 
     target_by_other : (k n : ℕ) (v z : Varnode) (ps : List Piece)
         → p.gives ≡ Some z

@@ -91,6 +91,33 @@ module _ {M : Type 0} (m : Acts M) (l : Listing) (f : Frame) (i : Instruction) (
       (moved next s)) free
       ∙ ap (λ r. fetched m l (Some z) r (moved next s)) (read_is m l look is t.offset at z.size s.world.memory)
 
+  -- accesses of frame variables
+  pub own_load_step : (c : ℕ) (t v z : Varnode) (a : ℕ)
+      → read_all m l f s (all_read (v ∷ [])) ≡ Ok (a ∷ [])
+      → f.own s.at 0 ≡ Some c
+      → step_at m l f (Does i (op_of O.Load (Some z) (t ∷ v ∷ []))) s
+      ≡ fetched m l (Some z)
+      (as_word l t.offset (m.read_own (byte_address l t.offset a) c z.size s.world.memory))
+      (moved (next_place i s.at.index) s)
+  own_load_step c t v z a read own =
+      let next = next_place i s.at.index in
+      let at = byte_address l t.offset a in
+      ap (λ r. apply m l next (effect_at l f i (op_of O.Load (Some z) (t ∷ v ∷ [])) r s) s) read
+      ∙ ap (λ o. fetched m l (Some z) (as_word l t.offset (read_at m o t.offset at z.size s.world.memory))
+      (moved next s)) own
+
+  pub own_store_step : (c : ℕ) (t v w : Varnode) (a b : ℕ)
+      → read_all m l f s (all_read (v ∷ w ∷ [])) ≡ Ok (a ∷ b ∷ [])
+      → f.own s.at 0 ≡ Some c
+      → step_at m l f (Does i (op_of O.Store None (t ∷ v ∷ w ∷ []))) s
+      ≡ in_world (put_at m (Some c) t.offset (byte_address l t.offset a) (bytes_in l t.offset w.size b) s.world)
+      (moved (next_place i s.at.index) s)
+  own_store_step c t v w a b read own =
+      let next = next_place i s.at.index in
+      let at = byte_address l t.offset a in
+      ap (λ r. apply m l next (effect_at l f i (op_of O.Store None (t ∷ v ∷ w ∷ [])) r s) s) read
+      ∙ ap (λ o. in_world (put_at m o t.offset at (bytes_in l t.offset w.size b) s.world) (moved next s)) own
+
   -- a call of an address
   pub call_step : (to : Varnode) (ns : List ℕ)
       → read_all m l f s (operands l O.Call (to ∷ [])) ≡ Ok ns

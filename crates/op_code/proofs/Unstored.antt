@@ -17,11 +17,12 @@ use Rattle.pcode_model.specs.Spaces.{kind_of}
 use Rattle.pcode_model.specs.Rules.{past_first}
 use Rattle.pcode_model.specs.Step.{Operand, Reads, ReadsStack, all_read, arguments, callee_at, proto_of, returns, varnode_at}
 use Rattle.range_words.specs.Own.{frame_range}
+use Rattle.cmeaning.specs.declared.tree.Stmt.{Stmt}
 use Rattle.cmeaning.specs.declared.tree.Stmt.TheVariants as S
 use Rattle.blockcode.specs.declared.code.Exit.TheVariants as X
 use Rattle.blockcode.specs.declared.code.Variable.{Variable}
 use Rattle.op_code.specs.Cover.{Piece, cover}
-use Rattle.op_code.specs.Made.{Asking, Made, Own, Read, ReadOne, answered, behind, call_made, calls, gives_back, indirect_read, loads_by, local_for, locals_by, none_own, one_read, op_made, passed, pops, pops_by, read_by, read_operand, read_stack, reads, stores_by, word_at}
+use Rattle.op_code.specs.Made.{Asking, Own, ReadOne, answered, asks, call_made, calls, computes, gives_back, indirect_read, loads_by, local_for, locals_by, none_own, op_made, passed, pops, pops_by, read_by, read_operand, read_stack, reads, sets, stores_by, word_at}
 use Rattle.op_code.specs.Lowered.{block_made, blocks_made, condition_in, directly, made_in, place_made, places_made, tests, way_out}
 
 abbrev pub AreUnstored : List Variable → Type 0
@@ -66,93 +67,93 @@ module _ (l : Listing) (ranges : List Varnode) where
   output_unstored Register z = local_unstored (cover ranges z) z
   output_unstored Unique z = local_unstored (cover ranges z) z
 
-  -- what is read alone, and with an output
-  alone : (own : Own) (next : ℕ) (xs : List Operand) → AreUnstored ((reads l own ranges next xs).locals ++ [])
-  alone own next xs = unstored_append (reads l own ranges next xs).locals [] (reads_unstored own next xs) tt
-
-  with_output : (next : ℕ) (xs : List Operand) (z : Varnode)
-      → AreUnstored ((reads l none_own ranges next xs).locals ++ locals_by (kind_of l z.space) ranges z)
-  with_output next xs z =
-      unstored_append (reads l none_own ranges next xs).locals (locals_by (kind_of l z.space) ranges z)
-      (reads_unstored none_own next xs) (output_unstored (kind_of l z.space) z)
-
   -- behind what is read
-  behind_unstored : (r : Read) (m : Made)
-      → AreUnstored r.locals
-      → AreUnstored m.locals
-      → AreUnstored (behind r m).locals
-  behind_unstored r m h g = unstored_append r.locals m.locals h g
+  behind_unstored : (own : Own) (next : ℕ) (xs : List Operand) (locals : List Variable)
+      → AreUnstored locals
+      → AreUnstored ((reads l own ranges next xs).locals ++ locals)
+  behind_unstored own next xs locals h =
+      unstored_append (reads l own ranges next xs).locals locals (reads_unstored own next xs) h
 
-  gives_unstored : (next : ℕ) (p : Proto) (gives : Option Varnode) (make : Asking)
-      → AreUnstored (gives_back l ranges next p gives make).locals
-  gives_unstored next p None make = tt
-  gives_unstored next p (Some z) make = local_unstored (cover ranges z) z
+  sets_unstored : (next : ℕ) (out : Option Varnode) (make : ℕ → Stmt) → AreUnstored (sets l ranges next out make).locals
+  sets_unstored next None make = tt
+  sets_unstored next (Some z) make = output_unstored (kind_of l z.space) z
 
-  pops_unstored : (stack : Option Varnode) (k next : ℕ) → AreUnstored (pops_by stack k l ranges next).locals
-  pops_unstored None k next = tt
-  pops_unstored (Some sp) zero next = tt
-  pops_unstored (Some sp) (suc k) next = local_unstored (cover ranges sp) sp
+  computes_unstored : (next : ℕ) (out : Option Varnode) (xs : List Operand) (make : ℕ → Stmt)
+      → AreUnstored (computes l ranges next out (reads l none_own ranges next xs) make).locals
+  computes_unstored next out xs make =
+      let free = next + length (reads l none_own ranges next xs).locals in
+      behind_unstored none_own next xs (sets l ranges free out make).locals (sets_unstored free out make)
 
-  answered_unstored : (next : ℕ) (p : Proto) (gives : Option Varnode) (make : Asking)
-      → AreUnstored (answered l ranges next p gives make).locals
-  answered_unstored next p gives make =
-      let back = gives_back l ranges next p gives make in
-      unstored_append back.locals (pops l ranges (next + length back.locals) p).locals
-      (gives_unstored next p gives make) (pops_unstored l.stack p.pop (next + length back.locals))
-
-  calls_unstored : (next : ℕ) (p : Proto) (r : Read) (make : Asking)
-      → AreUnstored r.locals
-      → AreUnstored (calls l ranges next p r make).locals
-  calls_unstored next p r make h =
-      let free = next + length r.locals in
-      behind_unstored r (answered l ranges free p p.gives make) h (answered_unstored free p p.gives make)
-
-  call_unstored : (own : Own) (t : Bool) (next a : ℕ) (p : Proto)
-      → AreUnstored (call_made t l own ranges next a p).locals
-  call_unstored own true next a p =
-      let r = passed l own ranges next p in
-      calls_unstored next p r (λ v. S.Call v a r.words) (reads_unstored own next (arguments 0 p.args))
-  call_unstored own false next a p = alone own next (arguments 0 p.args)
+  -- ---- LOAD and STORE
 
   load_unstored : (o : Option ℕ) (next : ℕ) (out : Option Varnode) (vs : List Varnode)
       → AreUnstored (loads_by o l ranges next out vs).locals
-  load_unstored None next None vs = alone none_own next (Reads (varnode_at vs 1) ∷ [])
-  load_unstored None next (Some z) vs = with_output next (Reads (varnode_at vs 1) ∷ []) z
-  load_unstored (Some c) next None vs = tt
-  load_unstored (Some c) next (Some z) vs = output_unstored (kind_of l z.space) z
+  load_unstored None next out vs = computes_unstored next out (Reads (varnode_at vs 1) ∷ []) _
+  load_unstored (Some c) next out vs = sets_unstored next out _
 
   store_unstored : (o : Option ℕ) (next : ℕ) (vs : List Varnode) → AreUnstored (stores_by o l ranges next vs).locals
-  store_unstored None next vs = alone none_own next (Reads (varnode_at vs 1) ∷ Reads (varnode_at vs 2) ∷ [])
+  store_unstored None next vs =
+      behind_unstored none_own next (Reads (varnode_at vs 1) ∷ Reads (varnode_at vs 2) ∷ []) [] tt
   store_unstored (Some c) next vs =
-      let r = one_read l ranges next vs 2 in
-      let z = frame_range l c (varnode_at vs 2).size in
-      unstored_append r.locals (local_for (cover ranges z) z)
-      (reads_unstored none_own next (Reads (varnode_at vs 2) ∷ [])) (local_unstored (cover ranges z) z)
+      let range = frame_range l c (varnode_at vs 2).size in
+      behind_unstored none_own next (Reads (varnode_at vs 2) ∷ []) (local_for (cover ranges range) range)
+      (local_unstored (cover ranges range) range)
+
+  -- ---- calls
+
+  back_unstored : (next : ℕ) (p : Proto) (gives : Option Varnode) (make : Asking)
+      → AreUnstored (gives_back l ranges next p gives make).locals
+  back_unstored next p None make = tt
+  back_unstored next p (Some z) make = local_unstored (cover ranges z) z
+
+  pop_unstored : (st : Option Varnode) (pop next : ℕ) → AreUnstored (pops_by st pop l ranges next).locals
+  pop_unstored None pop next = tt
+  pop_unstored (Some sp) zero next = tt
+  pop_unstored (Some sp) (suc n) next = local_unstored (cover ranges sp) sp
+
+  calls_unstored : (own : Own) (next : ℕ) (p : Proto) (xs : List Operand) (make : Asking)
+      → AreUnstored (calls l ranges next p (reads l own ranges next xs) make).locals
+  calls_unstored own next p xs make =
+      let free = next + length (reads l own ranges next xs).locals in
+      let back = gives_back l ranges free p p.gives make in
+      let pop = pops l ranges (free + length back.locals) p in
+      behind_unstored own next xs (answered l ranges free p p.gives make).locals
+      (unstored_append back.locals pop.locals (back_unstored free p p.gives make)
+      (pop_unstored l.stack p.pop (free + length back.locals)))
+
+  call_unstored : (t : Bool) (own : Own) (next a : ℕ) (p : Proto)
+      → AreUnstored (call_made t l own ranges next a p).locals
+  call_unstored true own next a p =
+      calls_unstored own next p (arguments 0 p.args) (λ v. S.Call v a (passed l own ranges next p).words)
+  call_unstored false own next a p = behind_unstored own next (arguments 0 p.args) [] tt
+
+  other_unstored : (next : ℕ) (out : Option Varnode) (xs : List Operand) (make : Asking)
+      → AreUnstored (asks l ranges next out (reads l none_own ranges next xs) make).locals
+  other_unstored next None xs make = behind_unstored none_own next xs [] tt
+  other_unstored next (Some z) xs make =
+      let k = kind_of l z.space in
+      behind_unstored none_own next xs (locals_by k ranges z) (output_unstored k z)
+
+  -- ---- all ops
 
   op_unstored : (own : Own) (next : ℕ) (code : Opcode) (out : Option Varnode) (vs : List Varnode)
       → AreUnstored (op_made l own ranges next code out vs).locals
-  op_unstored own next (O.Unary op) None vs = alone none_own next (Reads (varnode_at vs 0) ∷ [])
-  op_unstored own next (O.Unary op) (Some z) vs = with_output next (Reads (varnode_at vs 0) ∷ []) z
-  op_unstored own next (O.Binary op) None vs =
-      alone none_own next (Reads (varnode_at vs 0) ∷ Reads (varnode_at vs 1) ∷ [])
-  op_unstored own next (O.Binary op) (Some z) vs =
-      with_output next (Reads (varnode_at vs 0) ∷ Reads (varnode_at vs 1) ∷ []) z
-  op_unstored own next (O.Divide op) None vs =
-      alone none_own next (Reads (varnode_at vs 0) ∷ Reads (varnode_at vs 1) ∷ [])
-  op_unstored own next (O.Divide op) (Some z) vs =
-      with_output next (Reads (varnode_at vs 0) ∷ Reads (varnode_at vs 1) ∷ []) z
+  op_unstored own next (O.Unary op) out vs = computes_unstored next out (Reads (varnode_at vs 0) ∷ []) _
+  op_unstored own next (O.Binary op) out vs =
+      computes_unstored next out (Reads (varnode_at vs 0) ∷ Reads (varnode_at vs 1) ∷ []) _
+  op_unstored own next (O.Divide op) out vs =
+      computes_unstored next out (Reads (varnode_at vs 0) ∷ Reads (varnode_at vs 1) ∷ []) _
   op_unstored own next O.Load out vs = load_unstored (own 0) next out vs
   op_unstored own next O.Store out vs = store_unstored (own 0) next vs
   op_unstored own next O.Call out vs =
       let f = callee_at l (varnode_at vs 0).offset in
-      call_unstored own (returns f) next (varnode_at vs 0).offset (proto_of l f)
+      call_unstored (returns f) own next (varnode_at vs 0).offset (proto_of l f)
   op_unstored own next O.CallInd out vs =
       let p = proto_of l None in
       let r = indirect_read l own ranges next (varnode_at vs 0) p in
-      calls_unstored next p r (λ v. S.CallInd v (word_at r 0) (drop 1 r.words))
-      (reads_unstored own next (Reads (varnode_at vs 0) ∷ arguments 0 p.args))
-  op_unstored own next O.CallOther None vs = alone none_own next (all_read (past_first vs))
-  op_unstored own next O.CallOther (Some z) vs = with_output next (all_read (past_first vs)) z
+      calls_unstored own next p (Reads (varnode_at vs 0) ∷ arguments 0 p.args)
+      (λ v. S.CallInd v (word_at r 0) (drop 1 r.words))
+  op_unstored own next O.CallOther out vs = other_unstored next out (all_read (past_first vs)) _
   op_unstored own next code out vs = tt
 
   made_unstored : (own : Own) (next : ℕ) (here : Standing) → AreUnstored (made_in l own ranges next here).locals
@@ -182,26 +183,27 @@ module _ (l : Listing) (ranges : List Varnode) where
   way_unstored next here (F.Switch t ns) = tt
   way_unstored next here F.Stop = tt
 
-  places_unstored : (own : Place → Own) (next : ℕ) (ps : List Place) (e : flow_exit.Exit)
-      → AreUnstored (places_made l own ranges next ps e).locals
-  places_unstored own next [] e = tt
-  places_unstored own next (p ∷ []) e =
-      let here = place_made l own ranges next p in
-      let free = next + length here.locals in
-      unstored_append here.locals (way_out l ranges free (standing l p) e).locals (made_unstored (own p) next (standing l p))
-      (way_unstored free (standing l p) e)
-  places_unstored own next (p ∷ q ∷ ps) e =
-      let here = place_made l own ranges next p in
-      let free = next + length here.locals in
-      unstored_append here.locals (places_made l own ranges free (q ∷ ps) e).locals (made_unstored (own p) next (standing l p))
-      (places_unstored own free (q ∷ ps) e)
+  module _ (own : Place → Own) where
+    places_unstored : (next : ℕ) (ps : List Place) (e : flow_exit.Exit)
+        → AreUnstored (places_made l own ranges next ps e).locals
+    places_unstored next [] e = tt
+    places_unstored next (p ∷ []) e =
+        let here = place_made l own ranges next p in
+        let free = next + length here.locals in
+        unstored_append here.locals (way_out l ranges free (standing l p) e).locals
+        (made_unstored (own p) next (standing l p)) (way_unstored free (standing l p) e)
+    places_unstored next (p ∷ q ∷ ps) e =
+        let here = place_made l own ranges next p in
+        let free = next + length here.locals in
+        unstored_append here.locals (places_made l own ranges free (q ∷ ps) e).locals
+        (made_unstored (own p) next (standing l p)) (places_unstored free (q ∷ ps) e)
 
-  -- No local of any blocks has a storage.
-  pub blocks_unstored : (own : Place → Own) (next : ℕ) (blocks : List flow_block.Block)
-      → AreUnstored (blocks_made l own ranges next blocks).locals
-  blocks_unstored own next [] = tt
-  blocks_unstored own next (b ∷ blocks) =
-      let here = block_made l own ranges next b in
-      let free = next + length here.locals in
-      unstored_append here.locals (blocks_made l own ranges free blocks).locals (places_unstored own next b.places b.exit)
-      (blocks_unstored own free blocks)
+    -- No local of any blocks has a storage.
+    pub blocks_unstored : (next : ℕ) (blocks : List flow_block.Block)
+        → AreUnstored (blocks_made l own ranges next blocks).locals
+    blocks_unstored next [] = tt
+    blocks_unstored next (b ∷ blocks) =
+        let here = block_made l own ranges next b in
+        let free = next + length here.locals in
+        unstored_append here.locals (blocks_made l own ranges free blocks).locals
+        (places_unstored next b.places b.exit) (blocks_unstored free blocks)

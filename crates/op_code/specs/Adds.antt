@@ -1,5 +1,5 @@
--- What is added for an op: statements behind a body, and locals behind the variables, whose numbers have 32 bits. No part
--- of what an op means, but how the code makes it.
+-- What is added for an op: statements behind a body, and locals behind the variables, whose numbers have 32 bits. No
+-- part of what an op means, but how the code makes it.
 use Rattle.std.specs.Prelude.{◌≡◌, ◌≤◌, ◌^◌, ◌++◌, List, length}
 use Rattle.cmeaning.specs.declared.tree.Stmt.{Stmt}
 use Rattle.blockcode.specs.declared.code.Variable.{Variable}

@@ -16,8 +16,8 @@ abbrev pub called_by : Calling → Asking
 called_by (Direct callee args) v = S.Call v callee args
 called_by (Indirect callee args) v = S.CallInd v callee args
 
--- The call, and what takes its answer, before the pop. Where it has a result, this range's variables are assigned behind
--- what the call left in others.
+-- The call, and what takes its answer, before the pop. Where it has a result, this range's variables are assigned
+-- behind what the call left in others.
 abbrev pub given_by : Listing → List Varnode → ℕ → (proto : ℕ) → Calling → Made
 given_by l ranges next proto call =
     gives_back l ranges next (proto_at l proto) (proto_at l proto).gives (called_by call)

@@ -153,5 +153,6 @@ IsPlainOp l own ranges O.CBranch None (to ∷ x ∷ []) = (x.size ≡ 1) × IsOp
 IsPlainOp l own ranges O.Return None (to ∷ []) = IsOperand l ranges to × IsResult l ranges (proto_of l None).gives
 IsPlainOp l own ranges O.Call None (to ∷ []) = IsCallable l own ranges (proto_of l (callee_at l to.offset))
 IsPlainOp l own ranges O.CallInd None (to ∷ []) = IsOperand l ranges to × IsCallable l own ranges (proto_of l None)
-IsPlainOp l own ranges O.CallOther out (index ∷ vs) = AllOperands l none_own ranges (all_read vs) × IfSome out (IsOutput l ranges)
+IsPlainOp l own ranges O.CallOther out (index ∷ vs) =
+    AllOperands l none_own ranges (all_read vs) × IfSome out (IsOutput l ranges)
 IsPlainOp l own ranges code out vs = ⊥

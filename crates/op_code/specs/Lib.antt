@@ -17,3 +17,4 @@ pub mod Worked
 pub mod WorkedBlocks
 pub mod WorkedSeveral
 pub mod WorkedCalls
+pub mod WorkedFrame

@@ -1,7 +1,7 @@
 -- What stands for an op: its statements, and the locals that they need, numbered behind the variables that there are.
--- Both come by one definition, so that there are as many locals as the statements name. An access of a frame variable is
--- one of a range of variables, as that of a register is; `own` says at which offsets from the stack pointer's entry word
--- the op accesses frame variables, by the numbers of accesses. This project's own.
+-- Both come by one definition, so that there are as many locals as the statements name. An access of a frame variable
+-- is one of a range of variables, as that of a register is; `own` says at which offsets from the stack pointer's
+-- entry word the op accesses frame variables, by the numbers of accesses. This project's own.
 use Rattle.std.specs.Prelude.{ℕ, zero, suc, ◌+◌, ◌==◌, Bool, true, false, if◌then◌else◌, List, [], ◌∷◌, ◌++◌, drop, length, slice_get, Option, Some, None}
 use Rattle.std.specs.List.{slice_index_or}
 use Rattle.bits_core.specs.declared.ops.Divide.{Divide}
@@ -105,8 +105,8 @@ read_by Unique l ranges next v = record { loads = []; word = range_word l ranges
 abbrev pub read_one : Listing → List Varnode → ℕ → Varnode → ReadOne
 read_one l ranges next v = read_by (kind_of l v.space) l ranges next v
 
--- An argument on the stack: the word of its bytes of the frame, or a local that memory above the stack pointer is loaded
--- to.
+-- An argument on the stack: the word of its bytes of the frame, or a local that memory above the stack pointer is
+-- loaded to.
 abbrev pub read_stack : Option ℕ → Listing → List Varnode → (next offset size : ℕ) → ReadOne
 read_stack None l ranges next offset size = record {
   loads = S.Load next (name_of l (first_ram l)) (above_stack l ranges l.stack offset) ∷ [];

@@ -14,7 +14,7 @@ use Rattle.cmeaning.specs.declared.tree.Expr.{Expr}
 use Rattle.cmeaning.specs.declared.tree.Expr.TheVariants as E
 use Rattle.cmeaning.specs.declared.tree.Stmt.TheVariants as S
 use Rattle.op_values.specs.Nodes.{constant, divides_by, part_node, width_by}
-use Rattle.op_code.specs.Made.{local_of, nothing, op_made}
+use Rattle.op_code.specs.Made.{local_of, none_own, nothing, op_made}
 
 -- ---- parts of words and divisions
 
@@ -94,35 +94,35 @@ there = constant 4 0x2000
 -- stores: the address is read before what is stored.
 -- leaves: a return and a branch read and make nothing here.
 pub record WorkedOps : Type 0 where
-  pub sums : op_made listing ranges 3 (O.Binary B.Add) (Some memory) (memory ∷ memory ∷ []) ≡ record {
+  pub sums : op_made listing none_own ranges 3 (O.Binary B.Add) (Some memory) (memory ∷ memory ∷ []) ≡ record {
     statements = S.Load 3 None there ∷ S.Load 4 None there ∷ S.Assign 5 (E.Arithmetic Add (E.Var 3) (E.Var 4))
         ∷ S.Store None there (E.Var 5) ∷ [];
     locals = local_of 4 ∷ local_of 4 ∷ local_of 4 ∷ [];
   }
-  pub divides : op_made listing ranges 3 (O.Divide D.Quotient) (Some a) (a ∷ b ∷ []) ≡ record {
+  pub divides : op_made listing none_own ranges 3 (O.Divide D.Quotient) (Some a) (a ∷ b ∷ []) ≡ record {
     statements = S.Divide 0 statement.Div (E.Var 0) (E.Var 1) ∷ [];
     locals = [];
   }
-  pub divides_known : op_made listing ranges 3 (O.Divide D.Quotient) (Some a) (a ∷ varnode 0 3 4 ∷ []) ≡ record {
+  pub divides_known : op_made listing none_own ranges 3 (O.Divide D.Quotient) (Some a) (a ∷ varnode 0 3 4 ∷ []) ≡ record {
     statements = S.Assign 0 (E.Division division.Div (E.Var 0) (constant 4 3)) ∷ [];
     locals = [];
   }
-  pub divides_none : op_made listing ranges 3 (O.Divide D.Remainder) (Some a) (a ∷ varnode 0 0 4 ∷ []) ≡ record {
+  pub divides_none : op_made listing none_own ranges 3 (O.Divide D.Remainder) (Some a) (a ∷ varnode 0 0 4 ∷ []) ≡ record {
     statements = S.Divide 0 statement.Rem (E.Var 0) (constant 4 0) ∷ [];
     locals = [];
   }
-  pub loads : op_made listing ranges 3 O.Load (Some a) (varnode 0 1 4 ∷ b ∷ []) ≡ record {
+  pub loads : op_made listing none_own ranges 3 O.Load (Some a) (varnode 0 1 4 ∷ b ∷ []) ≡ record {
     statements = S.Load 0 None (E.Var 1) ∷ [];
     locals = [];
   }
-  pub loads_words : op_made listing ranges 3 O.Load (Some a) (varnode 0 2 4 ∷ c ∷ []) ≡ record {
+  pub loads_words : op_made listing none_own ranges 3 O.Load (Some a) (varnode 0 2 4 ∷ c ∷ []) ≡ record {
     statements = S.Load 0 (Some (codes "io"))
         (E.Arithmetic Mul (E.Extend Zext (width_by 2) (E.Var 2)) (constant 2 2)) ∷ [];
     locals = [];
   }
-  pub stores : op_made listing ranges 3 O.Store None (varnode 0 2 4 ∷ memory ∷ b ∷ []) ≡ record {
+  pub stores : op_made listing none_own ranges 3 O.Store None (varnode 0 2 4 ∷ memory ∷ b ∷ []) ≡ record {
     statements = S.Load 3 None there
         ∷ S.Store (Some (codes "io")) (E.Arithmetic Mul (E.Var 3) (constant 4 2)) (E.Var 1) ∷ [];
     locals = local_of 4 ∷ [];
   }
-  pub leaves : op_made listing ranges 3 O.Return None (memory ∷ []) ≡ nothing
+  pub leaves : op_made listing none_own ranges 3 O.Return None (memory ∷ []) ≡ nothing

@@ -12,6 +12,7 @@ use Rattle.pcode_model.specs.declared.storage.ParamStorage.TheVariants as P
 use Rattle.pcode_model.specs.declared.atoms.Atom.{Atom}
 use Rattle.pcode_model.specs.declared.flow.Block as flow_block
 use Rattle.pcode_model.specs.declared.flow.Exit.TheVariants as F
+use Rattle.pcode_model.specs.Memory.{no_frame}
 use Rattle.pcode_model.specs.Places.{place, standing}
 use Rattle.cmeaning.specs.declared.tree.StatementDivision.TheVariants as statement
 use Rattle.cmeaning.specs.declared.tree.Expr.TheVariants as E
@@ -80,7 +81,7 @@ atoms = first ∷ second ∷ []
 -- The division stands before the store, since it may end the run; the copy to memory is a local that is stored; what is
 -- tested is loaded at the end of the block, and not where both ways lead to one block.
 pub record WorkedBlocks : Type 0 where
-  pub code : lowered listing blocks atoms ≡ record {
+  pub code : lowered listing no_frame blocks atoms ≡ record {
     variables = variable_for first ∷ variable_for second ∷ local_of 4 ∷ local_of 1 ∷ [];
     blocks = record {
       body = S.Divide 1 statement.Div (E.Var 0) (E.Var 1)

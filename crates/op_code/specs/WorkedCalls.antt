@@ -11,7 +11,7 @@ use Rattle.cmeaning.specs.declared.tree.Expr.TheVariants as E
 use Rattle.cmeaning.specs.declared.tree.Stmt.{Stmt}
 use Rattle.cmeaning.specs.declared.tree.Stmt.TheVariants as S
 use Rattle.op_values.specs.Nodes.{constant, width_by}
-use Rattle.op_code.specs.Made.{Made, local_of, op_made}
+use Rattle.op_code.specs.Made.{Made, local_of, none_own, op_made}
 use Rattle.op_code.specs.Worked.{varnode}
 
 -- Four registers of four bytes, of which the second is two variables, and the fourth one is kept by both prototypes.
@@ -59,7 +59,7 @@ listing = record {
 }
 
 abbrev pub call_of : ℕ → Made
-call_of address = op_made listing ranges 6 O.Call None (varnode 1 address 4 ∷ [])
+call_of address = op_made listing none_own ranges 6 O.Call None (varnode 1 address 4 ∷ [])
 
 -- the words that are passed
 abbrev pub words : List Expr
@@ -93,24 +93,24 @@ pub record WorkedCalls : Type 0 where
   }
   pub none : call_of 0x5000 ≡ record { statements = S.Call None 0x5000 [] ∷ all_left; locals = [] }
   pub never : call_of 0x4000 ≡ record { statements = S.Call None 0x4000 words ∷ []; locals = [] }
-  pub by_register : op_made listing ranges 6 O.CallInd None (third ∷ []) ≡ record {
+  pub by_register : op_made listing none_own ranges 6 O.CallInd None (third ∷ []) ≡ record {
     statements = S.CallInd None (E.Var 3) [] ∷ all_left;
     locals = [];
   }
-  pub by_memory : op_made listing ranges 6 O.CallInd None (memory ∷ []) ≡ record {
+  pub by_memory : op_made listing none_own ranges 6 O.CallInd None (memory ∷ []) ≡ record {
     statements = S.Load 6 None there ∷ S.CallInd None (E.Var 6) [] ∷ all_left;
     locals = local_of 4 ∷ [];
   }
-  pub stores : op_made listing ranges 6 O.CallOther (Some memory) (varnode 0 3 4 ∷ first ∷ []) ≡ record {
+  pub stores : op_made listing none_own ranges 6 O.CallOther (Some memory) (varnode 0 3 4 ∷ first ∷ []) ≡ record {
     statements = S.Other (Some 6) 3 (E.Var 0 ∷ []) ∷ S.Store None there (E.Var 6) ∷ [];
     locals = local_of 4 ∷ [];
   }
-  pub sets : op_made listing ranges 6 O.CallOther (Some halves) (varnode 0 3 4 ∷ memory ∷ []) ≡ record {
+  pub sets : op_made listing none_own ranges 6 O.CallOther (Some halves) (varnode 0 3 4 ∷ memory ∷ []) ≡ record {
     statements = S.Load 6 None there ∷ S.Other (Some 7) 3 (E.Var 6 ∷ [])
         ∷ S.Assign 1 (E.Part 0 (width_by 2) (E.Var 7)) ∷ S.Assign 2 (E.Part 2 (width_by 2) (E.Var 7)) ∷ [];
     locals = local_of 4 ∷ local_of 4 ∷ [];
   }
-  pub gives_none : op_made listing ranges 6 O.CallOther None (varnode 0 3 4 ∷ []) ≡ record {
+  pub gives_none : op_made listing none_own ranges 6 O.CallOther None (varnode 0 3 4 ∷ []) ≡ record {
     statements = S.Other None 3 [] ∷ [];
     locals = [];
   }

@@ -14,7 +14,7 @@ use Rattle.cmeaning.specs.declared.tree.Expr.TheVariants as E
 use Rattle.cmeaning.specs.declared.tree.Stmt.{Stmt}
 use Rattle.cmeaning.specs.declared.tree.Stmt.TheVariants as S
 use Rattle.op_values.specs.Nodes.{constant, width_by}
-use Rattle.op_code.specs.Made.{local_of, op_made}
+use Rattle.op_code.specs.Made.{local_of, none_own, op_made}
 use Rattle.op_code.specs.Lowered.{result_in}
 use Rattle.op_code.specs.Worked.{varnode}
 
@@ -66,29 +66,29 @@ part n k w = S.Assign n (E.Part k (width_by w) (E.Var 5))
 -- stores: what several hold is stored as one word.
 -- gives: the function's result is their word.
 pub record WorkedSeveral : Type 0 where
-  pub adds_big : op_made (registers true) ranges 5 (O.Binary B.Add) (Some two) (three ∷ varnode 0 1 4 ∷ []) ≡ record {
+  pub adds_big : op_made (registers true) none_own ranges 5 (O.Binary B.Add) (Some two) (three ∷ varnode 0 1 4 ∷ []) ≡ record {
     statements = S.Assign 5 (E.Arithmetic Add three_big (constant 4 1)) ∷ part 3 3 1 ∷ part 0 0 3 ∷ [];
     locals = local_of 4 ∷ [];
   }
-  pub adds_little : op_made (registers false) ranges 5 (O.Binary B.Add) (Some two) (three ∷ varnode 0 1 4 ∷ [])
+  pub adds_little : op_made (registers false) none_own ranges 5 (O.Binary B.Add) (Some two) (three ∷ varnode 0 1 4 ∷ [])
       ≡ record {
         statements = S.Assign 5 (E.Arithmetic Add three_little (constant 4 1)) ∷ part 3 0 1 ∷ part 0 1 3 ∷ [];
         locals = local_of 4 ∷ [];
       }
-  pub one : op_made (registers false) ranges 5 (O.Binary B.Add) (Some (varnode 2 0 2))
+  pub one : op_made (registers false) none_own ranges 5 (O.Binary B.Add) (Some (varnode 2 0 2))
       (varnode 2 2 2 ∷ varnode 0 1 2 ∷ []) ≡ record {
         statements = S.Assign 2 (E.Arithmetic Add (E.Concat (E.Var 4) (E.Var 1)) (constant 2 1)) ∷ [];
         locals = [];
       }
-  pub divides : op_made (registers false) ranges 5 (O.Divide D.Quotient) (Some two) (three ∷ two ∷ []) ≡ record {
+  pub divides : op_made (registers false) none_own ranges 5 (O.Divide D.Quotient) (Some two) (three ∷ two ∷ []) ≡ record {
     statements = S.Divide 5 statement.Div three_little (E.Concat (E.Var 0) (E.Var 3)) ∷ part 3 0 1 ∷ part 0 1 3 ∷ [];
     locals = local_of 4 ∷ [];
   }
-  pub loads : op_made (registers true) ranges 5 O.Load (Some two) (varnode 0 1 4 ∷ three ∷ []) ≡ record {
+  pub loads : op_made (registers true) none_own ranges 5 O.Load (Some two) (varnode 0 1 4 ∷ three ∷ []) ≡ record {
     statements = S.Load 5 None three_big ∷ part 3 3 1 ∷ part 0 0 3 ∷ [];
     locals = local_of 4 ∷ [];
   }
-  pub stores : op_made (registers true) ranges 5 (O.Unary U.Copy) (Some memory) (three ∷ []) ≡ record {
+  pub stores : op_made (registers true) none_own ranges 5 (O.Unary U.Copy) (Some memory) (three ∷ []) ≡ record {
     statements = S.Assign 5 three_big ∷ S.Store None (constant 4 0x2000) (E.Var 5) ∷ [];
     locals = local_of 4 ∷ [];
   }

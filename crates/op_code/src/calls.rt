@@ -186,7 +186,8 @@ pub(crate) fn add_call(
     requires left { IsLeft listing.now table.now left.now }
     requires few { length variables.old ≤ 2 ^ 32 }
     ensures { OnOk result (Adds variables.old variables.new body.old body.new
-        (op_made listing.now (own_of own.now) table.now (length variables.old) Opcode.Call op.now.out op.now.inputs)) }
+        (op_made listing.now (own_of own.now) table.now (length variables.old)
+        Opcode.Call op.now.out op.now.inputs)) }
 {
     let callee = op.input(0).offset;
     let proto = proto_called(listing, callee);
@@ -219,7 +220,8 @@ pub(crate) fn add_indirect_call(
     requires left { IsLeft listing.now table.now left.now }
     requires few { length variables.old ≤ 2 ^ 32 }
     ensures { OnOk result (Adds variables.old variables.new body.old body.new
-        (op_made listing.now (own_of own.now) table.now (length variables.old) Opcode.CallInd op.now.out op.now.inputs)) }
+        (op_made listing.now (own_of own.now) table.now (length variables.old)
+        Opcode.CallInd op.now.out op.now.inputs)) }
 {
     let proto = listing.func.proto;
     let callee = read_input(alloc, listing, table, variables, body, op, 0)?;

@@ -5,6 +5,7 @@ ghost use Rattle.pcode_model.specs.Frame.{own_in, wrapped};
 ghost use Rattle.range_words.specs.Own.{centred as centred_in, frame_range as range_of, stack_size as stack_size_of};
 ghost use Rattle.op_code.specs.FrameTable.{HasFrameRanges, own_at, own_of};
 
+use crate::memory::offset_bytes;
 use bits_core::Memory;
 use pcode_model::ranges::number_of;
 use pcode_model::{Frame, Listing, Place, SpaceKind, Varnode};
@@ -19,6 +20,7 @@ pub struct FrameTable {
 }
 
 /// The accesses of frame variables of the op at a place.
+#[derive(Drop)]
 pub struct OwnAccesses<'a> {
     table: &'a FrameTable,
     place: Place,
@@ -30,11 +32,8 @@ fn stack_size(listing: &Listing) -> u128
     ensures size { result ≡ stack_size_of listing.now }
     ensures some { 0 < result }
 {
-    let spaces = listing.spaces.as_slice();
-    let bytes = match spaces.get(number_of(SpaceKind::Ram, spaces)) {
-        Some(space) => space.size,
-        None => 0,
-    };
+    let ram = number_of(SpaceKind::Ram, listing.spaces.as_slice()) as u64;
+    let bytes = offset_bytes(listing, ram);
     1u128 << (8 * u32::from(bytes))
 }
 

@@ -45,7 +45,8 @@ pub(crate) fn space_name(
     }
 }
 
-fn offset_bytes(listing: &Listing, number: u64) -> u8
+/// The bytes of an offset in a space.
+pub(crate) fn offset_bytes(listing: &Listing, number: u64) -> u8
     ensures { result ≡ offset_bytes_of listing.now number }
 {
     match space(listing, number) {

@@ -140,7 +140,8 @@ fn load_above(
     bytes: u32,
     size: u32,
 ) -> Result<Expr, Memory>
-    ensures word { IfOk result (λ e. e ≡ (read_stack None listing.now table.now (length variables.old) bytes size).word) }
+    ensures word { IfOk result (λ e.
+        e ≡ (read_stack None listing.now table.now (length variables.old) bytes size).word) }
     ensures added { OnOk result (Adds variables.old variables.new body.old body.new
         (before_one (read_stack None listing.now table.now (length variables.old) bytes size))) }
 {
@@ -168,7 +169,8 @@ fn read_argument(
     requires frame { HasFrameRanges listing.now }
     requires few { length variables.old ≤ 2 ^ 32 }
     ensures word { IfOk result (λ e.
-        e ≡ (read_operand listing.now (own_of own.now) table.now (length variables.old) (operand_of number argument)).word) }
+        e ≡ (read_operand listing.now (own_of own.now) table.now (length variables.old)
+        (operand_of number argument)).word) }
     ensures added { OnOk result (Adds variables.old variables.new body.old body.new
         (before_one (read_operand listing.now (own_of own.now) table.now (length variables.old)
         (operand_of number argument)))) }
@@ -196,9 +198,11 @@ pub(crate) fn read_arguments(
     requires frame { HasFrameRanges listing.now }
     requires few { length variables.old ≤ 2 ^ 32 }
     ensures words { IfOk result (λ es.
-        es ≡ (reads listing.now (own_of own.now) table.now (length variables.old) (operands_of 0 arguments.now)).words) }
+        es ≡ (reads listing.now (own_of own.now) table.now (length variables.old)
+        (operands_of 0 arguments.now)).words) }
     ensures added { OnOk result (Adds variables.old variables.new body.old body.new
-        (before (reads listing.now (own_of own.now) table.now (length variables.old) (operands_of 0 arguments.now)))) }
+        (before (reads listing.now (own_of own.now) table.now (length variables.old)
+        (operands_of 0 arguments.now)))) }
 {
     let mut words = Exprs::new(alloc);
     for at in 0..arguments.len() {

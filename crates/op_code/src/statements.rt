@@ -146,7 +146,8 @@ fn add_load(
     requires frame { HasFrameRanges listing.now }
     requires few { length variables.old ≤ 2 ^ 32 }
     ensures { OnOk result (Adds variables.old variables.new body.old body.new
-        (op_made listing.now (own_of own.now) table.now (length variables.old) Opcode.Load op.now.out op.now.inputs)) }
+        (op_made listing.now (own_of own.now) table.now (length variables.old)
+        Opcode.Load op.now.out op.now.inputs)) }
 {
     let Some(at) = own.offset(0) else {
         return add_pointer_load(alloc, listing, table, variables, body, op);
@@ -191,7 +192,8 @@ fn add_store(
     requires frame { HasFrameRanges listing.now }
     requires few { length variables.old ≤ 2 ^ 32 }
     ensures { OnOk result (Adds variables.old variables.new body.old body.new
-        (op_made listing.now (own_of own.now) table.now (length variables.old) Opcode.Store op.now.out op.now.inputs)) }
+        (op_made listing.now (own_of own.now) table.now (length variables.old)
+        Opcode.Store op.now.out op.now.inputs)) }
 {
     let Some(at) = own.offset(0) else {
         return add_pointer_store(alloc, listing, table, variables, body, op);

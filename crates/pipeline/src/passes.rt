@@ -35,8 +35,8 @@ pub fn lower(alloc: Global, accepted: &Accepted) -> Result<CFunction, Memory>
     let code = plain(
         alloc,
         listing,
-        &accepted.flow,
         &accepted.frame,
+        &accepted.flow,
         &accepted.atoms,
     )?;
     let name = Name::from_slice(alloc, listing.func.name.as_slice())?;

@@ -81,12 +81,7 @@ fn stack_variables(alloc: Global, listing: &Listing, flow: &Flow) -> Result<Fram
 }
 
 // The atoms: each is a variable.
-fn variables(
-    alloc: Global,
-    listing: &Listing,
-    flow: &Flow,
-    frame: &Frame,
-) -> Result<Atoms, Refusal>
+fn variables(alloc: Global, listing: &Listing, flow: &Flow, frame: &Frame) -> Result<Atoms, Refusal>
     requires formed { IsWellFormed listing.now }
     requires ops { first_bad listing.now ≡ None }
     requires flow { IsFlow listing.now [] flow.now }

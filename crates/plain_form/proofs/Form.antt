@@ -1,5 +1,5 @@
 -- A supported listing with its frame, its blocks and its atoms has all that the plain lowering's theorem asks for.
-use Rattle.std.proofs.Common.{◌≡◌, ◌≤◌, List, [], None, length, refl, inl, arith}
+use Rattle.std.proofs.Common.{◌≡◌, ◌≤◌, List, [], None, length, refl, inl, inr, arith}
 use Rattle.pcode_model.specs.declared.atoms.Atom.{Atom}
 use Rattle.pcode_model.specs.declared.flow.Block.{Block}
 use Rattle.pcode_model.specs.declared.frame.Frame.{Frame}
@@ -12,7 +12,7 @@ use Rattle.pcode_model.specs.Atoms.{Accesses, AreAtoms, range}
 use Rattle.pcode_model.specs.Flow.{IsFlow, IsIn, NoFault}
 use Rattle.pcode_model.specs.Frame.{frame_of}
 use Rattle.pcode_model.specs.Rules.{first_bad}
-use Rattle.pcode_model.specs.Spaces.{register_space}
+use Rattle.pcode_model.specs.Spaces.{register_space, unique_space}
 use Rattle.pcode_model.specs.WellFormed.{IsWellFormed}
 use Rattle.frame_facts.specs.Listed.{IsFrame}
 use Rattle.supported.specs.Supported.{IsSupported}
@@ -65,6 +65,7 @@ plain_form l read good sup evaluated f frame blocks flow fine few atoms are =
       narrow = atoms_narrow l read inner f known atoms are;
       even = even l read;
       registers = λ e. off_frame l read (register_space l) (inl refl) e;
+      uniques = λ e. off_frame l read (unique_space l) (inr refl) e;
       plain = plain_at l read good sup (frame_of l f) (ranges_of l atoms) covered
           (λ p k among is. splits l read f k (kept_of l.protos p k among is) atoms are)
           (λ p i op n c here own. owned l read inner f known atoms are evaluated frame p i op n c here own)

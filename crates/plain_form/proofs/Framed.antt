@@ -1,8 +1,8 @@
 -- Each access of a listing's frame has 1 to 16 bytes and begins near the stack pointer's entry word.
-use Rattle.std.proofs.Common.{◌≡◌, ◌≢◌, ◌∙◌, ◌<◌, ◌≤◌, ◌^◌, ℕ, suc, Bool, true, false, List, [], ◌∷◌, Option, Some, None, length, refl, inl, inr, ⊎_elim, sym, subst, ap, arith, eq-eqb}
-use Rattle.std.specs.Prelude.{◌==◌, cond, ℤ, pos, neg_ℤ, ◌≤ℤ◌}
+use Rattle.std.proofs.Common.{◌≡◌, ◌<◌, ◌≤◌, ◌^◌, ℕ, suc, Bool, true, false, List, [], ◌∷◌, Option, Some, None, length, refl, inl, inr, ⊎_elim, sym, subst, ap, arith}
+use Rattle.std.specs.Prelude.{◌==◌, cond}
 use Rattle.std.specs.List.{AllByRecursion}
-use Rattle.std.proofs.lemmas.Bool.{cases_eq, ne_eqb, not-false}
+use Rattle.std.proofs.lemmas.Bool.{not-false}
 use Rattle.std.proofs.lemmas.Int.{ints}
 use Rattle.pcode_model.specs.declared.frame.Frame.{Frame}
 use Rattle.pcode_model.specs.declared.frame.FrameAccess.{FrameAccess}
@@ -20,7 +20,7 @@ use Rattle.pcode_model.specs.declared.tables.TableAt.{TableAt}
 use Rattle.pcode_model.specs.Atoms.{one_range}
 use Rattle.pcode_model.specs.Flow.{IsIn}
 use Rattle.pcode_model.specs.Rules.{first_bad, has_operands, input_ranges, operands_of}
-use Rattle.pcode_model.specs.Step.{Operand, Reads, arguments, callee_at, operands, proto_of, size_out, varnode_at}
+use Rattle.pcode_model.specs.Step.{Operand, Reads, arguments, callee_at, proto_of, size_out, varnode_at}
 use Rattle.pcode_model.specs.WellFormed.{IsArgument, IsWellFormed}
 use Rattle.instructions.proofs.Standing.{StandsIn, stands_in}
 use Rattle.pcode_laws.proofs.Rules.{breaks_none}

@@ -1,12 +1,11 @@
 -- The first ram space has two halves, and where there is a stack pointer the frame has room in both: an offset from the
 -- entry word, counted from half the space below it, stands that much higher.
-use Rattle.std.proofs.Common.{◌≡◌, ◌∙◌, ◌<◌, ◌≤◌, ◌+◌, ◌-◌, ◌*◌, ◌/◌, ◌%◌, ◌^◌, ℕ, zero, suc, Bool, true, false, Option, Some, None, refl, inl, inr, sym, ap, subst, ⊎_elim, arith, lit<, nat_lt}
-use Rattle.std.specs.Prelude.{◌==◌, cond, slice_get, IfSome, ℤ, pos, negsuc, ◌+ℤ◌, ◌≤ℤ◌, ◌<ℤ◌}
+use Rattle.std.proofs.Common.{◌≡◌, ◌∙◌, ◌<◌, ◌≤◌, ◌+◌, ◌-◌, ◌*◌, ◌%◌, ◌^◌, ℕ, zero, suc, true, false, Some, refl, inl, inr, sym, ap, subst, ⊎_elim, arith, lit<, nat_lt}
+use Rattle.std.specs.Prelude.{cond, slice_get, IfSome, ℤ, pos, negsuc, ◌+ℤ◌, ◌≤ℤ◌, ◌<ℤ◌}
 use Rattle.std.proofs.Math.Nat.{mod-eq_of_lt, pow-le-pow_right, pow-suc}
-use Rattle.std.proofs.lemmas.Bool.{cases_eq, eq-eqb, ne_eqb}
+use Rattle.std.proofs.lemmas.Bool.{cases_eq, ne_eqb}
 use Rattle.std.proofs.lemmas.Bool.Decides.{nat_tests}
 use Rattle.std.proofs.lemmas.Int.{ints}
-use Rattle.bits_core.specs.Value.{limit}
 use Rattle.pcode_model.specs.declared.listing.Listing.{Listing}
 use Rattle.pcode_model.specs.declared.listing.SpaceKind.TheVariants.{Ram, Register, Unique}
 use Rattle.pcode_model.specs.declared.listing.Varnode.{Varnode}

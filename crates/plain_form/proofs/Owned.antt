@@ -1,6 +1,6 @@
 -- Each access of a listing's frame is a row of the atoms' variables, and what an op accesses there is what it reaches.
-use Rattle.std.proofs.Common.{◌≡◌, ◌≢◌, ◌∙◌, ◌<◌, ◌≤◌, ◌+◌, ℕ, List, [], ◌∷◌, Option, Some, None, refl, inl, inr, ◌⊎◌, ⊎_elim, sym, ap, subst, arith}
-use Rattle.std.specs.Prelude.{slice_get, ℤ, pos, negsuc, neg_ℤ, ◌+ℤ◌, ◌-ℤ◌}
+use Rattle.std.proofs.Common.{◌≡◌, ◌≢◌, ◌∙◌, ◌<◌, ℕ, List, [], Some, refl, inl, inr, ◌⊎◌, ⊎_elim, sym, ap, subst, arith}
+use Rattle.std.specs.Prelude.{ℤ, pos, negsuc, neg_ℤ, ◌-ℤ◌}
 use Rattle.std.proofs.lemmas.Bool.{cases_eq}
 use Rattle.std.proofs.lemmas.Int.{ints}
 use Rattle.pcode_model.specs.declared.atoms.Atom.{Atom}
@@ -13,7 +13,6 @@ use Rattle.pcode_model.specs.declared.listing.Place.{Place}
 use Rattle.pcode_model.specs.declared.listing.Varnode.{Varnode}
 use Rattle.pcode_model.specs.declared.storage.ParamStorage.{ParamStorage}
 use Rattle.pcode_model.specs.declared.storage.ParamStorage.TheVariants as P
-use Rattle.pcode_model.specs.declared.tables.TableAt.{TableAt}
 use Rattle.pcode_model.specs.Atoms.{Accesses, AreAtoms, IsAccessed, Stacked, area_of, range, varnode}
 use Rattle.pcode_model.specs.Flow.{IsIn}
 use Rattle.pcode_model.specs.Frame.{own_in, wrapped}
@@ -21,7 +20,7 @@ use Rattle.pcode_model.specs.Places.{Does, standing}
 use Rattle.pcode_model.specs.Spaces.{first_ram}
 use Rattle.pcode_model.specs.WellFormed.{IsWellFormed}
 use Rattle.range_words.specs.Own.{centred, frame_range, half, stack_size}
-use Rattle.frame_facts.specs.Accesses.{IsVariableAccess, Reach, reaches}
+use Rattle.frame_facts.specs.Accesses.{Reach, reaches}
 use Rattle.frame_facts.specs.Listed.{IsFrame}
 use Rattle.frame_facts.proofs.Reaches.{same_op}
 use Rattle.frame_facts.proofs.Numbers.{wrapped_below}

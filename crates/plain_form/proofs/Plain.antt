@@ -1,8 +1,7 @@
 -- What stands at a reached place of a supported listing has the form that the plain lowering asks for.
-use Rattle.std.proofs.Common.{◌≡◌, ◌<◌, ◌++◌, ℕ, suc, ap, Bool, true, false, List, [], ◌∷◌, Option, Some, None, length, refl, inl, inr, sym, subst, ◌∙◌, arith}
-use Rattle.std.specs.Prelude.{◌&&◌, nat_le, not, IfSome, IsSome}
+use Rattle.std.proofs.Common.{◌≡◌, ◌<◌, ◌++◌, ℕ, suc, ap, true, false, List, [], ◌∷◌, Option, Some, None, length, refl, inl, inr, sym, subst, ◌∙◌, arith}
+use Rattle.std.specs.Prelude.{◌&&◌, not, IfSome, IsSome}
 use Rattle.std.specs.List.{AllByRecursion}
-use Rattle.std.proofs.lemmas.Bool.Decides.{nat_tests}
 use Rattle.std.proofs.lemmas.Bool.{and_parts, eqb-true, not-false}
 use Rattle.bits_core.specs.Value.{limit}
 use Rattle.bits_core.specs.declared.ops.Divide.{Divide}
@@ -23,7 +22,6 @@ use Rattle.pcode_model.specs.declared.listing.Storage.{Storage}
 use Rattle.pcode_model.specs.declared.listing.Storage.TheVariants.{At, Stack}
 use Rattle.pcode_model.specs.declared.rules.OpWhy.{OpWhy}
 use Rattle.pcode_model.specs.declared.rules.OpWhy.TheVariants.{Arity, BadSpace, SizeRule}
-use Rattle.pcode_model.specs.declared.rules.Output.TheVariants as output
 use Rattle.pcode_model.specs.Memory.{Frame}
 use Rattle.pcode_model.specs.Flow.{IsIn, Reached, Fails, NoFault, standing_ways}
 use Rattle.pcode_model.specs.declared.flow.FlowWhy.TheVariants.{NoTarget}
@@ -31,7 +29,7 @@ use Rattle.pcode_model.specs.Spaces.{first_ram, kind_of, register_space}
 use Rattle.pcode_model.specs.Places.{Standing, Nothing, Passes, Does, standing}
 use Rattle.pcode_model.specs.Step.{Operand, ReadsStack, all_read, arguments, callee_at, operands, proto_of, size_out, varnode_at}
 use Rattle.pcode_model.specs.Atoms.{Accesses, IsLocal, further_ranges, one_range, op_ranges, ranges_in, ranges_read}
-use Rattle.pcode_model.specs.Rules.{breaks, first_bad, has_operands, has_output, inputs_stand, leaves_space, names_ram, operands_of, output_is_constant, rules, sizes_fit}
+use Rattle.pcode_model.specs.Rules.{breaks, first_bad, has_operands, inputs_stand, leaves_space, names_ram, operands_of, output_is_constant, rules, sizes_fit}
 use Rattle.pcode_model.specs.WellFormed.{IsArgument, IsStorage, IsWellFormed, ShareNothing}
 use Rattle.supported.specs.Supported.{IsSupported, is_supported_code}
 use Rattle.stackvars.specs.Accesses.{passed}
@@ -400,9 +398,10 @@ module _
           all_passed [] all j among g = tt
           all_passed (At v ∷ args) all j among g =
               (g v (inl refl), all_passed args all.1 (suc j) (λ x is. among x (inr is)) (λ w is. g w (inr is)))
-          all_passed (Stack offset size ∷ args) all j among g =
-              (((all.0.0, all.0.1), by l.stack refl all.0.3),
-              all_passed args all.1 (suc j) (λ x is. among x (inr is)) g)
+          all_passed (Stack offset size ∷ args) all j among g = (
+            ((all.0.0, all.0.1), by l.stack refl all.0.3),
+            all_passed args all.1 (suc j) (λ x is. among x (inr is)) g,
+          )
             where
               by : (o : Option Varnode) → l.stack ≡ o → IsSome o → IsOnStack (f.own p j) l ranges size
               by None e some = absurd (cc)
@@ -449,8 +448,8 @@ module _
       callable q declared args further reached_by =
           let apart = all_apart q.gives l.stack q.keep declared.is.kept_apart in
           let pointer : (v : Varnode)
-              → IsIn v (one_range l.stack)
-              → IsIn v (further_ranges l None op.code op.inputs) =
+          → IsIn v (one_range l.stack)
+          → IsIn v (further_ranges l None op.code op.inputs) =
           λ v is. further v (behind (one_range q.gives) (one_range l.stack) v is) in
           record {
             args = all_passed q pointer reached_by q.args declared.is.args 0 (λ x is. is) (λ v is. operand v (args v is));

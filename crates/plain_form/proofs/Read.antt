@@ -1,6 +1,6 @@
 -- What the reader and the rules of operations promise of the spaces of a listing, of the ranges of its ops and of the
 -- function's result.
-use Rattle.std.proofs.Common.{◌≡◌, ◌≤◌, ◌<◌, ◌+◌, ◌^◌, ◌⊎◌, ℕ, zero, suc, Bool, true, false, List, [], ◌∷◌, Option, Some, None, length, refl, inl, inr, sym, subst, ap, ◌∙◌, arith, lit<}
+use Rattle.std.proofs.Common.{◌≡◌, ◌≤◌, ◌<◌, ◌+◌, ◌^◌, ◌⊎◌, ℕ, Bool, true, false, List, [], ◌∷◌, Option, Some, None, refl, inl, inr, sym, subst, ap, ◌∙◌, arith, lit<}
 use Rattle.std.specs.Prelude.{◌==◌, ◌&&◌, if◌then◌else◌, not, IfSome}
 use Rattle.std.specs.List.{AllByRecursion}
 use Rattle.std.proofs.Math.Bool.{and-false}
@@ -18,7 +18,6 @@ use Rattle.pcode_model.specs.Atoms.{IsLocal, one_range}
 use Rattle.pcode_model.specs.Flow.{IsIn}
 use Rattle.pcode_model.specs.Rules.{breaks, first_bad, input_ranges, inputs_stand, is_out_of_space, is_too_wide, names_address, output_is_constant, past_first, rules}
 use Rattle.pcode_model.specs.Spaces.{kind_of, register_space, same_kind, size_of, unique_space}
-use Rattle.pcode_model.specs.Ranges.{leaves}
 use Rattle.pcode_model.specs.Step.{proto_of, varnode_at}
 use Rattle.pcode_model.specs.WellFormed.{HasKnownOps, HasOps, IsKnown, IsKnownOp, IsOp, IsOperand, IsProto, IsStorage, IsWellFormed}
 use Rattle.pcode_model.proofs.Members.{of_member}

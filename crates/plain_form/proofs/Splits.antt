@@ -10,10 +10,10 @@ use Rattle.pcode_model.specs.declared.frame.Frame.{Frame}
 use Rattle.pcode_model.specs.declared.listing.Listing.{Listing}
 use Rattle.pcode_model.specs.declared.listing.Proto.{Proto}
 use Rattle.pcode_model.specs.declared.listing.Varnode.{Varnode}
-use Rattle.pcode_model.specs.Atoms.{AreAtoms, IsAtom, IsCut, Registers, kept_ranges, range, registers_at, varnode}
+use Rattle.pcode_model.specs.Atoms.{AreAtoms, IsAtom, IsCut, Registers, kept_ranges, range, registers_at}
 use Rattle.pcode_model.specs.Flow.{IsIn}
 use Rattle.pcode_model.specs.Ranges.{meets}
-use Rattle.pcode_model.specs.Spaces.{register_space, unique_space}
+use Rattle.pcode_model.specs.Spaces.{register_space}
 use Rattle.pcode_model.specs.WellFormed.{IsWellFormed, ShareNothing}
 use Rattle.pcode_model.proofs.Members.{behind, in_front}
 use Rattle.stackvars.proofs.Reach.{spaces_differ}

@@ -1,6 +1,6 @@
 -- The ranges of a listing's atoms are a table: each lies inside its space, and no two share a byte, since an atom that
 -- began inside another one would cut it. Each has 1 to 16 bytes.
-use Rattle.std.proofs.Common.{◌≡◌, ◌∙◌, ◌≤◌, ◌<◌, ◌+◌, ◌-◌, ℕ, zero, suc, List, [], ◌∷◌, Some, refl, inl, inr, sym, subst, ap, arith, ⊎_elim}
+use Rattle.std.proofs.Common.{◌≡◌, ◌∙◌, ◌≤◌, ◌<◌, ◌+◌, ℕ, zero, suc, List, [], ◌∷◌, Some, refl, inl, inr, sym, subst, ap, arith, ⊎_elim}
 use Rattle.std.specs.Prelude.{slice_get, pos, ℤ, ◌+ℤ◌, ◌≤ℤ◌, ◌<ℤ◌}
 use Rattle.std.proofs.lemmas.Bool.{cases_lt}
 use Rattle.std.proofs.lemmas.Int.{ints}

@@ -26,6 +26,7 @@ use Rattle.pcode_model.specs.World.{shown, unless_over}
 use Rattle.pcode_model.specs.Step.{State, callee_at, machine, proto_of, returns, step, step_at, varnode_at}
 use Rattle.pcode_model.specs.Flow.{IsIn, IsFlow, JumpsTo, LeavesBy, Reached, RunsBlock, call_turn, turn_in, turn_of, AllRun, starts_of, places_of, first_in}
 use Rattle.pcode_laws.specs.AsBytes.{AsBytes}
+use Rattle.range_words.specs.Own.{HasOwn}
 use Rattle.pcode_laws.proofs.Grows.{pcode_grows}
 use Rattle.cmeaning.specs.declared.tree.Expr.{Expr}
 use Rattle.cmeaning.specs.declared.tree.Stmt.{Stmt}
@@ -40,9 +41,9 @@ use Rattle.blockcode.proofs.Grows.{code_grows}
 use Rattle.blockcode.proofs.Straight.{step_in, still, Stands, arrives, returns_in}
 use Rattle.op_code.proofs.Sees.{AreWide, Sees, Setting, wide_back, wide_front}
 use Rattle.op_code.specs.Form.{IsPlainOp}
-use Rattle.op_code.specs.Made.{ReadOne, call_made, op_made, passed}
+use Rattle.op_code.specs.Made.{Own, ReadOne, call_made, op_made, passed}
 use Rattle.op_code.specs.Lowered.{block_made, blocks_made, condition_in, directly, made_in, place_made, places_made, result, tests, way_out}
-use Rattle.op_code.specs.Lowerable.{IsPlain, IsUnframed}
+use Rattle.op_code.specs.Lowerable.{IsPlain}
 use Rattle.plain_laws.proofs.Exits.{Left, Leaving, goes_to, jump_returns, leaves}
 use Rattle.pcode_model.proofs.Members.{in_front, behind}
 
@@ -102,34 +103,34 @@ in_block (x ∷ blocks) zero b p e h =
 in_block (x ∷ blocks) (suc n) b p e h = behind x.places (places_of blocks) p (in_block blocks n b p e h)
 
 -- The block of code of a number, and the number from which its locals count.
-record MadeAt (l : Listing) (ranges : List Varnode) (ws : ℕ → ℕ) (first : ℕ) (blocks : List Block)
+record MadeAt (l : Listing) (owns : Place → Own) (ranges : List Varnode) (ws : ℕ → ℕ) (first : ℕ) (blocks : List Block)
     (b : flow_block.Block) (n : ℕ) : Type 0 where
   next : ℕ
   later : first ≤ next
-  get : slice_get blocks n ≡ Some (block_made l ranges next b).block
-  wide : AreWide ws next (block_made l ranges next b).locals
+  get : slice_get blocks n ≡ Some (block_made l owns ranges next b).block
+  wide : AreWide ws next (block_made l owns ranges next b).locals
 
-made_at : (l : Listing) (ranges : List Varnode) (ws : ℕ → ℕ) (blocks : List flow_block.Block) (first n : ℕ)
-    (b : flow_block.Block)
+made_at : (l : Listing) (owns : Place → Own) (ranges : List Varnode) (ws : ℕ → ℕ) (blocks : List flow_block.Block)
+    (first n : ℕ) (b : flow_block.Block)
     → slice_get blocks n ≡ Some b
-    → AreWide ws first (blocks_made l ranges first blocks).locals
-    → MadeAt l ranges ws first (blocks_made l ranges first blocks).blocks b n
-made_at l ranges ws [] first n b e wide = absurd (cc)
-made_at l ranges ws (x ∷ blocks) first zero b e wide =
+    → AreWide ws first (blocks_made l owns ranges first blocks).locals
+    → MadeAt l owns ranges ws first (blocks_made l owns ranges first blocks).blocks b n
+made_at l owns ranges ws [] first n b e wide = absurd (cc)
+made_at l owns ranges ws (x ∷ blocks) first zero b e wide =
     let same : x ≡ b = cc in
-    let locals = (block_made l ranges first x).locals in
-    let rest = (blocks_made l ranges (first + length locals) blocks).locals in
-    let P : flow_block.Block → Type 0 = λ y. AreWide ws first (block_made l ranges first y).locals in
+    let locals = (block_made l owns ranges first x).locals in
+    let rest = (blocks_made l owns ranges (first + length locals) blocks).locals in
+    let P : flow_block.Block → Type 0 = λ y. AreWide ws first (block_made l owns ranges first y).locals in
     record {
       next = first;
       later = omega arith;
-      get = ap (λ y. Some (block_made l ranges first y).block) same;
+      get = ap (λ y. Some (block_made l owns ranges first y).block) same;
       wide = subst P same (wide_front ws first locals rest wide);
     }
-made_at l ranges ws (x ∷ blocks) first (suc n) b e wide =
-    let locals = (block_made l ranges first x).locals in
-    let rest = (blocks_made l ranges (first + length locals) blocks).locals in
-    let r = made_at l ranges ws blocks (first + length locals) n b e (wide_back ws first locals rest wide) in
+made_at l owns ranges ws (x ∷ blocks) first (suc n) b e wide =
+    let locals = (block_made l owns ranges first x).locals in
+    let rest = (blocks_made l owns ranges (first + length locals) blocks).locals in
+    let r = made_at l owns ranges ws blocks (first + length locals) n b e (wide_back ws first locals rest wide) in
     record { next = r.next; later = omega (arith, r.later); get = r.get; wide = r.wide }
 
 -- ---- calls
@@ -159,66 +160,68 @@ test_behind c m n true (a ∷ zs) = refl
 test_behind c m n false [] = refl
 test_behind c m n false (a ∷ zs) = refl
 
-module _ (l : Listing) (ranges : List Varnode) where
-  switches_none : (code : Opcode) (out : Option Varnode) (vs : List Varnode)
-      → IsPlainOp l ranges code out vs
+module _ (l : Listing) (owns : Place → Own) (ranges : List Varnode) where
+  switches_none : (own : Own) (code : Opcode) (out : Option Varnode) (vs : List Varnode)
+      → IsPlainOp l own ranges code out vs
       → turn_of l code vs ≡ Switches
       → ⊥
-  switches_none O.BranchInd out vs h turn = absurd h
-  switches_none O.Call out vs h turn = by (returns (callee_at l (varnode_at vs 0).offset)) turn
+  switches_none own O.BranchInd out vs h turn = absurd h
+  switches_none own O.Call out vs h turn = by (returns (callee_at l (varnode_at vs 0).offset)) turn
     where
       by : (b : Bool) → call_turn b ≡ Switches → ⊥
       by true e = absurd (cc)
       by false e = absurd (cc)
-  switches_none code out vs h turn = absurd (cc)
+  switches_none own code out vs h turn = absurd (cc)
 
   -- a call of a callee that never returns is a statement
-  call_some : (b : Bool) (next address : ℕ) (p : Proto) (way : List Stmt) (ss : List Stmt)
+  call_some : (own : Own) (b : Bool) (next address : ℕ) (p : Proto) (way : List Stmt) (ss : List Stmt)
       → call_turn b ≡ Stops
-      → ss ++ ((call_made b l ranges next address p).statements ++ way) ≡ []
+      → ss ++ ((call_made b l own ranges next address p).statements ++ way) ≡ []
       → ⊥
-  call_some true next address p way ss turn e = absurd (cc)
-  call_some false next address p way ss turn e =
-      let r = passed l ranges next p in
+  call_some own true next address p way ss turn e = absurd (cc)
+  call_some own false next address p way ss turn e =
+      let r = passed l own ranges next p in
       in_it r.loads way (S.Call None address r.words) ss
       (ap (λ zs. ss ++ zs) (sym (append_assoc r.loads (S.Call None address r.words ∷ []) way)) ∙ e)
 
-  stops_some : (next : ℕ) (code : Opcode) (out : Option Varnode) (vs : List Varnode) (way : List Stmt) (ss : List Stmt)
-      → IsPlainOp l ranges code out vs
+  stops_some : (own : Own) (next : ℕ) (code : Opcode) (out : Option Varnode) (vs : List Varnode)
+      (way ss : List Stmt)
+      → IsPlainOp l own ranges code out vs
       → turn_of l code vs ≡ Stops
-      → ss ++ ((op_made l ranges next code out vs).statements ++ way) ≡ []
+      → ss ++ ((op_made l own ranges next code out vs).statements ++ way) ≡ []
       → ⊥
-  stops_some next O.Call out vs way ss h turn e =
+  stops_some own next O.Call out vs way ss h turn e =
       let a = (varnode_at vs 0).offset in
-      call_some (returns (callee_at l a)) next a (proto_of l (callee_at l a)) way ss turn e
-  stops_some next O.BranchInd out vs way ss h turn e = absurd h
-  stops_some next code out vs way ss h turn e = absurd (cc)
+      call_some own (returns (callee_at l a)) next a (proto_of l (callee_at l a)) way ss turn e
+  stops_some own next O.BranchInd out vs way ss h turn e = absurd h
+  stops_some own next code out vs way ss h turn e = absurd (cc)
 
   -- what stands for the last place
   last_by : (t : List TableAt) (starts : List Place) (p : Place) (next k : ℕ) (i : Instruction) (op : Op) (turn : Turn)
       (e : flow_exit.Exit)
-      → IsPlainOp l ranges op.code op.out op.inputs
+      → IsPlainOp l (owns p) ranges op.code op.out op.inputs
       → turn_of l op.code op.inputs ≡ turn
       → LeavesBy t starts p (Does i op) turn e
       → (let way = way_out l ranges k (Does i op) e in
-      GoesBehind ((op_made l ranges next op.code op.out op.inputs).statements ++ way.loads) way.exit)
+      GoesBehind ((op_made l (owns p) ranges next op.code op.out op.inputs).statements ++ way.loads) way.exit)
   last_by t starts p next k i op turn F.Return h is by ss = return_behind (result l ranges) (ss ++ _)
   last_by t starts p next k i op turn (F.Jump n) h is by ss = jump_returns n (ss ++ _)
   last_by t starts p next k i op turn (F.Test m n) h is by ss =
       test_behind (condition_in l ranges k (Does i op)) m n (m == n) (ss ++ _)
   last_by t starts p next k i op Switches (F.Switch table ns) h is by ss =
-      absurd (switches_none op.code op.out op.inputs h is)
+      absurd (switches_none (owns p) op.code op.out op.inputs h is)
   last_by t starts p next k i op GoesOn (F.Switch table ns) h is by ss = absurd by
   last_by t starts p next k i op Returns (F.Switch table ns) h is by ss = absurd (cc)
   last_by t starts p next k i op Stops (F.Switch table ns) h is by ss = absurd (cc)
   last_by t starts p next k i op (Branches to) (F.Switch table ns) h is by ss = absurd by
   last_by t starts p next k i op (Tests to) (F.Switch table ns) h is by ss = absurd by
-  last_by t starts p next k i op Switches F.Stop h is by ss = absurd (switches_none op.code op.out op.inputs h is)
+  last_by t starts p next k i op Switches F.Stop h is by ss =
+      absurd (switches_none (owns p) op.code op.out op.inputs h is)
   last_by t starts p next k i op GoesOn F.Stop h is by ss = absurd by
   last_by t starts p next k i op Returns F.Stop h is by ss = absurd (cc)
   last_by t starts p next k i op Stops F.Stop h is by ss =
-      some_returns (ss ++ ((op_made l ranges next op.code op.out op.inputs).statements ++ [])) X.Stop
-      (stops_some next op.code op.out op.inputs [] ss h is)
+      some_returns (ss ++ ((op_made l (owns p) ranges next op.code op.out op.inputs).statements ++ [])) X.Stop
+      (stops_some (owns p) next op.code op.out op.inputs [] ss h is)
   last_by t starts p next k i op (Branches to) F.Stop h is by ss = absurd by
   last_by t starts p next k i op (Tests to) F.Stop h is by ss = absurd by
 
@@ -233,10 +236,10 @@ module _ (l : Listing) (ranges : List Varnode) where
 
   last_behind : (t : List TableAt) (starts : List Place) (p : Place) (next k : ℕ) (here : Standing)
       (e : flow_exit.Exit)
-      → IsPlain l ranges here
+      → IsPlain l (owns p) ranges here
       → LeavesBy t starts p here (turn_in l here) e
       → (let way = way_out l ranges k here e in
-      GoesBehind ((made_in l ranges next here).statements ++ way.loads) way.exit)
+      GoesBehind ((made_in l (owns p) ranges next here).statements ++ way.loads) way.exit)
   last_behind t starts p next k Nothing e h by = absurd h
   last_behind t starts p next k (Passes i) e h by = passes_by (Some (next_instruction i)) starts k i e by
   last_behind t starts p next k (Does i op) e h by =
@@ -246,14 +249,14 @@ module _ (l : Listing) (ranges : List Varnode) where
   places_behind : (t : List TableAt) (starts : List Place) (next : ℕ) (q : Place) (others : List Place)
       (e : flow_exit.Exit)
       → RunsBlock l t starts (q ∷ others) e
-      → ((p : Place) → IsIn p (q ∷ others) → IsPlain l ranges (standing l p))
-      → (let made = places_made l ranges next (q ∷ others) e in GoesBehind made.block.body made.block.exit)
+      → ((p : Place) → IsIn p (q ∷ others) → IsPlain l (owns p) ranges (standing l p))
+      → (let made = places_made l owns ranges next (q ∷ others) e in GoesBehind made.block.body made.block.exit)
   places_behind t starts next q [] e runs plain ss =
-      let k = next + length (place_made l ranges next q).locals in
+      let k = next + length (place_made l owns ranges next q).locals in
       last_behind t starts q next k (standing l q) e (plain q (inl refl)) runs ss
   places_behind t starts next q (r ∷ others) e runs plain ss =
-      let here = place_made l ranges next q in
-      let rest = places_made l ranges (next + length here.locals) (r ∷ others) e in
+      let here = place_made l owns ranges next q in
+      let rest = places_made l owns ranges (next + length here.locals) (r ∷ others) e in
       ap (λ zs. call_returns zs rest.block.exit) (sym (append_assoc ss here.statements rest.block.body))
       ∙ places_behind t starts (next + length here.locals) r others e runs.1 (λ p is. plain p (inr is))
       (ss ++ here.statements)
@@ -261,15 +264,15 @@ module _ (l : Listing) (ranges : List Varnode) where
 -- ---- what is related
 
 -- what is given: the flow, the variables, what stands at the reached places, and the code
-pub record Given (l : Listing) (t : List TableAt) (blocks : List flow_block.Block) (ranges : List Varnode)
+pub record Given (l : Listing) (t : List TableAt) (f : Frame) (blocks : List flow_block.Block) (ranges : List Varnode)
     (k : Code) : Type 0 where
   pub first : ℕ
   pub flow : IsFlow l t blocks
   pub setting : Setting l ranges (widths k.variables)
-  pub plain : (p : Place) → Reached l t p → IsPlain l ranges (standing l p)
-  pub blocks_are : k.blocks ≡ (blocks_made l ranges first blocks).blocks
+  pub plain : (p : Place) → Reached l t p → IsPlain l (f.own p) ranges (standing l p)
+  pub blocks_are : k.blocks ≡ (blocks_made l f.own ranges first blocks).blocks
   pub free : length ranges ≤ first
-  pub wide : AreWide (widths k.variables) first (blocks_made l ranges first blocks).locals
+  pub wide : AreWide (widths k.variables) first (blocks_made l f.own ranges first blocks).locals
 
 module _
     {M : Type 0}
@@ -281,9 +284,10 @@ module _
     (ranges : List Varnode)
     (k : Code)
     (look : M → Bytes)
+    (own : M → ℕ → ℕ)
     (is : AsBytes m l look)
-    (unframed : IsUnframed f)
-    (given : Given l t blocks ranges k)
+    (has : HasOwn m l look own)
+    (given : Given l t f blocks ranges k)
   where
     -- the code stands where the statements of a place begin; n places follow in the block
     record At (n : ℕ) (p : Place) (u : CodeState) : Type 0 where
@@ -292,15 +296,15 @@ module _
       exit : flow_exit.Exit
       next : ℕ
       free : length ranges ≤ next
-      wide : AreWide (widths k.variables) next (places_made l ranges next (p ∷ others) exit).locals
+      wide : AreWide (widths k.variables) next (places_made l f.own ranges next (p ∷ others) exit).locals
       runs : RunsBlock l t (starts_of blocks) (p ∷ others) exit
-      plain : (q : Place) → IsIn q (p ∷ others) → IsPlain l ranges (standing l q)
-      here : Stands k block (places_made l ranges next (p ∷ others) exit).block.body u
-      exit_is : block.exit ≡ (places_made l ranges next (p ∷ others) exit).block.exit
+      plain : (q : Place) → IsIn q (p ∷ others) → IsPlain l (f.own q) ranges (standing l q)
+      here : Stands k block (places_made l f.own ranges next (p ∷ others) exit).block.body u
+      exit_is : block.exit ≡ (places_made l f.own ranges next (p ∷ others) exit).block.exit
       rank : n ≡ length others
 
     record Related (n : ℕ) (s : State M) (u : CodeState) : Type 0 where
-      sees : Sees l ranges look s u.local
+      sees : Sees l ranges look own s u.local
       at : s.world.over ≡ None → At n s.at u
 
     -- at the beginning of a block
@@ -309,11 +313,11 @@ module _
         → At (length b.others) p u
     enters_at p u b begin =
         let ws = widths k.variables in
-        let made = made_at l ranges ws blocks given.first u.block b.block b.get given.wide in
-        let c : Block = (block_made l ranges made.next b.block).block in
+        let made = made_at l f.own ranges ws blocks given.first u.block b.block b.get given.wide in
+        let c : Block = (block_made l f.own ranges made.next b.block).block in
         let got : slice_get k.blocks u.block ≡ Some c = ap (λ bs. slice_get bs u.block) given.blocks_are ∙ made.get in
         let P : List Place → Type 0 =
-        λ ps. AreWide ws made.next (places_made l ranges made.next ps b.block.exit).locals in
+        λ ps. AreWide ws made.next (places_made l f.own ranges made.next ps b.block.exit).locals in
         record {
           block = c;
           others = b.others;
@@ -328,9 +332,9 @@ module _
           here = record {
             block = got;
             left = λ g. ap (λ z. drop z c.body) begin
-                ∙ ap (λ ps. (places_made l ranges made.next ps b.block.exit).block.body) b.places;
+                ∙ ap (λ ps. (places_made l f.own ranges made.next ps b.block.exit).block.body) b.places;
           };
-          exit_is = ap (λ ps. (places_made l ranges made.next ps b.block.exit).block.exit) b.places;
+          exit_is = ap (λ ps. (places_made l f.own ranges made.next ps b.block.exit).block.exit) b.places;
           rank = refl;
         }
 
@@ -353,38 +357,38 @@ module _
     stepped : (s : State M) → s.world.over ≡ None → step m l f s ≡ step_at m l f (standing l s.at) s
     stepped s e = ap (λ o. unless_over o s (step_at m l f (standing l s.at) s)) e
 
-    going : (s : State M) (x : Local) → Sees l ranges look s x → x.world.over ≡ s.world.over
+    going : (s : State M) (x : Local) → Sees l ranges look own s x → x.world.over ≡ s.world.over
     going s x sees = ap (λ w. w.over) (sym sees.world)
 
     -- to the next place of the block
     next_goes : (n next : ℕ) (s : State M) (u : CodeState) (b : Block) (q : Place) (others : List Place)
         (exit : flow_exit.Exit)
         → s.world.over ≡ None
-        → Sees l ranges look s u.local
+        → Sees l ranges look own s u.local
         → length ranges ≤ next
-        → AreWide (widths k.variables) next (places_made l ranges next (s.at ∷ q ∷ others) exit).locals
+        → AreWide (widths k.variables) next (places_made l f.own ranges next (s.at ∷ q ∷ others) exit).locals
         → RunsBlock l t (starts_of blocks) (s.at ∷ q ∷ others) exit
-        → ((p : Place) → IsIn p (s.at ∷ q ∷ others) → IsPlain l ranges (standing l p))
-        → Stands k b (places_made l ranges next (s.at ∷ q ∷ others) exit).block.body u
-        → b.exit ≡ (places_made l ranges next (s.at ∷ q ∷ others) exit).block.exit
+        → ((p : Place) → IsIn p (s.at ∷ q ∷ others) → IsPlain l (f.own p) ranges (standing l p))
+        → Stands k b (places_made l f.own ranges next (s.at ∷ q ∷ others) exit).block.body u
+        → b.exit ≡ (places_made l f.own ranges next (s.at ∷ q ∷ others) exit).block.exit
         → n ≡ length (q ∷ others)
         → Went n s u
     next_goes n next s u b q others exit go sees free wide runs plain here exit_is rank =
         let ws = widths k.variables in
-        let made = place_made l ranges next s.at in
+        let made = place_made l f.own ranges next s.at in
         let ss = made.statements in
         let next' = next + length made.locals in
-        let rest = places_made l ranges next' (q ∷ others) exit in
+        let rest = places_made l f.own ranges next' (q ∷ others) exit in
         let s' : State _ = step_at m l f (standing l s.at) s in
         let u' : CodeState = after (code_step l k) (length ss) u in
         let there = arrives l k b rest.block.body ss u here in
-        let met = goes_to m l f look ranges ws (returns_in b rest.block.body) is unframed given.setting
+        let met = goes_to m l f look own ranges ws (returns_in b rest.block.body) is has given.setting
         (starts_of blocks) (standing l s.at) q s u.local next (plain s.at (inl refl)) runs.0.goes_on runs.0.next go
         sees free (wide_front ws next made.locals rest.locals wide)
         (λ zs. ap (call_returns (zs ++ rest.block.body)) exit_is
-        ∙ places_behind l ranges t (starts_of blocks) next' q others exit runs.1 (λ p h. plain p (inr h)) zs) in
-        let P : Local → Type 0 = λ x. Sees l ranges look s' x in
-        let sees' : Sees l ranges look s' u'.local = subst P (sym there.local) met.sees in
+        ∙ places_behind l f.own ranges t (starts_of blocks) next' q others exit runs.1 (λ p h. plain p (inr h)) zs) in
+        let P : Local → Type 0 = λ x. Sees l ranges look own s' x in
+        let sees' : Sees l ranges look own s' u'.local = subst P (sym there.local) met.sees in
         let rel : Related (length others) s' u' = record {
           sees = sees';
           at = λ g. let Q : Place → Type 0 = λ p. At (length others) p u' in subst Q (sym (met.at g)) (record {
@@ -406,7 +410,7 @@ module _
     -- after the block
     relates : (s : State M) (u : CodeState) (o : Option End)
         → s.world.over ≡ o
-        → Left l ranges look (starts_of blocks) s u
+        → Left l ranges look own (starts_of blocks) s u
         → (n : ℕ) × Related n s u
     relates s u None e left =
         let there = left.at e in
@@ -417,17 +421,17 @@ module _
     -- out of the block
     last_goes : (n next : ℕ) (s : State M) (u : CodeState) (b : Block) (exit : flow_exit.Exit)
         → s.world.over ≡ None
-        → Sees l ranges look s u.local
+        → Sees l ranges look own s u.local
         → length ranges ≤ next
-        → AreWide (widths k.variables) next (places_made l ranges next (s.at ∷ []) exit).locals
+        → AreWide (widths k.variables) next (places_made l f.own ranges next (s.at ∷ []) exit).locals
         → RunsBlock l t (starts_of blocks) (s.at ∷ []) exit
-        → IsPlain l ranges (standing l s.at)
-        → Stands k b ((places_made l ranges next (s.at ∷ []) exit).block.body ++ []) u
-        → b.exit ≡ (places_made l ranges next (s.at ∷ []) exit).block.exit
+        → IsPlain l (f.own s.at) ranges (standing l s.at)
+        → Stands k b ((places_made l f.own ranges next (s.at ∷ []) exit).block.body ++ []) u
+        → b.exit ≡ (places_made l f.own ranges next (s.at ∷ []) exit).block.exit
         → Went n s u
     last_goes n next s u b exit go sees free wide runs plain here exit_is =
         let ws = widths k.variables in
-        let made = place_made l ranges next s.at in
+        let made = place_made l f.own ranges next s.at in
         let next' = next + length made.locals in
         let way = way_out l ranges next' (standing l s.at) exit in
         let ss = made.statements ++ way.loads in
@@ -439,7 +443,7 @@ module _
           on = λ g. step_in l k u1 b [] g there.here.block (there.here.left g) ∙ ap (λ e. leave ws e u1) exit_is;
           off = λ h g. still l k u1 h g;
         } in
-        let left = leaves m l f look ranges ws (returns_in b []) is unframed given.setting (starts_of blocks) t
+        let left = leaves m l f look own ranges ws (returns_in b []) is has given.setting (starts_of blocks) t
         (standing l s.at) exit s u.local u1 u' next next' plain runs go sees free (omega (arith, free))
         (wide_front ws next made.locals way.locals wide) (wide_back ws next made.locals way.locals wide)
         (λ zs. ap (λ xs. call_returns xs b.exit) (append-nil zs) ∙ ap (call_returns zs) exit_is) there.local leaving in
@@ -449,17 +453,17 @@ module _
 
     by_places : (n next : ℕ) (s : State M) (u : CodeState) (b : Block) (others : List Place) (exit : flow_exit.Exit)
         → s.world.over ≡ None
-        → Sees l ranges look s u.local
+        → Sees l ranges look own s u.local
         → length ranges ≤ next
-        → AreWide (widths k.variables) next (places_made l ranges next (s.at ∷ others) exit).locals
+        → AreWide (widths k.variables) next (places_made l f.own ranges next (s.at ∷ others) exit).locals
         → RunsBlock l t (starts_of blocks) (s.at ∷ others) exit
-        → ((p : Place) → IsIn p (s.at ∷ others) → IsPlain l ranges (standing l p))
-        → Stands k b (places_made l ranges next (s.at ∷ others) exit).block.body u
-        → b.exit ≡ (places_made l ranges next (s.at ∷ others) exit).block.exit
+        → ((p : Place) → IsIn p (s.at ∷ others) → IsPlain l (f.own p) ranges (standing l p))
+        → Stands k b (places_made l f.own ranges next (s.at ∷ others) exit).block.body u
+        → b.exit ≡ (places_made l f.own ranges next (s.at ∷ others) exit).block.exit
         → n ≡ length others
         → Went n s u
     by_places n next s u b [] exit go sees free wide runs plain here exit_is rank =
-        let body = (places_made l ranges next (s.at ∷ []) exit).block.body in
+        let body = (places_made l f.own ranges next (s.at ∷ []) exit).block.body in
         let P : List _ → Type 0 = λ xs. Stands k b xs u in
         last_goes n next s u b exit go sees free wide runs (plain s.at (inl refl))
         (subst P (sym (append-nil body)) here)
@@ -486,7 +490,7 @@ module _
 
     -- The two runs show the same from where they see the same and the code stands where the place's block begins.
     pub follows : (s : State M) (u : CodeState)
-        → Left l ranges look (starts_of blocks) s u
+        → Left l ranges look own (starts_of blocks) s u
         → TwoWay (seen (machine m l f) s) (seen (code_machine l k) u)
     follows s u left =
         let rel = relates s u s.world.over refl left in

@@ -11,6 +11,7 @@
 //! both have ended in the same way. An op without statements lets the code stand still. It can't do so for ever: the
 //! number of places that follow in the block is the rank, which falls at each such step.
 //!
-//! Memory enters only through the bytes that are seen of it, so the theorem (`proofs/Keeps.antt`) holds over any
-//! memory whose acts are those of bytes.
+//! Memory enters only through the bytes that are seen of it, and those of frame variables through what is seen of them by
+//! their offsets, so the theorem (`proofs/Keeps.antt`) holds over any memory whose acts are those of bytes. Frame
+//! variables' bytes are ranges of variables like registers', so no step is a case of its own for them here.
 #![tactic(auto)]

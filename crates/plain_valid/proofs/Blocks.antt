@@ -1,5 +1,5 @@
 -- What holds of each kind of statement and of exit holds of all blocks of the plain lowering.
-use Rattle.std.proofs.Common.{◌≡◌, ℕ, suc, ◌+◌, ◌<◌, ◌≤◌, ◌^◌, Bool, true, false, List, [], ◌∷◌, ◌++◌, append-nil, map, ap, zero, drop, length, Option, Some, None, refl, sym, ◌∙◌, subst, arith, inl, inr}
+use Rattle.std.proofs.Common.{◌≡◌, ℕ, suc, ◌+◌, ◌<◌, ◌≤◌, ◌^◌, Bool, true, false, List, [], ◌∷◌, ◌++◌, append-nil, map, zero, drop, length, Option, Some, None, refl, sym, ◌∙◌, subst, arith, inl, inr}
 use Rattle.std.specs.Prelude.{cond, not, slice_get, ◌==◌, IfSome}
 use Rattle.std.specs.List.{AllByRecursion}
 use Rattle.std.proofs.lemmas.Bool.{and_parts, eqb-true}
@@ -39,7 +39,7 @@ use Rattle.op_code.specs.Cover.{HasCover, IsRow, cover}
 use Rattle.op_code.specs.Words.{parts_by, target_by}
 use Rattle.op_code.specs.Left.{extras, is_left, left_from, leftovers, meets_some, spared}
 use Rattle.op_code.specs.Made.{Made, Own, Read, ReadOne, above, above_stack, address, address_of, answered, call_made, calls, computes, divides, divides_at, frame_word, gives_back, indirect_read, loads_by, local_for, local_of, name_of, none_own, offset_bytes, op_made, passed, pops, pops_by, range_word, read_by, read_one, read_operand, read_stack, reads, set_by, sets, sets_range, stores_by}
-use Rattle.op_code.specs.Form.{AllOperands, HasPointer, IsCallable, IsDirect, IsFramed, IsGiven, IsLoad, IsLocalBy, IsMemory, IsNarrow, IsOnStack, IsOperand, IsOperandBy, IsOutput, IsOutputBy, IsPlainOp, IsRead, IsResult, IsStore}
+use Rattle.op_code.specs.Form.{AllOperands, IsCallable, IsDirect, IsGiven, IsLoad, IsLocalBy, IsMemory, IsNarrow, IsOnStack, IsOperand, IsOperandBy, IsOutput, IsOutputBy, IsPlainOp, IsRead, IsResult, IsStore}
 use Rattle.op_code.specs.Lowered.{WayOut, block_made, blocks_made, condition_in, directly, made_in, place_made, places_made, tests, way_out}
 use Rattle.op_code.specs.Lowerable.{IsPlain}
 use Rattle.op_code.proofs.Sees.{Setting}

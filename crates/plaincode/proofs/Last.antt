@@ -55,7 +55,8 @@ module _ (l : Listing) (own : Place → Own) (ranges : List Varnode) (e : flow_e
   ended_last next [] k last long is = absurd (omega (arith, long))
   ended_last next (p ∷ []) zero last long is =
       let same : p ≡ last = cc in
-      ap (λ x. ended next (place_made l own ranges next p) x) same ∙ ended_one next (place_made l own ranges next p) last
+      ap (λ x. ended next (place_made l own ranges next p) x) same
+      ∙ ended_one next (place_made l own ranges next p) last
   ended_last next (p ∷ []) (suc k) last long is = absurd (omega (arith, long))
   ended_last next (p ∷ q ∷ rest) zero last long is = absurd (omega (arith, long))
   ended_last next (p ∷ q ∷ rest) (suc k) last long is =

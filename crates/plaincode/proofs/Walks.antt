@@ -21,13 +21,17 @@ module _ (l : Listing) (own : Place → Own) (ranges : List Varnode) (variables 
   pub blocks_from : (b : flow_block.Block) (bs : List flow_block.Block)
       → all ≡ variables ++ (block_made l own ranges (length variables) b).locals
       → blocks_made l own ranges (length variables) (b ∷ bs) ≡ record {
-        blocks = (block_made l own ranges (length variables) b).block ∷ (blocks_made l own ranges (length all) bs).blocks;
-        locals = (block_made l own ranges (length variables) b).locals ++ (blocks_made l own ranges (length all) bs).locals;
+        blocks =
+            (block_made l own ranges (length variables) b).block
+            ∷ (blocks_made l own ranges (length all) bs).blocks;
+        locals =
+            (block_made l own ranges (length variables) b).locals
+            ++ (blocks_made l own ranges (length all) bs).locals;
       }
   blocks_from b bs grown =
       let here = block_made l own ranges (length variables) b in
-      let all : ℕ → BlocksMade = λ n. record {
+      let made : ℕ → BlocksMade = λ n. record {
         blocks = here.block ∷ (blocks_made l own ranges n bs).blocks;
         locals = here.locals ++ (blocks_made l own ranges n bs).locals;
       } in
-      ap all (grown_length variables all here.locals grown)
+      ap made (grown_length variables all here.locals grown)

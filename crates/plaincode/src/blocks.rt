@@ -93,7 +93,8 @@ fn block(
     ensures block { IfOk result (λ b.
         b ≡ (block_made listing.now (own_at frame.now) table.now (length variables.old) block.now).block) }
     ensures locals { OnOk result (variables.new
-        ≡ variables.old ++ (block_made listing.now (own_at frame.now) table.now (length variables.old) block.now).locals) }
+        ≡ variables.old
+        ++ (block_made listing.now (own_at frame.now) table.now (length variables.old) block.now).locals) }
     ensures few { OnOk result (length variables.new ≤ 2 ^ 32) }
 {
     let places = block.places.as_slice();
@@ -136,7 +137,8 @@ pub(crate) fn blocks(
     ensures blocks { IfOk result (λ bs.
         bs ≡ (blocks_made listing.now (own_at frame.now) table.now (length variables.old) flow.now).blocks) }
     ensures locals { OnOk result (variables.new
-        ≡ variables.old ++ (blocks_made listing.now (own_at frame.now) table.now (length variables.old) flow.now).locals) }
+        ≡ variables.old
+        ++ (blocks_made listing.now (own_at frame.now) table.now (length variables.old) flow.now).locals) }
     ensures few { OnOk result (length variables.new ≤ 2 ^ 32) }
 {
     let mut blocks = Blocks::new(alloc);

@@ -7,9 +7,10 @@
 //! each local is put behind it as the statement is made that sets it, so that its number is the count of variables
 //! there are. So locals are numbered over all blocks in their order, and each is set by one statement.
 //!
-//! The operands of all ops look their variables up in one table of the ranges, which is made once, and calls what they
-//! leave in variables of registers in another, which has it for each prototype. Numbers have 32 bits: where they run
-//! out, as where memory does, the answer is `Memory`.
+//! The operands of all ops look their variables up in one table of the ranges, which is made once, calls what they
+//! leave in variables of registers in another, which has it for each prototype, and accesses of frame variables their
+//! offsets in a third, which has them by place and number. Numbers have 32 bits: where they run out, as where memory
+//! does, the answer is `Memory`.
 //!
 //! That the code shows the same as the listing is a law about `lowered`, and stands in plain_laws. A further operation
 //! is a case in op_code, which has the statements that ops are made to; here nothing changes for it, unless it leaves a

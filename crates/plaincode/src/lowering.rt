@@ -40,8 +40,9 @@ fn block_number(blocks: &[FlowBlock], start: Place) -> u32
     number
 }
 
-/// The plain lowering of a listing with this frame: the variables are the atoms, all of them parameters, and behind them
-/// the locals that statements need; the blocks are those of the flow. `Memory` where memory or the numbers of 32 bits run out.
+/// The plain lowering of a listing with this frame: the variables are the atoms, all of them parameters, and behind
+/// them the locals that statements need; the blocks are those of the flow. `Memory` where memory or the numbers of 32
+/// bits run out.
 pub fn plain(
     alloc: Global,
     listing: &Listing,

@@ -3,10 +3,12 @@ use Rattle.std.proofs.Common.{◌≡◌, ◌≢◌, ℕ, zero, suc, ◌+◌, ◌
 use Rattle.std.specs.Prelude.{◌==◌, ◌&&◌, cond, slice_get}
 use Rattle.std.specs.List.{All}
 use Rattle.std.proofs.lemmas.List.Elements.{All-nil, All-cons, All-head, All-tail}
+use Rattle.std.proofs.Math.Path.{fun_ext}
 use Rattle.std.proofs.lemmas.Bool.{cases_eq}
+use Rattle.std.proofs.lemmas.Bool.Decides.{nat_tests}
 use Rattle.bits_core.specs.Value.{limit}
 use Rattle.bits_core.specs.Bytes.{word_bytes, word_of}
-use Rattle.laws.proofs.Bytes.{length-word_bytes, word_again, word_bytes_below, word_of_below}
+use Rattle.laws.proofs.Bytes.{length-word_bytes, word_again, word_bytes-word_of, word_bytes_below, word_of_below}
 use Rattle.pcode_model.specs.declared.listing.Varnode.{Varnode}
 use Rattle.pcode_model.specs.declared.listing.Listing.{Listing}
 use Rattle.pcode_model.specs.Spaces.{size_of, is_big, next, bytes_at, put, put_in, each_at}
@@ -136,3 +138,33 @@ word_below l s o k m are =
 -- the word of a range has the range's width
 pub local_word_below : (l : Listing) (a : Varnode) (m : Bytes) → AreBytes m → local_word l a m < limit a.size
 local_word_below l a m are = word_below l a.space a.offset a.size m are
+
+-- ---- the word that stands there
+
+put_same : (s o : ℕ) (m : Bytes) → put_in s o (m s o) m ≡ m
+put_same s o m = fun_ext (λ t. fun_ext (λ p. by t p (t == s && p == o) refl))
+  where
+    by : (t p : ℕ) (b : Bool) → (t == s && p == o) ≡ b → cond b (m s o) (m t p) ≡ m t p
+    by t p true e =
+        let here : s ≡ t = grind (arith, nat_tests) in
+        let at : o ≡ p = grind (arith, nat_tests) in
+        ap (λ r. m r o) here ∙ ap (m t) at
+    by t p false e = refl
+
+each_same : (size s o k : ℕ) (m : Bytes) → each_at size (put_in s) o (bytes_at size (m s) o k) m ≡ m
+each_same size s o zero m = refl
+each_same size s o (suc k) m =
+    ap (each_at size (put_in s) (next size o) (bytes_at size (m s) (next size o) k)) (put_same s o m)
+    ∙ each_same size s (next size o) k m
+
+-- A range that is written the word that it has stays as it is.
+pub written_same : (l : Listing) (a : Varnode) (m : Bytes) → AreBytes m → with_word l a (local_word l a m) m ≡ m
+written_same l a m are =
+    let s = a.space in
+    let size = size_of l s in
+    let big = is_big l s in
+    let bs = bytes_at size (m s) a.offset a.size in
+    let there : word_bytes big a.size (word_of big bs) ≡ bs =
+    ap (λ k. word_bytes big k (word_of big bs)) (sym (length-bytes_at size (m s) a.offset a.size))
+    ∙ word_bytes-word_of big bs (all_at size (m s) a.offset a.size (are s)) in
+    ap (λ xs. each_at size (put_in s) a.offset xs m) there ∙ each_same size s a.offset a.size m

@@ -1,12 +1,12 @@
 -- Where the places of the three areas stand on the line, and which storage stands at a place.
-use Rattle.std.proofs.Common.{◌≡◌, ◌∙◌, ℕ, suc, ◌+◌, ◌-◌, ◌^◌, ◌<◌, ◌≤◌, Bool, true, false, refl, sym, ap, subst, inl, inr, ⊎_elim, ◌⊎◌, arith, nat_lt}
+use Rattle.std.proofs.Common.{◌≡◌, ◌∙◌, ℕ, suc, ◌+◌, ◌-◌, ◌^◌, ◌<◌, ◌≤◌, Bool, true, false, refl, sym, ap, subst, ⊎_elim, arith, nat_lt}
 use Rattle.std.specs.Prelude.{ℤ, pos, negsuc, ◌+ℤ◌, ◌-ℤ◌, ◌≤ℤ◌, cond}
 use Rattle.std.proofs.lemmas.Bool.{cases_lt}
 use Rattle.std.proofs.lemmas.Bool.Decides.{nat_tests}
 use Rattle.std.proofs.lemmas.Int.{ints}
 use Rattle.pcode_model.specs.declared.storage.ParamStorage.{ParamStorage}
 use Rattle.pcode_model.specs.declared.storage.ParamStorage.TheVariants as P
-use Rattle.pcode_model.specs.Atoms.{Area, Range, Registers, StandsBefore, Stacked, Uniques, area_of, offset_of}
+use Rattle.pcode_model.specs.Atoms.{Area, Registers, StandsBefore, Stacked, Uniques, area_of, offset_of}
 use Rattle.stackvars.specs.Cuts.{IsInReach, begin, entry_word, frames, from_entry, storage_at, uniques}
 
 -- ---- areas

@@ -1,5 +1,5 @@
 -- The pieces of a listing's line are its atoms.
-use Rattle.std.proofs.Common.{◌≡◌, ◌∙◌, ℕ, ◌+◌, ◌-◌, ◌^◌, ◌<◌, ◌≤◌, List, [], ◌∷◌, refl, sym, ap, subst, inl, inr, ⊎_elim, arith}
+use Rattle.std.proofs.Common.{◌≡◌, ◌∙◌, ℕ, ◌+◌, ◌-◌, ◌<◌, ◌≤◌, List, [], ◌∷◌, refl, sym, ap, subst, inl, inr, ⊎_elim, arith}
 use Rattle.std.specs.Prelude.{ℤ, pos, ◌+ℤ◌}
 use Rattle.std.specs.List.{AllByRecursion}
 use Rattle.std.proofs.lemmas.Bool.{cases_lt}
@@ -15,11 +15,11 @@ use Rattle.pcode_model.specs.Flow.{IsFlow, IsIn}
 use Rattle.pcode_model.specs.Atoms.{AreAtoms, Area, Cuts, InOrder, IsAccessed, IsAtom, IsCut, LiesIn, Range, area_of, offset_of}
 use Rattle.stackvars.specs.declared.sweep.Mark.{Mark}
 use Rattle.stackvars.specs.declared.sweep.Piece.{Piece}
-use Rattle.stackvars.specs.Cuts.{AreInReach, Fits, IsInReach, atom, atoms_of, begin, entry_word, frames, mark, storage_at, uniques}
+use Rattle.stackvars.specs.Cuts.{AreInReach, Fits, IsInReach, atom, atoms_of, begin, mark, storage_at}
 use Rattle.pcode_model.specs.Atoms as model
 use Rattle.stackvars.specs.Sweep.{ArePieces, IsMarked, IsPiece, RiseFrom}
 use Rattle.stackvars.proofs.Swept.{piece}
-use Rattle.stackvars.proofs.Areas.{IsAt, Within, above, between, ends, one_offset, one_place, ordered, same_area, stands, stored}
+use Rattle.stackvars.proofs.Areas.{IsAt, Within, above, between, ends, one_offset, one_place, ordered, stands, stored}
 use Rattle.stackvars.proofs.Marked.{Over, access_marked, cuts_marked, last, line, marked_cut, under_access}
 
 -- ---- order

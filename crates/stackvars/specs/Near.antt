@@ -1,5 +1,5 @@
 -- Frames whose accesses lie near the stack pointer's entry word. This project's own.
-use Rattle.std.specs.Prelude.{ℕ, ◌^◌, ◌<◌, pos, neg_ℤ, ◌≤ℤ◌}
+use Rattle.std.specs.Prelude.{◌^◌, ◌<◌, pos, neg_ℤ, ◌≤ℤ◌}
 use Rattle.std.specs.List.{AllByRecursion}
 use Rattle.pcode_model.specs.declared.frame.Frame.{Frame}
 use Rattle.pcode_model.specs.declared.frame.FrameAccess.{FrameAccess}

@@ -1,7 +1,7 @@
-use Rattle.std.proofs.Common.{◌≡◌, ◌∙◌, ◌+◌, ◌++◌, List, ap, append_assoc, drop, sym, arith}
+use Rattle.std.proofs.Common.{◌∙◌, ◌+◌, ◌++◌, List, ap, append_assoc, drop, sym, arith}
 use Rattle.pcode_model.specs.declared.listing.Proto.{Proto}
 use Rattle.pcode_model.specs.declared.listing.Varnode.{Varnode}
-use Rattle.pcode_model.specs.Atoms.{Range, kept_ranges, registers_at}
+use Rattle.pcode_model.specs.Atoms.{kept_ranges, registers_at}
 use Rattle.pcode_model.proofs.Members.{rest_at}
 use Rattle.stackvars.specs.declared.sweep.Mark.{Mark}
 use Rattle.stackvars.specs.Cuts.{more_cuts}
