@@ -132,15 +132,7 @@ fn push_argument(
     match argument {
         Storage::At(_) => Ok(()),
         Storage::Stack { offset, size } => push_access(
-            accesses,
-            listing,
-            slots,
-            row,
-            place,
-            number,
-            stack,
-            *offset,
-            *size,
+            accesses, listing, slots, row, place, number, stack, *offset, *size,
         ),
     }
 }
@@ -222,15 +214,7 @@ fn push_op(
         ++ accesses_of listing.now slots.now row.now place (reaches listing.now op.now)) }
 {
     match (&op.code, op.inputs.as_slice()) {
-        (Opcode::Load, _) => push_memory(
-            accesses,
-            listing,
-            slots,
-            row,
-            place,
-            op,
-            op.size_out(),
-        ),
+        (Opcode::Load, _) => push_memory(accesses, listing, slots, row, place, op, op.size_out()),
         (Opcode::Store, _) => push_memory(
             accesses,
             listing,

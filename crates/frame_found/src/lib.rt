@@ -2,11 +2,9 @@
 //! with the row of facts before each place.
 #![tactic(auto)]
 
-
 mod accesses;
 mod facts;
 mod offsets;
-
 
 pub use accesses::accesses_found;
 pub use facts::facts_found;

@@ -1,4 +1,4 @@
-use Rattle.std.proofs.Common.{◌≡◌, ◌∙◌, ◌++◌, ◌∷◌, [], ℕ, List, Option, None, ◌+◌, length, get_or, drop, ap, sym, arith, append_assoc}
+use Rattle.std.proofs.Common.{◌∙◌, ◌++◌, ◌∷◌, ℕ, List, None, ◌+◌, get_or, drop, ap, sym, arith, append_assoc}
 use Rattle.std.proofs.lemmas.List.{drop_more}
 use Rattle.fact_rows.specs.Rows.{Row}
 use Rattle.frame_reads.specs.Walk.{fact_in, facts_of}

@@ -1,4 +1,4 @@
-use Rattle.std.proofs.Common.{◌≡◌, ◌∙◌, ◌≤◌, ◌*◌, ◌^◌, ◌%◌, ℕ, ap, sym, arith}
+use Rattle.std.proofs.Common.{◌≡◌, ◌∙◌, ◌≤◌, ◌*◌, ◌^◌, ◌%◌, ap, arith}
 use Rattle.bits_core.specs.Value.{limit}
 use Rattle.instructions.proofs.Indices.{limit_by}
 use Rattle.frame_facts.specs.Accesses.{stack_width}

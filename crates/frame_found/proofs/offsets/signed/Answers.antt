@@ -1,5 +1,5 @@
-use Rattle.std.proofs.Common.{◌≡◌, ◌∙◌, ◌<◌, ◌≤◌, ◌-◌, ◌/◌, ◌^◌, ℕ, SFits, of_z, to_z, w64, ap, sym, rules, arith}
-use Rattle.std.specs.Prelude.{pos, neg_ℤ, ℤ}
+use Rattle.std.proofs.Common.{◌≡◌, ◌∙◌, ◌<◌, ◌≤◌, ◌-◌, ◌/◌, ℕ, SFits, to_z, w64, ap, sym, rules, arith}
+use Rattle.std.specs.Prelude.{pos, neg_ℤ}
 use Rattle.std.proofs.lemmas.Int.{to_z-of_z, to_z_pos}
 use Rattle.frame_facts.specs.Accesses.{stack_width}
 use Rattle.frame_found.proofs.Low.{signed_over, signed_under}
