@@ -1,11 +1,13 @@
 //! The accesses of the frame.
 
 ghost use Rattle.std.specs.Prelude.{◌≡◌, ◌<◌, ◌≤◌, ◌^◌, ◌+◌, ◌++◌, ◌∷◌, [], pos, Some, drop, length, IfOk, IfSome, OnOk};
-ghost use Rattle.pcode_model.specs.Places.{standing};
+ghost use Rattle.pcode_model.specs.Flow.{IsFlow};
 ghost use Rattle.pcode_model.specs.Step.{argument as argument_of, proto_at};
 ghost use Rattle.pcode_model.specs.Step.{arguments as arguments_of};
 ghost use Rattle.pcode_model.specs.WellFormed.{IsWellFormed};
 ghost use Rattle.frame_facts.specs.Accesses.{only_memory, reach, reaches, stack_reaches, stack_width, frame_limit};
+ghost use Rattle.frame_facts.specs.Accesses.{IsFrameAccess};
+ghost use Rattle.frame_facts.specs.Listed.{IsAccessBefore, Lists};
 ghost use Rattle.frame_facts.specs.Escapes.{is_of_memory};
 ghost use Rattle.fact_rows.specs.Rows.{IsRow, offset_of};
 ghost use Rattle.fact_rows.specs.Slots.{AreSlots};
@@ -305,8 +307,8 @@ fn push_block(
     }
 }
 
-/// The accesses of the frame, as a walk over the blocks finds them.
-pub fn accesses_found(
+// The accesses of the frame, as a walk over the blocks finds them.
+fn walk(
     alloc: Global,
     listing: &Listing,
     known: &Known,
@@ -328,4 +330,20 @@ pub fn accesses_found(
         )?;
     }
     Ok(accesses)
+}
+
+/// All accesses of the frame, by rising place, and at one place by number.
+pub fn accesses_found(
+    alloc: Global,
+    listing: &Listing,
+    known: &Known,
+    blocks: &[Block],
+) -> Result<Vec<FrameAccess>, Memory>
+    requires read { IsWellFormed listing.now }
+    requires known { AreKnown listing.now blocks.now known.now }
+    requires flow { IsFlow listing.now [] blocks.now }
+    ensures { IfOk result (λ found. Lists (IsFrameAccess listing.now [] []) IsAccessBefore found.items) }
+{
+    let found = walk(alloc, listing, known, blocks)?;
+    Ok(found)
 }

@@ -1,8 +1,10 @@
 //! The facts where blocks begin.
 
-ghost use Rattle.std.specs.Prelude.{◌≡◌, ◌<◌, ◌++◌, length, slice_get, slice_index, IfOk, IfSome, OnOk};
+ghost use Rattle.std.specs.Prelude.{◌≡◌, [], ◌<◌, ◌++◌, length, slice_get, slice_index, IfOk, IfSome, OnOk};
 ghost use Rattle.std.specs.List.{AllByRecursion};
+ghost use Rattle.pcode_model.specs.Flow.{IsFlow};
 ghost use Rattle.pcode_model.specs.WellFormed.{IsWellFormed};
+ghost use Rattle.frame_facts.specs.Listed.{IsFactBefore, IsListedFact, Lists};
 ghost use Rattle.fact_rows.specs.Rows.{IsBelow, IsRow};
 ghost use Rattle.fact_rows.specs.Slots.{AreSlots};
 ghost use Rattle.frame_known.specs.Known.{AreKnown};
@@ -80,8 +82,8 @@ fn push_block(
     }
 }
 
-/// The facts where blocks begin, as a walk over the blocks finds them.
-pub fn facts_found(
+// The facts where blocks begin, as a walk over the blocks finds them.
+fn walk(
     alloc: Global,
     listing: &Listing,
     known: &Known,
@@ -101,5 +103,21 @@ pub fn facts_found(
             blocks[number].places.as_slice(),
         )?;
     }
+    Ok(facts)
+}
+
+/// The facts where blocks begin, by rising place, and at one place by range.
+pub fn facts_found(
+    alloc: Global,
+    listing: &Listing,
+    known: &Known,
+    blocks: &[Block],
+) -> Result<Vec<OffsetFact>, Memory>
+    requires read { IsWellFormed listing.now }
+    requires known { AreKnown listing.now blocks.now known.now }
+    requires flow { IsFlow listing.now [] blocks.now }
+    ensures { IfOk result (λ facts. Lists (IsListedFact listing.now []) IsFactBefore facts.items) }
+{
+    let facts = walk(alloc, listing, known, blocks)?;
     Ok(facts)
 }

@@ -1,6 +1,6 @@
 use Rattle.std.proofs.Common.{◌≡◌, ◌++◌, drop}
 use Rattle.frame_reads.specs.Walk.{facts_found}
-use Rattle.frame_found.proofs.facts.facts_found.Given as goal
+use Rattle.frame_found.proofs.facts.walk.Given as goal
 
 abbrev pub invariant-loop-number : goal.invariant-loop-number
 invariant-loop-number l =
