@@ -15,7 +15,7 @@ ln -s -- "$copy/run" link
 
 cat > program <<'END'
 #!/usr/bin/env bash
-case ${*-} in "" | "--stage listing" | --stage=listing) ;; *) echo "pcode2c: bad arguments" >&2; exit 2 ;; esac
+case ${*-} in "" | "--stage listing" | --stage=listing) ;; "--gen 7" | --gen=7) echo numbers || exit 4; exit ;; *) echo "pcode2c: bad arguments" >&2; exit 2 ;; esac
 text=$(cat 2>/dev/null) || { echo "pcode2c: read fault" >&2; exit 3; }
 case $text in *bad*) echo "pcode2c: line 1: syntax" >&2; exit 1 ;; esac
 echo "$text" || exit 4
@@ -69,6 +69,11 @@ both_ways() {
   must 0 other "$1" --stage=listing -- -x
   must 2 "" "bad arguments" --stage none good
   must 2 "" "bad arguments" --stage
+  must 0 numbers "$1" --gen 7
+  must 0 numbers "$1" --gen=7
+  must 2 "" "bad arguments" --gen x
+  must 2 "" "bad arguments" --gen
+  must 2 "" "bad arguments" --gen 7 good
   must 1 $'good\ngood' "^run: bad" good bad nothere -
   PATH=$with ./link good > /dev/full 2> err
   [ $? -eq 4 ] || { wrong=$((wrong + 1)); echo "run_script: a full output isn't status 4"; }

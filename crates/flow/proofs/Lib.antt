@@ -9,3 +9,7 @@ pub mod Adjacent
 pub mod Exits
 pub mod Scanning
 pub mod Entering
+pub mod Closure
+pub mod Decided
+pub mod Left
+pub mod Built

@@ -14,7 +14,8 @@ use Rattle.generator_laws.proofs.Obeys.{built, obeys}
 pub drawn_taken : (draws : ℕ → Drawn) → AreFit draws → IsTaken (listing_of draws)
 drawn_taken draws fit = record {
   ops = obeys draws fit;
-  built = record { stack = refl; ops = built draws };
+  stack = refl;
+  built = built draws;
   flow = no_fault draws;
   blocks = few_starts draws;
   atoms = few_atoms draws fit;

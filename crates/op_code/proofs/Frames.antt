@@ -1,11 +1,12 @@
 -- The table of the accesses of frame variables, and the numbers of the frame's ranges.
-use Rattle.std.proofs.Common.{◌≡◌, ◌∙◌, ℕ, suc, ◌+◌, ◌*◌, ◌%◌, ◌≤◌, ◌<◌, ◌^◌, ◌==◌, ◌&&◌, Bool, true, false, List, [], ◌∷◌, Some, cond, length, refl, ap, sym, subst, arith, lit<}
+use Rattle.std.proofs.Common.{◌≡◌, ◌∙◌, ℕ, suc, ◌+◌, ◌*◌, ◌%◌, ◌≤◌, ◌<◌, ◌^◌, ◌==◌, ◌&&◌, Bool, true, false, List, [], ◌∷◌, Some, cond, drop, get_or, length, refl, ap, sym, subst, arith, lit<}
 use Rattle.std.specs.Prelude.{Option, None, nat_lt, slice_get}
 use Rattle.std.specs.Ordering.{is_eq}
 use Rattle.std.specs.BTreeMap.{BTreeMap, get, Updates}
 use Rattle.std.proofs.Math.Path.{fun_ext}
 use Rattle.std.proofs.Math.Nat.{pow-le-pow_right}
 use Rattle.std.proofs.lemmas.Bool.Decides.{nat_tests}
+use Rattle.std.proofs.lemmas.List.{at_drop_more}
 use Rattle.pcode_model.specs.declared.frame.FrameAccess.{FrameAccess}
 use Rattle.pcode_model.specs.declared.listing.Listing.{Listing}
 use Rattle.pcode_model.specs.declared.listing.Place.{Place}
@@ -39,7 +40,9 @@ pub few_bytes : (k : ℕ) → 256 ^ k ≤ 2 ^ 64 → k ≤ 8
 few_bytes k small = by_less (nat_lt 8 k) refl
   where
     by_less : (b : Bool) → nat_lt 8 k ≡ b → k ≤ 8
-    by_less true wide = let more : 256 ^ 9 ≤ 256 ^ k = pow-le-pow_right (lit< tt) (grind (arith, nat_tests)) in
+    by_less true wide =
+        let past : 9 ≤ k = grind (arith, nat_tests) in
+        let more : 256 ^ 9 ≤ 256 ^ k = pow-le-pow_right (lit< tt) {i = 9} {j = k} past in
         absurd (omega (arith, more, small))
     by_less false narrow = grind (arith, nat_tests)
 
@@ -82,3 +85,18 @@ own_put size a rest m n updates same =
     fun_ext (λ p. fun_ext (λ k. updates.0 (access_key p k)
     ∙ ap (λ b. cond b here (offset_at m p k)) (key_test a p k)
     ∙ ap (λ (f : Place → Own). cond (is_access a p k) here (f p k)) same))
+
+-- The accesses from one on are put in behind those that follow it.
+pub own_step : (size i : ℕ) (xs : List FrameAccess) (d : FrameAccess) (m n : BTreeMap Key ℕ) (number offset : ℕ)
+    → i < length xs
+    → number ≡ (get_or xs i d).argument
+    → offset ≡ wrapped size (get_or xs i d).offset
+    → Updates access_cmp m n (access_key (get_or xs i d).place number) (Some offset)
+    → offset_at m ≡ own_in size (drop (i + 1) xs)
+    → offset_at n ≡ own_in size (drop i xs)
+own_step size i xs d m n number offset within same at updates rest =
+    let a = get_or xs i d in
+    let put : Updates access_cmp m n (access_key a.place a.argument) (Some (wrapped size a.offset)) =
+    subst (λ k. Updates access_cmp m n (access_key a.place k) (Some (wrapped size a.offset))) same
+    (subst (λ o. Updates access_cmp m n (access_key a.place number) (Some o)) at updates) in
+    own_put size a (drop (i + 1) xs) m n put rest ∙ sym (at_drop_more (own_in size) xs i d within)

@@ -18,6 +18,7 @@ use Rattle.pcode_model.specs.Rules.{first_bad}
 use Rattle.pcode_model.specs.Step.{varnode_at}
 use Rattle.pcode_model.specs.WellFormed.{IsWellFormed}
 use Rattle.frame_facts.specs.Listed.{IsFrame}
+use Rattle.pcodetext.specs.Meaning.{Good, reading}
 use Rattle.supported.specs.Supported.{IsSupported}
 use Rattle.flow.specs.Answer.{IsFlowFault}
 use Rattle.flow.specs.declared.answer.FlowFault.{FlowFault}
@@ -181,16 +182,16 @@ laid_is l f blocks atoms name gives callees h k c is headed named given called m
 
 -- ---- what may be printed
 
--- The text of a function that a listing which is accepted was lowered to.
-pub may_print : (bytes text : List ℕ) (l : Listing) (frame : Frame) (f : CFunction)
-    → Accepts bytes l
+-- The text of a function that a listing which was read was lowered to.
+unfoldable pub may_print : (bytes text : List ℕ) (l : Listing) (frame : Frame) (f : CFunction)
+    → reading bytes ≡ Good l
     → IsFrame l [] [] frame
     → Lowers l frame f
     → text ≡ text_of f
     → MayPrint bytes text
-may_print bytes text l frame f accepted is_frame lowers is = record {
+may_print bytes text l frame f read is_frame lowers is = record {
   listing = l;
-  read = accepted.good.read;
+  read = read;
   frame = frame;
   is_frame = is_frame;
   function = f;

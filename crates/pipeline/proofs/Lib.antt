@@ -6,3 +6,4 @@ pub mod Formed
 pub mod Ordered
 pub mod Verdicts
 pub mod Outcomes
+pub mod Numbered

@@ -21,8 +21,8 @@ use Rattle.refusals.specs.declared.refusal.Refusal.TheVariants as R
 use Rattle.pipeline.specs.declared.request.Form.{Form}
 use Rattle.pipeline.specs.declared.request.Form.TheVariants.{C, Listing, Plain}
 use Rattle.pipeline.specs.Cause.{Because, CauseAt, Faults, IsConverted, IsRefusal, Shows}
-use Rattle.pipeline.specs.Request.{Wanted}
-use Rattle.pipeline.specs.Table.{Came, Facts, FileCame, FileTold, IsTold, Outside, Sources, Table, file_due, program}
+use Rattle.pipeline.specs.Request.{Numbers, Prints, Wanted}
+use Rattle.pipeline.specs.Table.{Came, Facts, FileCame, FileTold, IsTold, Outside, Sources, Table, due, file_due, program}
 use Rattle.pipeline.specs.Verdict.{IsCause}
 use Rattle.pipeline.proofs.Verdicts.{never_both}
 
@@ -108,6 +108,15 @@ file_is None before after facts told came read not =
 file_is (Some name) before after facts told came read not =
     fetched_whole max_input facts.files name before.shelf after.shelf told.1 told.0 came read not
 
+came_is : (w : Wanted) (before after : Sources) (facts : Facts)
+    → IsTold (Some w) before after facts
+    → (came : Result Bytes ReadEnd)
+    → Came before after w came
+    → (came ≡ Err Memory → ⊥)
+    → came ≡ due facts w
+came_is (Prints form file) before after facts told came read not = file_is file before after facts told came read not
+came_is (Numbers n) before after facts told came read not = read
+
 -- The table of a call that came to an answer by what it read, and delivered it.
 pub table : (asked : Option Wanted) (before after : Outside) (o : Answer) (status : ℕ)
     → Because asked (Came before.sources after.sources) o
@@ -115,9 +124,9 @@ pub table : (asked : Option Wanted) (before after : Outside) (o : Answer) (statu
     → Table asked before after status
 table asked before after o status why told =
     any.table program before.out after.out before.err after.err (Because asked (Came before.sources after.sources))
-    (IsTold asked before.sources after.sources) (λ facts. Because asked (λ w came. came ≡ file_due facts w.file))
+    (IsTold asked before.sources after.sources) (λ facts. Because asked (λ w came. came ≡ due facts w))
     (λ facts known. settled Shows Faults asked (Came before.sources after.sources)
-    (λ w came. came ≡ file_due facts w.file)
-    (λ w is came read not. file_is w.file before.sources after.sources facts
+    (λ w came. came ≡ due facts w)
+    (λ w is came read not. came_is w before.sources after.sources facts
     (subst (λ (a : Option Wanted). IsTold a before.sources after.sources facts) is known) came read not))
     o status why told

@@ -11,12 +11,13 @@ use Rattle.pcode_model.specs.declared.rules.OpFault.{OpFault}
 use Rattle.pcode_model.specs.declared.storage.ParamStorage.{ParamStorage}
 use Rattle.pcode_model.specs.declared.storage.ParamStorage.TheVariants as P
 use Rattle.pcode_model.specs.Flow.{AreStarts, IsIn}
-use Rattle.pcode_model.specs.Atoms.{Area, Cuts, IsAccessed, IsAtom, IsCut, Range, area_of, offset_of, range}
+use Rattle.pcode_model.specs.Atoms.{AreAtoms, Area, Cuts, IsAccessed, IsAtom, IsCut, Range, area_of, offset_of, range}
 use Rattle.pcode_model.specs.Rules.{first_bad}
 use Rattle.pcodetext.specs.declared.fault.TextFault.{TextFault}
 use Rattle.pcodetext.specs.Meaning.{Good, Bad}
 use Rattle.pcodetext.proofs.Whole.{good_same}
 use Rattle.flow.specs.declared.answer.FlowFault.TheVariants as F
+use Rattle.frame_facts.specs.Listed.{IsFrame}
 use Rattle.frame_facts.proofs.Whole.{same_accesses}
 use Rattle.stackvars.specs.declared.fault.AtomFault.TheVariants as A
 use Rattle.refusals.specs.Good.{Bytes, RefusedBy}
@@ -61,14 +62,31 @@ atom_by l f g there back a is = record {
   inside = is.inside;
 }
 
-atoms_same : (l : Listing) (m n : ℕ) → HasAtoms l m → HasAtoms l n → m ≡ n
-atoms_same l m n (f, (is, (xs, (a, x)))) (g, (also, (ys, (b, y)))) =
+-- The atoms with one frame of a listing are those with another one.
+pub atoms_by : (l : Listing) (f g : Frame)
+    → IsFrame l [] [] f
+    → IsFrame l [] [] g
+    → (atoms : List Atom)
+    → AreAtoms l [] f atoms
+    → AreAtoms l [] g atoms
+atoms_by l f g is also atoms are =
     let there = same_accesses l [] [] f g is also in
     let back = same_accesses l [] [] g f also is in
+    record {
+      each = λ a. (
+        λ h. atom_by l f g there back a ((are.each a).0 h),
+        λ h. (are.each a).1 (atom_by l g f back there a h),
+      );
+      in_order = are.in_order;
+    }
+
+atoms_same : (l : Listing) (m n : ℕ) → HasAtoms l m → HasAtoms l n → m ≡ n
+atoms_same l m n (f, (is, (xs, (a, x)))) (g, (also, (ys, (b, y)))) =
+    let c = atoms_by l f g is also xs a in
     sym x
-    ∙ ap length (same_atoms xs ys a.in_order b.in_order
-    (λ c h. (b.each c).1 (atom_by l f g there back c ((a.each c).0 h)))
-    (λ c h. (a.each c).1 (atom_by l g f back there c ((b.each c).0 h))))
+    ∙ ap length (same_atoms xs ys c.in_order b.in_order
+    (λ z h. (b.each z).1 ((c.each z).0 h))
+    (λ z h. (c.each z).1 ((b.each z).0 h)))
     ∙ y
 
 -- ---- verdicts

@@ -1,5 +1,5 @@
 -- What an input shows, and why it is refused. This project's own.
-use Rattle.std.specs.Prelude.{◌≡◌, Option, Result, ⊤}
+use Rattle.std.specs.Prelude.{◌≡◌, ℕ, [], Option, Result, ⊤}
 use Rattle.outside.specs.declared.reading.ReadEnd.{ReadEnd}
 use Rattle.statuses.specs.Answer as answer
 use Rattle.statuses.specs.Answer.{Answer}
@@ -12,7 +12,8 @@ use Rattle.refusals.specs.declared.refusal.Refusal.TheVariants as refusal
 use Rattle.pipeline.specs.declared.request.Form.{Form}
 use Rattle.pipeline.specs.declared.request.Form.TheVariants.{C, Plain, Listing}
 use Rattle.pipeline.specs.Message.{line_of}
-use Rattle.pipeline.specs.Request.{Wanted}
+use Rattle.pipeline.specs.Numbers.{AreNumbersOf}
+use Rattle.pipeline.specs.Request.{Numbers, Prints, Wanted}
 use Rattle.pipeline.specs.Verdict.{IsAccepted, IsRefused, MayPrint}
 
 -- ---- by the form
@@ -51,10 +52,17 @@ IsConverted form bytes o = cause.Judges ShowsAt FaultsAt form bytes o
 -- ---- by what is wanted
 
 abbrev pub Shows : Wanted → Bytes → Bytes → Type 0
-Shows w bytes text = ShowsAt w.form bytes text
+Shows (Prints form file) bytes text = ShowsAt form bytes text
+Shows (Numbers n) bytes text = AreNumbersOf n text
 
+-- the numbers of a generated listing are never refused
 abbrev pub Faults : Wanted → Bytes → Bytes → Type 0
-Faults w bytes line = FaultsAt w.form bytes line
+Faults (Prints form file) bytes line = FaultsAt form bytes line
+Faults (Numbers n) bytes line = ⊥
+
+-- what the numbers of a generated listing come to
+abbrev pub AreCounted : ℕ → Answer → Type 0
+AreCounted n o = cause.Judges Shows Faults (Numbers n) [] o
 
 -- why a call comes to an answer, where reading the input gives this
 abbrev pub Because : Option Wanted → (Wanted → Result Bytes ReadEnd → Type 0) → Answer → Type 0

@@ -3,5 +3,6 @@ pub mod PlainForm
 pub mod Verdict
 pub mod Message
 pub mod Passed
+pub mod Numbers
 pub mod Cause
 pub mod Table

@@ -8,6 +8,7 @@ use Rattle.words.specs.declared.request.Stage.TheVariants as stage
 use Rattle.pipeline.specs.declared.request.Form.{Form}
 use Rattle.pipeline.specs.declared.request.Form.TheVariants.{C, Plain, Listing}
 use Rattle.pipeline.specs.declared.request.Wanted as rust
+use Rattle.pipeline.specs.declared.request.Wanted.TheVariants as wanted
 
 -- the SSA text isn't built
 abbrev pub form_of : Stage → Option Form
@@ -16,33 +17,35 @@ form_of stage.Ssa = None
 form_of stage.Plain = Some Plain
 form_of stage.Listing = Some Listing
 
--- a text of a file or, without one, of the standard input
-pub record Wanted : Type 0 where
-  pub form : Form
-  pub file : Option (List ℕ)
+-- Prints: a text of a file or, without one, of the standard input. Numbers: the numbers of a generated listing.
+pub data Wanted : Type 0 where
+  Prints : Form → Option (List ℕ) → Wanted
+  Numbers : ℕ → Wanted
 
 abbrev pub text_of : Option (List ℕ) → Option Form → Option Wanted
-text_of file form = option_map (λ f. record { form = f; file = file }) form
+text_of file form = option_map (λ f. Prints f file) form
 
--- the numbers of a generated listing aren't built
 abbrev pub built : Option words.Asked → Option Wanted
 built None = None
 built (Some (words.Prints stage file)) = text_of file (form_of stage)
-built (Some (words.Numbers n)) = None
+built (Some (words.Numbers n)) = Some (Numbers n)
 
 abbrev pub asked_by : List (List ℕ) → Option Wanted
 asked_by list = built (words.asked_by list)
 
 abbrev pub wanted_of : rust.Wanted → Wanted
-wanted_of w = record { form = w.form; file = text_in w.file }
+wanted_of (wanted.Text form file) = Prints form (text_in file)
+wanted_of (wanted.Numbers n) = Numbers n
 
 -- ---- what is read
 
--- whether it is the standard input, or a file of the shelf
+-- whether it is the standard input, or a file of the shelf: a generated listing needs neither
 abbrev pub reads_input : Option Wanted → Bool
 reads_input None = false
-reads_input (Some w) = not (is_some w.file)
+reads_input (Some (Prints form file)) = not (is_some file)
+reads_input (Some (Numbers n)) = false
 
 abbrev pub reads_shelf : Option Wanted → Bool
 reads_shelf None = false
-reads_shelf (Some w) = is_some w.file
+reads_shelf (Some (Prints form file)) = is_some file
+reads_shelf (Some (Numbers n)) = false

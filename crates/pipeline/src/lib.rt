@@ -10,6 +10,7 @@
 //! be printed; an input is never both accepted and refused (proofs/Verdicts).
 #![tactic(auto)]
 
+mod generated;
 mod message;
 mod outcome;
 mod passes;
@@ -17,6 +18,7 @@ mod request;
 mod top;
 mod verdict;
 
+pub use generated::generated_numbers;
 pub use outcome::work_out;
 pub use passes::{decompile, lower};
 pub use request::{Form, Wanted, asked_for};

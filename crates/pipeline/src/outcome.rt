@@ -4,14 +4,16 @@ ghost use Rattle.pcode_model.specs.Limits.{max_input};
 ghost use Rattle.statuses.specs.Answer.{answer_of};
 ghost use Rattle.listing_again.specs.Again.{IsCanonicalOf};
 ghost use Rattle.pipeline.specs.declared.request.Form.TheVariants as form;
-ghost use Rattle.pipeline.specs.Cause.{Because, CauseAt, IsConverted, IsRefusal, ShowsAt};
-ghost use Rattle.pipeline.specs.Request.{asked_by, reads_input, reads_shelf, wanted_of};
+ghost use Rattle.pipeline.specs.Cause.{AreCounted, Because, CauseAt, IsConverted, IsRefusal, ShowsAt};
+ghost use Rattle.pipeline.specs.Request.{Prints, asked_by, reads_input, reads_shelf, wanted_of};
 ghost use Rattle.pipeline.specs.Table.{Came, FileCame, sources};
 ghost use Rattle.words.specs.Request.{text_in};
 
+use crate::generated::generated_numbers;
 use crate::message::refusal_line;
 use crate::passes::decompile;
 use crate::request::{Form, Wanted, asked_for};
+use bits_core::Memory;
 use listing_again::canonical_text;
 use outside::{Bytes, ReadEnd, Shelf, Source, Words, read_all};
 use pcode_model::{MAX_INPUT, Text};
@@ -33,14 +35,14 @@ pub fn work_out<S: Source, H: Shelf>(
     ensures shelf_later { (H.told shelf.old).faults ≤ (H.told shelf.new).faults }
 {
     match asked_for(alloc, words) {
-        Ok(Some(wanted)) => read(alloc, &wanted, input, shelf),
+        Ok(Some(wanted)) => made(alloc, &wanted, input, shelf),
         Ok(None) => Outcome::BadArguments,
         Err(_) => Outcome::Memory,
     }
 }
 
-// What the input or the file that is wanted comes to.
-fn read<S: Source, H: Shelf>(
+// What is wanted comes to this.
+fn made<S: Source, H: Shelf>(
     alloc: Global,
     wanted: &Wanted<'_>,
     input: &mut S,
@@ -52,8 +54,37 @@ fn read<S: Source, H: Shelf>(
     ensures input_later { (S.told input.old).faults ≤ (S.told input.new).faults }
     ensures shelf_later { (H.told shelf.old).faults ≤ (H.told shelf.new).faults }
 {
-    match fetch(alloc, wanted.file, input, shelf) {
-        Ok(bytes) => converted(alloc, wanted.form, bytes.as_slice()),
+    match *wanted {
+        Wanted::Text { form, file } => read(alloc, form, file, input, shelf),
+        Wanted::Numbers(number) => counted(alloc, number),
+    }
+}
+
+fn counted(alloc: Global, number: u32) -> Outcome
+    ensures { AreCounted number (answer_of result) }
+{
+    match generated_numbers(alloc, number) {
+        Ok(text) => Outcome::Shown(text),
+        Err(Memory) => Outcome::Memory,
+    }
+}
+
+// What the file comes to, or the input where there is none.
+fn read<S: Source, H: Shelf>(
+    alloc: Global,
+    form: Form,
+    file: Option<&str>,
+    input: &mut S,
+    shelf: &mut H,
+) -> Outcome
+    ensures because { Because (Some (Prints form (text_in file.entry))) (Came (sources (S.told input.old) (H.told shelf.old)) (sources (S.told input.new) (H.told shelf.new))) (answer_of result) }
+    ensures input_stays { is_some file.entry ≡ true → input.new ≡ input.old }
+    ensures shelf_stays { is_some file.entry ≡ false → shelf.new ≡ shelf.old }
+    ensures input_later { (S.told input.old).faults ≤ (S.told input.new).faults }
+    ensures shelf_later { (H.told shelf.old).faults ≤ (H.told shelf.new).faults }
+{
+    match fetch(alloc, file, input, shelf) {
+        Ok(bytes) => converted(alloc, form, bytes.as_slice()),
         Err(ReadEnd::Fault) => Outcome::ReadFault,
         Err(ReadEnd::TooLong) => Outcome::TooLong,
         Err(ReadEnd::Memory) => Outcome::Memory,

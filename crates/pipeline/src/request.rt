@@ -19,11 +19,13 @@ pub enum Form {
     Listing,
 }
 
-/// A text of the file, or of the standard input where there is none.
+/// What is wanted.
 #[derive(Clone, Copy, Debug, PartialEq, Eq)]
-pub struct Wanted<'a> {
-    pub form: Form,
-    pub file: Option<&'a str>,
+pub enum Wanted<'a> {
+    /// A text of the file, or of the standard input where there is none.
+    Text { form: Form, file: Option<&'a str> },
+    /// The numbers of the generated listing with this number.
+    Numbers(u32),
 }
 
 // The SSA text isn't built.
@@ -38,16 +40,17 @@ fn built_form(stage: Stage) -> Option<Form>
     }
 }
 
-/// What the words ask for. None where they are refused or ask for what isn't built, the SSA text or the numbers of a
-/// generated listing. Fails where there is no memory to read them.
+/// What the words ask for. None where they are refused or ask for what isn't built, the SSA text. Fails where there is no
+/// memory to read them.
 pub fn asked_for(alloc: Global, words: &Words) -> Result<Option<Wanted<'_>>, Memory>
     ensures { IfOk result (λ wanted. option_map wanted_of wanted ≡ asked_by (map string_bytes words.now)) }
 {
     match read_words(alloc, words.as_slice())? {
         Some(Request::Text { stage, file }) => match built_form(stage) {
-            Some(form) => Ok(Some(Wanted { form, file })),
+            Some(form) => Ok(Some(Wanted::Text { form, file })),
             None => Ok(None),
         },
-        _ => Ok(None),
+        Some(Request::Numbers(number)) => Ok(Some(Wanted::Numbers(number))),
+        None => Ok(None),
     }
 }

@@ -51,7 +51,8 @@ pub fn accept(alloc: Global, bytes: &[u8]) -> Result<Accepted, Refusal>
     })
 }
 
-fn blocks(alloc: Global, listing: &Listing) -> Result<Flow, Refusal>
+/// The blocks, or the first fault of the flow.
+pub(crate) fn blocks(alloc: Global, listing: &Listing) -> Result<Flow, Refusal>
     requires formed { IsWellFormed listing.now }
     ensures blocks { IfOk result (λ flow. IsFlow listing.now [] flow) }
     ensures no_fault { OnOk result (NoFault listing.now []) }
@@ -65,8 +66,8 @@ fn blocks(alloc: Global, listing: &Listing) -> Result<Flow, Refusal>
     }
 }
 
-// The frame. Only want of memory refuses it.
-fn stack_variables(alloc: Global, listing: &Listing, flow: &Flow) -> Result<Frame, Refusal>
+/// The frame. Only want of memory refuses it.
+pub(crate) fn stack_variables(alloc: Global, listing: &Listing, flow: &Flow) -> Result<Frame, Refusal>
     requires formed { IsWellFormed listing.now }
     requires ops { first_bad listing.now ≡ None }
     requires flow { IsFlow listing.now [] flow.now }
@@ -80,8 +81,8 @@ fn stack_variables(alloc: Global, listing: &Listing, flow: &Flow) -> Result<Fram
     }
 }
 
-// The atoms: each is a variable.
-fn variables(alloc: Global, listing: &Listing, flow: &Flow, frame: &Frame) -> Result<Atoms, Refusal>
+/// The atoms: each is a variable.
+pub(crate) fn variables(alloc: Global, listing: &Listing, flow: &Flow, frame: &Frame) -> Result<Atoms, Refusal>
     requires formed { IsWellFormed listing.now }
     requires ops { first_bad listing.now ≡ None }
     requires flow { IsFlow listing.now [] flow.now }

@@ -7,7 +7,7 @@ use Rattle.std.proofs.lemmas.Bool.{cases_eq, ne_eqb}
 use Rattle.std.proofs.lemmas.Bool.Decides.{nat_tests}
 use Rattle.std.proofs.lemmas.Int.{ints}
 use Rattle.pcode_model.specs.declared.listing.Listing.{Listing}
-use Rattle.pcode_model.specs.declared.listing.SpaceKind.TheVariants.{Ram, Register, Unique}
+use Rattle.pcode_model.specs.declared.listing.SpaceKind.TheVariants.{Constant, Ram, Register, Unique}
 use Rattle.pcode_model.specs.declared.listing.Varnode.{Varnode}
 use Rattle.pcode_model.specs.Atoms.{IsLocal}
 use Rattle.pcode_model.specs.Frame.{wrapped}
@@ -17,7 +17,7 @@ use Rattle.range_words.specs.Own.{centred, half, stack_size}
 use Rattle.frame_facts.specs.Accesses.{frame_limit, stack_width, width_in}
 use Rattle.frame_facts.proofs.Prototypes.{size_by}
 use Rattle.plain_form.proofs.Memory.{memory_is}
-use Rattle.plain_form.proofs.Spaces.{differ, kind_of_first}
+use Rattle.plain_form.proofs.Spaces.{differ, kind_of_first, low}
 
 -- ---- powers
 
@@ -44,6 +44,11 @@ room_in w some = ⊎_elim
 -- The first ram space is one.
 pub first_ram_is : (l : Listing) → IsWellFormed l → kind_of l (first_ram l) ≡ Ram
 first_ram_is l read = kind_of_first Ram l.spaces read.complete.ram
+
+-- It has at most 2^64 addresses.
+pub stack_small : (l : Listing) → IsWellFormed l → stack_size l ≤ 2 ^ 64
+stack_small l read =
+    low l.spaces read.spaces (first_ram l) (λ e. differ Ram Constant refl (sym e ∙ first_ram_is l read))
 
 -- It is neither the register space nor the unique space.
 pub off_frame : (l : Listing) → IsWellFormed l → (s : ℕ) → IsLocal l s → s ≡ first_ram l → ⊥

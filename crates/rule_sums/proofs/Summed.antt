@@ -14,6 +14,7 @@ use Rattle.cmeaning.specs.declared.tree.Expr.{Expr}
 use Rattle.cmeaning.specs.declared.tree.Expr.TheVariants as E
 use Rattle.rules.specs.Letters.{IsWide, Folds, KeepsAtZero, FallsAtZero, Cancels, RepeatsItself, IsBitwise, Commutes}
 use Rattle.rules.specs.Arithmetic.{Summing, A1, A2_mul, A2_and, A2_div, A2_sdiv, A3, A4_none, A4_same, A5_add_add, A5_add_add_over, A5_sub_sub, A5_add_sub, A5_add_sub_over, A5_sub_add, A6, A6_over, A7, A8_add, A8_sub}
+use Rattle.rules.proofs.Arithmetic.{bitwise_commutes}
 use Rattle.rule_views.specs.declared.nodes.Single.{Single}
 use Rattle.rule_views.specs.declared.nodes.Single.TheVariants as S
 use Rattle.rule_views.specs.declared.nodes.Pair.{Pair}
@@ -117,14 +118,6 @@ module _ (ws : ℕ → ℕ) where
   opposite_rule O.And to x y i is = absurd i
   opposite_rule O.Or to x y i is = absurd i
   opposite_rule O.Xor to x y i is = absurd i
-
-bits_commute : (op : ArithmeticOp) → IsBitwise op → Commutes op
-bits_commute O.Add h = tt
-bits_commute O.Sub h = absurd h
-bits_commute O.Mul h = tt
-bits_commute O.And h = tt
-bits_commute O.Or h = tt
-bits_commute O.Xor h = tt
 
 -- ---- what functions answer
 
@@ -330,7 +323,7 @@ module _ {T : Type 0} (sees : Sight T) where
       no_sum l r (A5_add_sub_over u c d e f) is = nested O.Sub O.Add u _ c d tt tt (OnLeft O.Add u c tt) is
       no_sum l r (A5_sub_add u c d e f) is = nested O.Add O.Sub u _ c d tt tt (OnRight O.Sub u c) is
       no_sum l r (A6 op u c d e k f) is = bits op u _ c d k (OnRight op u c) is
-      no_sum l r (A6_over op u c d e k f) is = bits op u _ c d k (OnLeft op u c (bits_commute op k)) is
+      no_sum l r (A6_over op u c d e k f) is = bits op u _ c d k (OnLeft op u c (bitwise_commutes op k)) is
       no_sum l r (A7 op u) is = pair_no_single p x y (S.Unary op) (E.Unary op u) (sym is)
       no_sum l r (A8_add u v) is = opposite O.Add u v tt is
       no_sum l r (A8_sub u v) is = opposite O.Sub u v tt is

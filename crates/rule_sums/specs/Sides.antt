@@ -12,10 +12,10 @@ use Rattle.cmeaning.specs.declared.tree.ShiftOp.{ShiftOp}
 use Rattle.cmeaning.specs.declared.tree.ShiftOp.TheVariants as H
 use Rattle.cmeaning.specs.declared.tree.Expr.{Expr}
 use Rattle.cmeaning.specs.declared.tree.Expr.TheVariants as E
-use Rattle.rules.specs.Letters.{IsWide, IsAtom, Folds, KeepsAtZero, FallsAtZero, Cancels, RepeatsItself, IsBitwise}
+use Rattle.rules.specs.Letters.{IsWide, Folds, KeepsAtZero, FallsAtZero, Cancels, RepeatsItself, IsBitwise}
 use Rattle.rule_views.specs.declared.nodes.Pair.{Pair}
 use Rattle.rule_views.specs.declared.nodes.Pair.TheVariants as P
-use Rattle.rule_views.specs.Sees.{Sight}
+use Rattle.rule_views.specs.Sees.{Sight, NoAtom}
 use Rattle.rule_views.specs.Beside.{ConstOn}
 
 -- whatever is seen has more bits than c
@@ -46,10 +46,6 @@ IsSum op = ⊥
 abbrev pub NoneBeside : {S : Type 0} → Sight S → S → (ArithmeticOp → Type 0) → Type 0
 NoneBeside sees a is = (ws : ℕ → ℕ) (op : ArithmeticOp) (x : Expr) (c : Word) (l : Expr)
     → is op → ConstOn op x c l → sees ws a l → ⊥
-
--- not one variable or constant at both
-abbrev pub NoAtom : {S : Type 0} → Sight S → S → S → Type 0
-NoAtom sees a b = (ws : ℕ → ℕ) (x : Expr) → IsAtom x → sees ws a x → sees ws b x → ⊥
 
 abbrev pub NoUnaryOf : {S : Type 0} → Sight S → UnaryOp → S → Type 0
 NoUnaryOf sees op a = (ws : ℕ → ℕ) (x : Expr) → sees ws a (E.Unary op x) → ⊥

@@ -8,6 +8,7 @@ ghost use Rattle.rule_views.specs.declared.nodes.Single.TheVariants as S;
 ghost use Rattle.rule_views.specs.declared.nodes.Pair.TheVariants as P;
 ghost use Rattle.rule_views.specs.declared.row.Row.TheVariants as R;
 ghost use Rattle.rule_views.specs.Rows.{SummingOf};
+ghost use Rattle.rule_views.specs.Sees.{NoAtom};
 ghost use Rattle.rule_views.specs.Fires.{FiredWith, NoneOfPair, FiredOfPair, NoneOfSingle, FiredOfSingle};
 ghost use Rattle.rule_sums.specs.Sides as N;
 
@@ -62,7 +63,7 @@ fn with_zero<V: View>(op: ArithmeticOp, a: V, c: Word) -> Option<Made<V>>
 /// x - x, x ^ x: 0
 #[tactic(auto, using(crate::proofs::Summed::cancelled_fires))]
 fn cancelled<V: View>(op: ArithmeticOp, a: V, b: V) -> Option<Made<V>>
-    ensures { MatchOption result (Cancels op → N.NoAtom V.Sees a b)
+    ensures { MatchOption result (Cancels op → NoAtom V.Sees a b)
         (FiredOfPair (SummingOf R.A4) V.Sees (P.Arithmetic op) a b) }
 {
     if !cancels(op) {
@@ -78,7 +79,7 @@ fn cancelled<V: View>(op: ArithmeticOp, a: V, b: V) -> Option<Made<V>>
 /// x & x, x | x: x
 #[tactic(auto, using(crate::proofs::Summed::repeated_fires))]
 fn repeated<V: View>(op: ArithmeticOp, a: V, b: V) -> Option<Made<V>>
-    ensures { MatchOption result (RepeatsItself op → N.NoAtom V.Sees a b)
+    ensures { MatchOption result (RepeatsItself op → NoAtom V.Sees a b)
         (FiredOfPair (SummingOf R.A4) V.Sees (P.Arithmetic op) a b) }
 {
     if !repeats_itself(op) {

@@ -1,5 +1,5 @@
 -- How answers about places join to what a rule asks.
-use Rattle.std.proofs.Common.{◌≡◌, ℕ, Some, sym, subst, ◌∙◌, refl}
+use Rattle.std.proofs.Common.{◌≡◌, ℕ, Some, sym, ap, subst, ◌∙◌, refl}
 use Rattle.bits_core.specs.declared.word.Word.{Word}
 use Rattle.cmeaning.specs.declared.tree.UnaryOp.{UnaryOp}
 use Rattle.cmeaning.specs.declared.tree.CompareOp.{CompareOp}
@@ -18,11 +18,11 @@ use Rattle.rule_views.specs.declared.nodes.Pair.{Pair}
 use Rattle.rule_views.specs.declared.nodes.Pair.TheVariants as P
 use Rattle.rule_views.specs.declared.view.Made.{Made}
 use Rattle.rule_views.specs.Nodes.{pair_node}
-use Rattle.rule_views.specs.Sees.{Sight, IsSized, IsWideAt, IsConstant, NoConstant, IsPair, NoPair, IsSingle, NoSingle}
+use Rattle.rule_views.specs.Sees.{Sight, IsSized, IsWideAt, IsConstant, NoConstant, NoZero, IsPair, NoPair, NoNode, IsSingle, NoSingle}
 use Rattle.rule_views.specs.Fires.{Family, FiredOfPair, FiredWith}
 use Rattle.rule_views.specs.Beside.{ConstOn, OnRight, OnLeft, NoBeside, IsBeside, NoArithmetic, NoUnary}
 use Rattle.rule_views.proofs.Layers.{same_pair, same_const}
-use Rattle.rule_views.proofs.Seen.{pair_only, single_only}
+use Rattle.rule_views.proofs.Seen.{pair_only, single_only, constant_only}
 
 -- a node over a letter and a constant is so part by part
 pub record SameWith (p q : Pair) (x y : Expr) (c d : Word) : Type 0 where
@@ -59,6 +59,37 @@ module _ {T : Type 0} (sees : Sight T) where
           makes = w.makes;
         });
   }
+
+  -- ---- a left side that is seen, by the operands of the node
+
+  pub two_seen : (p : Pair) (a b : T) (ws : ℕ → ℕ) (x y : Expr) → sees ws a x → sees ws b y → (q : Pair) (u v : Expr)
+      → pair_node q u v ≡ pair_node p x y → (q ≡ p) × (sees ws a u × sees ws b v)
+  two_seen p a b ws x y s t q u v is =
+      let e = same_pair q p u v x y is in
+      (e.node, (subst (sees ws a) (sym e.left) s, subst (sees ws b) (sym e.right) t))
+
+  pub record WithSeen (p : Pair) (a : T) (c : Word) (ws : ℕ → ℕ) (q : Pair) (u : Expr) (d : Word) : Type 0 where
+    pub node : q ≡ p
+    pub word : d ≡ c
+    pub letter : sees ws a u
+
+  pub with_seen : (p : Pair) (a b : T) (c : Word) → IsConstant sees b c → (ws : ℕ → ℕ) (x y : Expr) → sees ws a x
+      → sees ws b y → (q : Pair) (u : Expr) (d : Word) → pair_node q u (E.Const d) ≡ pair_node p x y
+      → WithSeen p a c ws q u d
+  with_seen p a b c k ws x y s t q u d is =
+      let e = two_seen p a b ws x y s t q u (E.Const d) is in
+      record { node = e.0; word = constant_only sees b c k ws d e.1.1; letter = e.1.0 }
+
+  -- ---- looks
+
+  pub no_zero : (at : T) (c : Word) → IsConstant sees at c → (c.value ≡ 0 → ⊥) → NoZero sees at
+  no_zero at c k n ws d z s = n (ap (λ (w : Word). w.value) (sym (constant_only sees at c k ws d s)) ∙ z)
+
+  pub no_other_node : (at a b : T) (p q : Pair) → IsPair sees at q a b → (q ≡ p → ⊥) → NoNode sees at p
+  no_other_node at a b p q i n ws x y s = n (sym (pair_only sees at a b q i ws p x y s).0)
+
+  pub of_node : (at a b : T) (p q : Pair) → IsPair sees at q a b → q ≡ p → IsPair sees at p a b
+  of_node at a b p q i is = subst (λ r. IsPair sees at r a b) is i
 
   pub no_pair_arithmetic : (at : T) → NoPair sees at → NoArithmetic sees at
   no_pair_arithmetic at n ws op x y s = n ws (P.Arithmetic op) x y s

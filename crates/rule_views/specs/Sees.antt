@@ -29,10 +29,17 @@ abbrev pub IsSame : {S : Type 0} → Sight S → S → S → Type 0
 IsSame sees a b = (e : Expr)
     × (IsAtom e × ((ws : ℕ → ℕ) (x y : Expr) → sees ws a x → sees ws b y → sees ws a e × sees ws b e))
 
+-- not one variable or constant at both
+abbrev pub NoAtom : {S : Type 0} → Sight S → S → S → Type 0
+NoAtom sees a b = (ws : ℕ → ℕ) (x : Expr) → IsAtom x → sees ws a x → sees ws b x → ⊥
+
 -- ---- a constant
 
 abbrev pub NoConstant : {S : Type 0} → Sight S → S → Type 0
 NoConstant sees at = (ws : ℕ → ℕ) (c : Word) → sees ws at (E.Const c) → ⊥
+
+abbrev pub NoZero : {S : Type 0} → Sight S → S → Type 0
+NoZero sees at = (ws : ℕ → ℕ) (c : Word) → c.value ≡ 0 → sees ws at (E.Const c) → ⊥
 
 pub record IsConstant {S : Type 0} (sees : Sight S) (at : S) (c : Word) : Type 0 where
   pub only : (ws : ℕ → ℕ) (e : Expr) → sees ws at e → IsVariable e ⊎ (e ≡ E.Const c)
@@ -56,6 +63,9 @@ pub record IsSingle {S : Type 0} (sees : Sight S) (at : S) (s : Single) (a : S) 
 
 abbrev pub NoPair : {S : Type 0} → Sight S → S → Type 0
 NoPair sees at = (ws : ℕ → ℕ) (p : Pair) (x y : Expr) → sees ws at (pair_node p x y) → ⊥
+
+abbrev pub NoNode : {S : Type 0} → Sight S → S → Pair → Type 0
+NoNode sees at p = (ws : ℕ → ℕ) (x y : Expr) → sees ws at (pair_node p x y) → ⊥
 
 -- e is the node p over what is seen at a and at b
 pub record AreUnder {S : Type 0} (sees : Sight S) (p : Pair) (a b : S) (ws : ℕ → ℕ) (e : Expr) : Type 0 where

@@ -1,12 +1,13 @@
 //! What several rules look for at a place.
 
-ghost use Rattle.std.specs.Prelude.{◌≡◌, MatchOption};
+ghost use Rattle.std.specs.Prelude.{◌≡◌, ◌↔◌, ℕ, IsTrue, MatchOption};
+ghost use Rattle.cmeaning.specs.declared.tree.Expr.{Expr};
 ghost use Rattle.cmeaning.specs.Value.{arithmetic_of};
 ghost use Rattle.rules.specs.Letters.{Folds};
 ghost use Rattle.rule_views.specs.declared.nodes.Pair.TheVariants as P;
 ghost use Rattle.rule_views.specs.Beside as B;
 ghost use Rattle.rule_views.specs.declared.nodes.Single.TheVariants as S;
-ghost use Rattle.rule_views.specs.Sees.{IsPair, IsSingle};
+ghost use Rattle.rule_views.specs.Sees.{IsPair, IsSingle, IsConstant, NoZero, NoNode};
 
 use crate::nodes::{Pair, Single};
 use crate::view::View;
@@ -38,8 +39,9 @@ pub fn folded(op: ArithmeticOp, c: Word, d: Word) -> Word
     }
 }
 
+/// A node of sums, differences, products or bits.
 #[tactic(auto, using(crate::proofs::Fire::no_pair_arithmetic, crate::proofs::Fire::no_arithmetic))]
-fn arithmetic<V: View>(at: V) -> Option<(ArithmeticOp, V, V)>
+pub fn arithmetic<V: View>(at: V) -> Option<(ArithmeticOp, V, V)>
     ensures { MatchOption result (B.NoArithmetic V.Sees at) (λ t. IsPair V.Sees at (P.Arithmetic t.0) t.1 t.2) }
 {
     let (node, a, b) = at.pair()?;
@@ -77,4 +79,44 @@ pub fn beside_constant<V: View>(at: V) -> Option<(ArithmeticOp, V, Word)>
             None => None,
         },
     }
+}
+
+// Whether two nodes are of one operation.
+fn same_node(p: Pair, q: Pair) -> bool
+    ensures { IsTrue result ↔ (p ≡ q) }
+{
+    match p {
+        Pair::Arithmetic(op) => matches!(q, Pair::Arithmetic(other) if other == op),
+        Pair::Division(op) => matches!(q, Pair::Division(other) if other == op),
+        Pair::SignedDivision(op) => matches!(q, Pair::SignedDivision(other) if other == op),
+        Pair::Shift(op) => matches!(q, Pair::Shift(other) if other == op),
+        Pair::Compare(op) => matches!(q, Pair::Compare(other) if other == op),
+        Pair::SignedCompare(op) => matches!(q, Pair::SignedCompare(other) if other == op),
+        Pair::Concat => matches!(q, Pair::Concat),
+        Pair::Overflow(op) => matches!(q, Pair::Overflow(other) if other == op),
+    }
+}
+
+/// The operands of a node of this operation.
+#[tactic(auto, using(crate::proofs::Fire::no_other_node, crate::proofs::Fire::of_node))]
+pub fn operands_of<V: View>(at: V, p: Pair) -> Option<(V, V)>
+    ensures { MatchOption result (NoNode V.Sees at p) (λ t. IsPair V.Sees at p t.0 t.1) }
+{
+    let (node, x, y) = at.pair()?;
+    if !same_node(node, p) {
+        return None;
+    }
+    Some((x, y))
+}
+
+/// The constant 0.
+#[tactic(auto, using(crate::proofs::Fire::no_zero))]
+pub fn zero<V: View>(at: V) -> Option<Word>
+    ensures { MatchOption result (NoZero V.Sees at) (λ c. IsConstant V.Sees at c × (c.value ≡ 0)) }
+{
+    let c = at.constant()?;
+    if c.value != 0 {
+        return None;
+    }
+    Some(c)
 }

@@ -76,7 +76,7 @@ bitwise_nests And w a b c k = and_assoc c a b
 bitwise_nests Or w a b c k = or_assoc a b c
 bitwise_nests Xor w a b c k = xor_assoc a b c
 
-bitwise_commutes : (op : ArithmeticOp) → IsBitwise op → Commutes op
+pub bitwise_commutes : (op : ArithmeticOp) → IsBitwise op → Commutes op
 bitwise_commutes Add k = absurd k
 bitwise_commutes Sub k = absurd k
 bitwise_commutes Mul k = absurd k

@@ -6,10 +6,10 @@ use Rattle.node_lists.specs.Families.{inserted}
 use Rattle.node_lists.proofs.Chains.{eqb_not}
 use Rattle.ssa_model.specs.Paths.{before_op}
 
-before_here : (x y : ℕ) (ys : List ℕ) → y ≡ x → before_op x (y ∷ ys) ≡ []
+pub before_here : (x y : ℕ) (ys : List ℕ) → y ≡ x → before_op x (y ∷ ys) ≡ []
 before_here x y ys e = ap (λ t. cond t [] (y ∷ before_op x ys)) (eq-eqb y x e)
 
-before_far : (x y : ℕ) (ys : List ℕ) → (y ≡ x → ⊥) → before_op x (y ∷ ys) ≡ y ∷ before_op x ys
+pub before_far : (x y : ℕ) (ys : List ℕ) → (y ≡ x → ⊥) → before_op x (y ∷ ys) ≡ y ∷ before_op x ys
 before_far x y ys n = ap (λ t. cond t [] (y ∷ before_op x ys)) (eqb_not y x n)
 
 inserted_here : (x at y : ℕ) (ys : List ℕ) → y ≡ at → inserted x at (y ∷ ys) ≡ x ∷ y ∷ ys

@@ -8,3 +8,4 @@ pub mod Placed
 pub mod Reach
 pub mod Found
 pub mod Worked
+pub mod Built

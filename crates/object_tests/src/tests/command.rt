@@ -23,6 +23,14 @@ const ITS_C: &[u8] = b"void f_f(u64 in_register_288)
 }
 ";
 
+/// Of the generated listing with the number 0.
+const ITS_NUMBERS: &[u8] = b"ops 2250
+blocks 457
+atoms 18
+gotos 248
+bytes 255821
+";
+
 /// The number of a call that isn't made.
 const NEVER: u32 = 9999;
 
@@ -122,7 +130,7 @@ struct Row {
     err: &'static [u8],
 }
 
-const ROWS: [Row; 10] = [
+const ROWS: [Row; 13] = [
     Row {
         words: &[],
         text: LISTING,
@@ -188,6 +196,33 @@ const ROWS: [Row; 10] = [
     },
     Row {
         words: &["--gen", "1", "a.txt"],
+        text: LISTING,
+        read: NEVER,
+        write: NEVER,
+        status: 2,
+        out: b"",
+        err: b"pcode2c: bad arguments\n",
+    },
+    Row {
+        words: &["--gen", "0"],
+        text: LISTING,
+        read: 0,
+        write: NEVER,
+        status: 0,
+        out: ITS_NUMBERS,
+        err: b"",
+    },
+    Row {
+        words: &["--gen=0000000000"],
+        text: b"",
+        read: NEVER,
+        write: 0,
+        status: 4,
+        out: b"",
+        err: b"",
+    },
+    Row {
+        words: &["--gen", "4294967296"],
         text: LISTING,
         read: NEVER,
         write: NEVER,

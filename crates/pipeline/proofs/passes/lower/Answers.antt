@@ -1,13 +1,16 @@
 use Rattle.std.proofs.Common.{ap, ◌∙◌, arith}
 use Rattle.layout.specs.Function.{head_of}
+use Rattle.plain_form.proofs.Halves.{stack_small}
 use Rattle.pipeline.proofs.Forms.{few_blocks_made, few_made, laid_is, lowers, lowers_to}
 use Rattle.pipeline.proofs.passes.lower.Goals as goal
 
 pub plain-requires-clause-code : goal.plain-requires-clause-code
 plain-requires-clause-code c = c.requires.read.apart
 
-pub plain-requires-clause-spaces : goal.plain-requires-clause-spaces
-plain-requires-clause-spaces c = let few = c.requires.read.limited.spaces in omega (arith, few)
+pub plain-requires-clause-frame : goal.plain-requires-clause-frame
+plain-requires-clause-frame c =
+    let few = c.requires.read.limited.spaces in
+    record { spaces = omega (arith, few); offsets = stack_small c.args.accepted.now.listing c.requires.read }
 
 pub laid_out-requires : goal.laid_out-requires
 laid_out-requires c =

@@ -1,0 +1,5 @@
+pub mod Borrows
+pub mod Bounds
+pub mod Compared
+pub mod Decided
+pub mod Joined

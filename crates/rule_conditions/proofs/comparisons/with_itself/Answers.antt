@@ -1,0 +1,10 @@
+use Rattle.std.proofs.Common.{rules}
+use Rattle.rule_views.specs.Sees.{IsSame}
+use Rattle.rule_conditions.proofs.Bounds.{itself_fires}
+use Rattle.rule_conditions.proofs.comparisons.with_itself.Goals as goal
+
+pub returns : goal.returns
+returns g c =
+    let same : IsSame g.V.View.Sees c.args.a c.args.b = c.same.ensures.yes (search rules) in
+    itself_fires g.V.View.Sees c.args.a c.args.b c.args.op c.of_itself.result c.of_test-test.result same c.of_itself.ensures
+    c.of_test-test.ensures.width c.of_test-test.ensures.value

@@ -1,0 +1,4 @@
+pub mod Avoids
+pub mod Lines
+pub mod Keeps
+pub mod Runs
