@@ -1,23 +1,22 @@
 -- An op of the same value leaves the run equal step by step.
-use Rattle.std.proofs.Common.{◌≡◌, ℕ, zero, suc, ◌<◌, Bool, true, false, List, [], ◌∷◌, ◌++◌, ◌⊎◌, inl, inr, map, Option, Some, None, refl, sym, ap, ◌∙◌, subst, true≢false}
+use Rattle.std.proofs.Common.{◌≡◌, ℕ, zero, suc, ◌<◌, Bool, true, List, [], ◌∷◌, ◌++◌, ◌⊎◌, inl, inr, Option, Some, None, refl, sym, ap, ◌∙◌, subst, true≢false}
 use Rattle.std.proofs.Math.Path.{fun_ext}
 use Rattle.std.proofs.lemmas.Bool.{cases_eq}
 use Rattle.heap_nodes.proofs.Places.{some_same, none_some}
 use Rattle.bits_core.specs.declared.word.Width.{Width}
-use Rattle.bits_core.specs.Value.{divide_value}
 use Rattle.machine.specs.Trace.{End, Undefined}
 use Rattle.machine.specs.Machine.{after}
 use Rattle.pcode_model.specs.declared.listing.Listing.{Listing}
 use Rattle.pcode_model.specs.Memory.{Bytes}
 use Rattle.pcode_model.specs.World.{World, Entry, first_world, unless_over}
 use Rattle.cmeaning.specs.declared.tree.Stmt.{Stmt}
-use Rattle.cmeaning.specs.Do.{Local, divide_of, ends, values_of, do_simple}
+use Rattle.cmeaning.specs.Do.{Local, ends, values_of, do_simple}
 use Rattle.blockcode.specs.declared.code.Exit.{Exit}
 use Rattle.blockcode.specs.Run.{call_returns}
-use Rattle.node_lists.specs.Chains.{IsIn, put_at, last_or}
-use Rattle.node_lists.proofs.Chains.{cases_key, put_here, put_away, in_right}
-use Rattle.parts.specs.Exprs.{Env, all_of, widths_of}
-use Rattle.parts.specs.Stmts.{Action, Sets, Divides, Done, Over, Goes, action_of, target_of, args_of, performed, divides, act, done_with, done_by}
+use Rattle.node_lists.specs.Chains.{last_or}
+use Rattle.node_lists.proofs.Chains.{put_here, put_away}
+use Rattle.parts.specs.Exprs.{all_of, widths_of}
+use Rattle.parts.specs.Stmts.{Action, Sets, Divides, Goes, action_of, target_of, args_of, performed, divides, act, done_with, done_by}
 use Rattle.parts.proofs.Parts.{do_by_parts}
 use Rattle.edges.specs.Exits.{exit_args, Where, Onto, Out, leads}
 use Rattle.edges.specs.Run.{Blocks, Going, going, stmts_of, exit_of, exit_at, stmts_at, over_edge, arrives, leaves, returns_at, exec, blocks_step, first_state, start_blocks}
@@ -26,16 +25,16 @@ use Rattle.ssa_model.specs.declared.form.SsaExit.{SsaExit}
 use Rattle.ssa_model.specs.declared.form.SsaExit.TheVariants as X
 use Rattle.ssa_model.specs.declared.form.SsaBlock.{SsaBlock}
 use Rattle.ssa_model.specs.declared.form.Parts.{Parts}
-use Rattle.ssa_model.specs.Roles.{Role, Starts, Joins, Tests, Switches, Returns, role_of}
+use Rattle.ssa_model.specs.Roles.{Role, Starts, Joins, role_of}
 use Rattle.ssa_model.specs.Outline.{Form, form, outline, forms_of, form_in, width_in, width_at, exit_in, block_with, predecessors_in, predecessors_at}
 use Rattle.ssa_model.specs.Formed.{exit_role}
-use Rattle.ssa_model.specs.Edits.{IsSsa, with_row}
-use Rattle.ssa_model.specs.Lines.{line_of, line_by, body_of, exit_over, last_inputs, block_by, target, carried, carried_row, through}
+use Rattle.ssa_model.specs.Edits.{IsSsa}
+use Rattle.ssa_model.specs.Lines.{line_of, line_by, body_of, exit_over, last_inputs, block_by, target, carried, carried_row}
 use Rattle.ssa_model.specs.Run.{first_by, first_word, blocks_of}
 use Rattle.ssa_laws.specs.Law.{computes, computed, computed_with, value_in, state_after, StandsAt}
-use Rattle.ssa_laws.specs.Retarget.{IsSameValue, RunAlike}
+use Rattle.ssa_laws.specs.Retarget.{IsSameValue}
 use Rattle.ssa_laws.proofs.Lines.{IsLine, NoLine, OneLine}
-use Rattle.ssa_laws.proofs.Keeps.{line_at, target_is, no_line, one_line}
+use Rattle.ssa_laws.proofs.Keeps.{line_at, target_is, no_line}
 use Rattle.ssa_laws.proofs.Runs.{stmts_are, in_ids, exit_is, one_further, none_more}
 
 -- ---- what a statement does that computes a value

@@ -1,10 +1,9 @@
 -- An op that does something else, by which its value is the same.
-use Rattle.std.specs.Prelude.{◌≡◌, ℕ, true, List, [], ◌∷◌, Option, Some, None}
+use Rattle.std.specs.Prelude.{◌≡◌, ℕ, true, List, [], ◌∷◌, Some, None}
 use Rattle.pcode_model.specs.declared.listing.Listing.{Listing}
 use Rattle.pcode_model.specs.World.{Entry}
 use Rattle.cmeaning.specs.declared.tree.Stmt.{Stmt}
 use Rattle.parts.specs.Stmts.{action_of}
-use Rattle.edges.specs.Run.{Going}
 use Rattle.opgraph.specs.Graph.{OpRow, op_at}
 use Rattle.ssa_model.specs.declared.form.Parts.{Parts}
 use Rattle.ssa_model.specs.Outline.{form}
