@@ -14,8 +14,7 @@ use Rattle.generator_laws.proofs.Obeys.{built, obeys}
 pub drawn_taken : (draws : ℕ → Drawn) → AreFit draws → IsTaken (listing_of draws)
 drawn_taken draws fit = record {
   ops = obeys draws fit;
-  stack = refl;
-  built = built draws;
+  built = record { stack = refl; ops = built draws };
   flow = no_fault draws;
   blocks = few_starts draws;
   atoms = few_atoms draws fit;

@@ -6,17 +6,12 @@ use Rattle.refusals.specs.declared.refusal.Refusal.{Refusal}
 use Rattle.refusals.proofs.Blocks.{few_starts}
 use Rattle.run_verdict.specs.Runs.{StopsFlow}
 use Rattle.run_verdict.proofs.Flow.{flow_stops}
-use Rattle.run_verdict.proofs.accepting.blocks.Goals as goal
+use Rattle.run_verdict.proofs.accepting.check_flow.Goals as goal
 
 pub returns-in-Ok-clause-no_fault : goal.returns-in-Ok-clause-no_fault
 returns-in-Ok-clause-no_fault c =
     let P : List TableAt → Type 0 = λ t. NoFault c.args.listing.now t in
     subst P c.new-tables.ensures c.in-Ok.ensures.no_fault
-
-pub returns-in-Ok-clause-blocks : goal.returns-in-Ok-clause-blocks
-returns-in-Ok-clause-blocks c =
-    let P : List TableAt → Type 0 = λ t. IsFlow c.args.listing.now t c.in-Ok.field-0 in
-    subst P c.new-tables.ensures c.in-Ok.ensures.blocks
 
 pub returns-in-Ok-clause-few : goal.returns-in-Ok-clause-few
 returns-in-Ok-clause-few c =
