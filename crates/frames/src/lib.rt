@@ -1,23 +1,21 @@
 //! The frame of a listing.
+//!
+//! So far only that of a listing without a stack pointer, which is empty: nothing is known of a stack then. What is known
+//! where there is one is computed by `frame_known`, what follows of it by `frame_found`, and the frame variables by
+//! `frame_classes`.
 #![tactic(auto)]
 
-ghost use Rattle.std.specs.Prelude.{◌≡◌, [], None, IfOk};
-ghost use Rattle.pcode_model.specs.Flow.{IsFlow, NoFault};
-ghost use Rattle.pcode_model.specs.Rules.{first_bad};
-ghost use Rattle.pcode_model.specs.WellFormed.{IsWellFormed};
+ghost use Rattle.std.specs.Prelude.{◌≡◌, [], None};
 ghost use Rattle.frame_facts.specs.Listed.{IsFrame};
 
-use bits_core::Memory;
-use pcode_model::{Flow, Frame, Listing};
+use pcode_model::{Frame, Listing};
 use std::alloc::Global;
 
-/// The frame of a listing with this flow. `Memory` where memory runs out.
-pub fn frame(_alloc: Global, _listing: &Listing, _flow: &Flow) -> Result<Frame, Memory>
-    requires read { IsWellFormed _listing.now }
-    requires ops { first_bad _listing.now ≡ None }
-    requires flow { IsFlow _listing.now [] _flow.now }
-    requires no_fault { NoFault _listing.now [] }
-    ensures frame { IfOk result (IsFrame _listing.now [] []) }
+/// The frame of a listing without a stack pointer.
+pub fn empty_frame(alloc: Global, listing: &Listing) -> Frame
+    requires { listing.now.stack ≡ None }
+    ensures { IsFrame listing.now [] [] result }
 {
-    Err(Memory)
+    let _ = listing;
+    Frame::empty(alloc)
 }

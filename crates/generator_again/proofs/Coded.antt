@@ -19,7 +19,7 @@ use Rattle.generator.specs.declared.draws.Shape.{Shape}
 use Rattle.generator.specs.declared.draws.Shape.TheVariants.{Constant, Sum, Xor, Product, Branch, Store, Load, Byte}
 use Rattle.generator.specs.Generated.{address, constant, flag, instructions, low_byte, ops_by, ops_of, placed, register, returning, spaces, target}
 use Rattle.generator.proofs.Counted.{no_instructions, one_more}
-use Rattle.generator_laws.specs.Fit.{AreFit}
+use Rattle.generator.specs.Fit.{AreFit}
 use Rattle.generator_again.proofs.Header.{before_code}
 use Rattle.generator_again.proofs.Ops.{IsPrintable, IsPrintableOp, coded, op_says}
 use Rattle.generator_again.proofs.Saying.{Says, says_line, says_nothing, says_then}

@@ -12,9 +12,9 @@ use Rattle.listing_again.proofs.Lines.{end_again}
 use Rattle.generator.specs.declared.draws.Drawn.{Drawn}
 use Rattle.generator.specs.Draws.{drawn_at}
 use Rattle.generator.specs.Generated.{code_of, function, generated, generated_text, instructions, listing_of, placed, returning, spaces}
-use Rattle.generator_laws.specs.Fit.{AreFit}
+use Rattle.generator.specs.Fit.{AreFit}
 use Rattle.generator_again.proofs.Coded.{CodeSaid, code_says, more_says, returning_prints}
-use Rattle.generator_laws.proofs.Fits.{drawn_fits}
+use Rattle.generator.proofs.Fits.{drawn_fits}
 use Rattle.generator_again.proofs.Header.{before_code, header_lines, header_says}
 use Rattle.generator_again.proofs.Ops.{coded}
 use Rattle.generator_again.proofs.Saying.{Says, says_line, says_then, text_says}

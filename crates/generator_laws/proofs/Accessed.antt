@@ -15,7 +15,7 @@ use Rattle.generator.specs.declared.draws.Drawn.{Drawn}
 use Rattle.generator.specs.declared.draws.Shape.{Shape}
 use Rattle.generator.specs.declared.draws.Shape.TheVariants.{Constant, Sum, Xor, Product, Branch, Store, Load, Byte}
 use Rattle.generator.specs.Generated.{constant, flag, listing_of, low_byte, ops_by, placed, register, returning}
-use Rattle.generator_laws.specs.Fit.{AreFit}
+use Rattle.generator.specs.Fit.{AreFit}
 use Rattle.generator_laws.proofs.Flowing.{reached_spot}
 use Rattle.generator_laws.proofs.Spots.{IsSpot, drawn_standing, l, last_standing}
 

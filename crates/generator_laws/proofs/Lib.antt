@@ -1,4 +1,3 @@
-pub mod Fits
 pub mod Each
 pub mod Obeys
 pub mod Stands

@@ -16,7 +16,7 @@ use Rattle.generator.specs.declared.draws.Drawn.{Drawn}
 use Rattle.generator.specs.declared.draws.Shape.{Shape}
 use Rattle.generator.specs.declared.draws.Shape.TheVariants.{Constant, Sum, Xor, Product, Branch, Store, Load, Byte}
 use Rattle.generator.specs.Generated.{address, code_of, listing_of, ops_by}
-use Rattle.generator_laws.specs.Fit.{AreFit}
+use Rattle.generator.specs.Fit.{AreFit}
 use Rattle.generator_laws.proofs.Each.{all_have}
 
 -- ---- rules

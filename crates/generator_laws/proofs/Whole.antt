@@ -3,10 +3,10 @@ use Rattle.std.proofs.Common.{ℕ, refl}
 use Rattle.generator.specs.declared.draws.Drawn.{Drawn}
 use Rattle.generator.specs.Draws.{drawn_at}
 use Rattle.generator.specs.Generated.{generated, listing_of}
-use Rattle.generator_laws.specs.Fit.{AreFit}
+use Rattle.generator.specs.Fit.{AreFit}
 use Rattle.generator_laws.specs.Taken.{IsTaken}
 use Rattle.generator_laws.proofs.Accessed.{few_atoms}
-use Rattle.generator_laws.proofs.Fits.{drawn_fits}
+use Rattle.generator.proofs.Fits.{drawn_fits}
 use Rattle.generator_laws.proofs.Flowing.{few_starts, no_fault}
 use Rattle.generator_laws.proofs.Obeys.{built, obeys}
 
@@ -14,8 +14,7 @@ use Rattle.generator_laws.proofs.Obeys.{built, obeys}
 pub drawn_taken : (draws : ℕ → Drawn) → AreFit draws → IsTaken (listing_of draws)
 drawn_taken draws fit = record {
   ops = obeys draws fit;
-  stack = refl;
-  built = built draws;
+  built = record { stack = refl; ops = built draws };
   flow = no_fault draws;
   blocks = few_starts draws;
   atoms = few_atoms draws fit;

@@ -13,7 +13,6 @@ use Rattle.supported.specs.Supported.{IsSupported}
 -- there are few.
 pub record IsTaken (l : Listing) : Type 0 where
   pub ops : first_bad l ≡ None
-  pub stack : l.stack ≡ None
   pub built : IsSupported l
   pub flow : NoFault l []
   pub blocks : (starts : List Place) → AreStarts l [] starts → length starts ≤ 2001

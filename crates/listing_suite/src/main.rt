@@ -3,13 +3,11 @@
 //!
 //! `c FILE`: what the command writes, and its status. `canonical FILE OTHER`: whether the canonical text of the one is
 //! the other. `cuts FILE`: the fault of the text up to each line feed but the last one. `blocks FILE`: the blocks, or
-//! the fault of the flow. `frame FILE`: what is known of the stack, and its variables. `atoms FILE`: the atoms. `chain N`:
-//! how many blocks N branches have.
+//! the fault of the flow. `atoms FILE`: the atoms. `chain N`: how many blocks N branches have.
 #![tactic(auto)]
 
 mod atoms;
 mod blocks;
-mod frames;
 mod texts;
 
 use std::io;
@@ -35,7 +33,6 @@ fn row(rt: &HostRuntime, line: &str) -> io::Result<()> {
         "cuts" => texts::cuts(rt, name),
         "blocks" => blocks::of_file(rt, name),
         "chain" => blocks::of_chain(rt, name.parse::<u32>().unwrap_or(0)),
-        "frame" => frames::of_file(rt, name),
         "atoms" => atoms::of_file(rt, name),
         _ => println!(rt; "no such row"),
     }

@@ -6,3 +6,4 @@ pub mod Leading
 pub mod Standing
 pub mod Turning
 pub mod Owning
+pub mod Framed

@@ -88,7 +88,7 @@ module _
     (are : AreAtoms l [] f atoms)
   where
     form : code.IsLowerable l [] (frame_of l f) blocks atoms
-    form = plain_form l read good built [] f frame blocks flow fine few atoms are
+    form = plain_form l read good built.ops [] f frame blocks flow fine few atoms are
 
     abbrev made : Code
     made = lowered l (frame_of l f) blocks atoms
@@ -103,7 +103,7 @@ module _
 
     long : HasLong l [] atoms
     long = record {
-      storages = atoms_long l [] f atoms are (accessed_low l read good built)
+      storages = atoms_long l [] f atoms are (accessed_low l read good built.ops)
           (λ a is. long_access l a (framed l read good [] [] f frame a is));
       places = λ p reached. stands_long (standing l p) p refl;
     }

@@ -46,7 +46,7 @@ taken_never_stops l taken (R.Flow (F.TooManyBlocks n)) (fine, (starts, (are, (co
     let few = taken.blocks starts are in absurd (omega (arith, few, count, many))
 taken_never_stops l taken (R.Flow F.Memory) h = absurd h
 taken_never_stops l taken (R.Atoms (A.TooManyAtoms n)) (fine, (blocks, (frame, (is, ((atoms, (are, count)), many))))) =
-    let none = without_pointer l [] [] taken.stack in
+    let none = without_pointer l [] [] taken.built.built.stack in
     let few = taken.atoms atoms (atoms_by l frame no_variables is none atoms are) in
     absurd (omega (arith, few, count, many))
 taken_never_stops l taken (R.Atoms A.Memory) h = absurd h
@@ -89,7 +89,7 @@ accepted number =
       blocks = (starts_of blocks.0, (blocks.1.starts, omega (arith, few)));
       atoms = (
         length atoms.0,
-        ((no_variables, (without_pointer l [] [] t.stack, (atoms.0, (atoms.1, refl)))), omega (arith, so_few)),
+        ((no_variables, (without_pointer l [] [] t.built.stack, (atoms.0, (atoms.1, refl)))), omega (arith, so_few)),
       );
     }
 

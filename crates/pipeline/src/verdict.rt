@@ -10,7 +10,7 @@ ghost use Rattle.pipeline.specs.Verdict.{Accepts, IsCause, Stops};
 ghost use Rattle.pipeline.specs.Passed.{HasPassed};
 
 use flow::follow;
-use frames::frame;
+use frames::empty_frame;
 use pcode_model::{Atoms, Flow, Frame, Listing, Tables, check_ops};
 use pcodetext::read_listing;
 use refusals::Refusal;
@@ -41,7 +41,7 @@ pub fn accept(alloc: Global, bytes: &[u8]) -> Result<Accepted, Refusal>
         return Err(Refusal::NotBuilt);
     }
     let flow = blocks(alloc, &listing)?;
-    let frame = stack_variables(alloc, &listing, &flow)?;
+    let frame = empty_frame(alloc, &listing);
     let atoms = variables(alloc, &listing, &flow, &frame)?;
     Ok(Accepted {
         listing,
@@ -63,21 +63,6 @@ pub(crate) fn blocks(alloc: Global, listing: &Listing) -> Result<Flow, Refusal>
     match follow(alloc, listing, &tables) {
         Ok(flow) => Ok(flow),
         Err(fault) => Err(Refusal::from(fault)),
-    }
-}
-
-/// The frame. Only want of memory refuses it.
-pub(crate) fn stack_variables(alloc: Global, listing: &Listing, flow: &Flow) -> Result<Frame, Refusal>
-    requires formed { IsWellFormed listing.now }
-    requires ops { first_bad listing.now ≡ None }
-    requires flow { IsFlow listing.now [] flow.now }
-    requires no_fault { NoFault listing.now [] }
-    ensures frame { IfOk result (IsFrame listing.now [] []) }
-    ensures stops { IfErr result (λ fault. Stops listing.now fault) }
-{
-    match frame(alloc, listing, flow) {
-        Ok(frame) => Ok(frame),
-        Err(_) => Err(Refusal::Memory),
     }
 }
 

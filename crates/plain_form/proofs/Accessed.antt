@@ -18,7 +18,7 @@ use Rattle.pcode_model.specs.Step.{arguments, callee_at, operands, proto_of, var
 use Rattle.pcode_model.specs.Atoms.{Accesses, IsLocal, further_ranges, one_range, op_ranges, ranges_in, ranges_read}
 use Rattle.pcode_model.specs.WellFormed.{IsStorage, IsWellFormed}
 use Rattle.pcode_model.proofs.Members.{in_either}
-use Rattle.supported.specs.Supported.{IsSupported, is_supported_code}
+use Rattle.supported.specs.Supported.{HasBuiltOps, is_supported_code}
 use Rattle.stackvars.proofs.Passed.{reads_passed}
 use Rattle.stackvars.proofs.Reach.{of_rest, read_back, read_rest}
 use Rattle.plain_form.proofs.Halves.{first_ram_is, pointer_is}
@@ -113,7 +113,7 @@ module _ (l : Listing) (read : IsWellFormed l) where
 
 -- ---- what is accessed lies inside its space
 
-module _ (l : Listing) (read : IsWellFormed l) (good : first_bad l ≡ None) (sup : IsSupported l) where
+module _ (l : Listing) (read : IsWellFormed l) (good : first_bad l ≡ None) (sup : HasBuiltOps l) where
   -- What an op reads may be read.
   pub operand_input : (i : Instruction) (op : Op)
       → StandsIn l.code i op

@@ -15,7 +15,7 @@ use Rattle.pcode_model.specs.Rules.{first_bad}
 use Rattle.pcode_model.specs.Spaces.{register_space, unique_space}
 use Rattle.pcode_model.specs.WellFormed.{IsWellFormed}
 use Rattle.frame_facts.specs.Listed.{IsFrame}
-use Rattle.supported.specs.Supported.{IsSupported}
+use Rattle.supported.specs.Supported.{HasBuiltOps}
 use Rattle.op_code.specs.Cover.{HasCover}
 use Rattle.op_code.specs.Lowerable.{IsLowerable}
 use Rattle.op_code.specs.Lowered.{ranges_of}
@@ -40,7 +40,7 @@ has_atoms l atoms = record {
 pub plain_form : (l : Listing)
     → IsWellFormed l
     → first_bad l ≡ None
-    → IsSupported l
+    → HasBuiltOps l
     → (evaluated : List Place) (f : Frame)
     → IsFrame l [] evaluated f
     → (blocks : List Block)

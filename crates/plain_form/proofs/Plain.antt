@@ -31,7 +31,7 @@ use Rattle.pcode_model.specs.Step.{Operand, ReadsStack, all_read, arguments, cal
 use Rattle.pcode_model.specs.Atoms.{Accesses, IsLocal, further_ranges, one_range, op_ranges, ranges_in, ranges_read}
 use Rattle.pcode_model.specs.Rules.{breaks, first_bad, has_operands, inputs_stand, leaves_space, names_ram, operands_of, output_is_constant, rules, sizes_fit}
 use Rattle.pcode_model.specs.WellFormed.{IsArgument, IsStorage, IsWellFormed, ShareNothing}
-use Rattle.supported.specs.Supported.{IsSupported, is_supported_code}
+use Rattle.supported.specs.Supported.{HasBuiltOps, is_supported_code}
 use Rattle.stackvars.specs.Accesses.{passed}
 use Rattle.stackvars.proofs.Ops.{read_all}
 use Rattle.stackvars.proofs.Passed.{reads_passed}
@@ -268,7 +268,7 @@ module _
     (l : Listing)
     (read : IsWellFormed l)
     (good : first_bad l ≡ None)
-    (sup : IsSupported l)
+    (sup : HasBuiltOps l)
     (f : Frame)
     (ranges : List Varnode)
     (has : (v : Varnode) → Accesses l [] v → HasCover ranges v)

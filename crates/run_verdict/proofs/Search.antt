@@ -37,7 +37,7 @@ no_table (x ∷ code) h i (inl same) op in_ops e =
 no_table (x ∷ code) h i (inr is) op in_ops e = no_table code (neither _ _ h).1 i is op in_ops e
 
 pub runnable : (l : Listing) → FindsNone l → IsRunnable l
-runnable l h = no_table l.code h
+runnable l h = record { stack = h.stack; tables = no_table l.code h.tables }
 
 both_false : (a b : Bool) → a ≡ false → b ≡ false → or a b ≡ false
 both_false a b p q = rw (p, q) refl
@@ -73,4 +73,4 @@ none_found (i ∷ code) h = both_false (names_table i.ops) (any_table code) (ops
     (none_found code (λ j is. h j (inr is)))
 
 pub found_none : (l : Listing) → IsRunnable l → FindsNone l
-found_none l h = none_found l.code h
+found_none l h = record { stack = h.stack; tables = none_found l.code h.tables }

@@ -1,6 +1,6 @@
 -- How the code looks for a branch that a jump table leads on. No definition of which listings are run: that FindsNone holds
 -- exactly where IsRunnable does is proved in proofs/Search.antt, by the lemmas runnable and found_none.
-use Rattle.std.specs.Prelude.{◌≡◌, Bool, true, false, List, [], ◌∷◌}
+use Rattle.std.specs.Prelude.{◌≡◌, Bool, true, false, List, [], ◌∷◌, None}
 use Rattle.pcode_model.specs.declared.opcode.Opcode.{Opcode}
 use Rattle.pcode_model.specs.declared.opcode.Opcode.TheVariants as O
 use Rattle.pcode_model.specs.declared.listing.Op.{Op}
@@ -23,5 +23,6 @@ abbrev pub any_table : List Instruction → Bool
 any_table [] = false
 any_table (i ∷ code) = or (names_table i.ops) (any_table code)
 
-abbrev pub FindsNone : Listing → Type 0
-FindsNone l = any_table l.code ≡ false
+pub record FindsNone (l : Listing) : Type 0 where
+  pub stack : l.stack ≡ None
+  pub tables : any_table l.code ≡ false

@@ -37,10 +37,10 @@ fn any_table(code: &[Instruction]) -> bool
 fn finds_none(listing: &Listing) -> bool
     ensures { IsTrue result ↔ FindsNone listing.now }
 {
-    !any_table(listing.code.as_slice())
+    listing.stack.is_none() && !any_table(listing.code.as_slice())
 }
 
-/// Whether a listing has no BRANCHIND, so that its run is one without jump tables.
+/// Whether a listing has no `stack` line and no BRANCHIND, so that its run is one without stack variables and jump tables.
 pub fn is_runnable(listing: &Listing) -> bool
     ensures { IsTrue result ↔ IsRunnable listing.now }
 {

@@ -3,4 +3,3 @@ pub mod Entries
 pub mod Inside
 pub mod Judgement
 pub mod Running
-pub mod Framed

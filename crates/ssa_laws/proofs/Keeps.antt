@@ -34,10 +34,10 @@ use Rattle.ssa_laws.proofs.Lines.{IsLine, NoLine, OneLine, line_is, reads_in, re
 
 -- ---- the value of a statement where variables change that it doesn't read
 
-one_line : {a b : Stmt} → a ∷ [] ≡ b ∷ [] → a ≡ b
+pub one_line : {a b : Stmt} → a ∷ [] ≡ b ∷ [] → a ≡ b
 one_line e = cc
 
-no_line : {a : Stmt} {P : Type 0} → [] ≡ a ∷ [] → P
+pub no_line : {a : Stmt} {P : Type 0} → [] ≡ a ∷ [] → P
 no_line e = absurd (cc)
 
 pub value_kept : (ws : ℕ → ℕ) (s t : Env) (a : Stmt) (n : ℕ)

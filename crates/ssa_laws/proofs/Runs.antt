@@ -40,11 +40,11 @@ use Rattle.ssa_laws.proofs.Keeps as keeps
 
 -- ---- lists
 
-one_further : (xs ys : List ℕ) (x : ℕ) → xs ++ x ∷ ys ≡ (xs ++ x ∷ []) ++ ys
+pub one_further : (xs ys : List ℕ) (x : ℕ) → xs ++ x ∷ ys ≡ (xs ++ x ∷ []) ++ ys
 one_further [] ys x = refl
 one_further (z ∷ xs) ys x = ap (λ zs. z ∷ zs) (one_further xs ys x)
 
-none_more : (xs : List ℕ) → xs ++ [] ≡ xs
+pub none_more : (xs : List ℕ) → xs ++ [] ≡ xs
 none_more [] = refl
 none_more (x ∷ xs) = ap (λ ys. x ∷ ys) (none_more xs)
 
@@ -231,7 +231,7 @@ module _ (l : Listing) (p : Parts) (e : Entry) (whole : IsWhole p.graph) (ssa : 
 
   -- ---- an exit
 
-  exit_is : (b : ℕ) (ns : List ℕ) (c : ℕ) → leads (exit_at k b) ns ≡ Onto c → Leads p.blocks b c
+  pub exit_is : (b : ℕ) (ns : List ℕ) (c : ℕ) → leads (exit_at k b) ns ≡ Onto c → Leads p.blocks b c
   exit_is b ns c is = by_block (block_with b p.blocks) is
     where
       by_block : (o : Option SsaBlock)
@@ -240,7 +240,7 @@ module _ (l : Listing) (p : Parts) (e : Entry) (whole : IsWhole p.graph) (ssa : 
       by_block None h = absurd (cc)
       by_block (Some z) h = leads_to z.exit (last_inputs p.graph (last_or None (block_at p.graph b))) ns c h
 
-  in_ids : (c : ℕ) (bs : List SsaBlock) → IsIn c (ids bs) → (z : SsaBlock) × (block_with c bs ≡ Some z)
+  pub in_ids : (c : ℕ) (bs : List SsaBlock) → IsIn c (ids bs) → (z : SsaBlock) × (block_with c bs ≡ Some z)
   in_ids c [] m = absurd m
   in_ids c (z ∷ bs) m = by_case (cases_eq z.id.0 c) m (in_ids c bs)
     where
@@ -255,7 +255,7 @@ module _ (l : Listing) (p : Parts) (e : Entry) (whole : IsWhole p.graph) (ssa : 
           (y.0, ap (λ t. cond t (Some z) (block_with c bs)) (eqb_not z.id.0 c n) ∙ y.1)
 
   -- the statements of a block are those of its ops
-  stmts_are : (c : ℕ) → c < (outline (form p)).count → stmts_at k c ≡ body_of l p.graph (block_at p.graph c)
+  pub stmts_are : (c : ℕ) → c < (outline (form p)).count → stmts_at k c ≡ body_of l p.graph (block_at p.graph c)
   stmts_are c low =
       let z = in_ids c p.blocks ((ssa.formed.all c).1 low) in
       ap (λ o. stmts_of (block_by l p.graph c (exit_in o))) z.1

@@ -1,6 +1,7 @@
-//! The laws. Each function does nothing, and its contract is the law.
+//! The laws. Each function does nothing but bring in what is known of its functions, and its contract is the law.
 
 ghost use Rattle.ssa_laws.specs.Law.{EquationsHold};
+ghost use Rattle.ssa_laws.specs.Retarget.{SameValueRunsAlike};
 
 use pcode_model::Listing;
 use ssa_model::SsaFunction;
@@ -10,4 +11,12 @@ pub fn available_equations(listing: &Listing, f: &SsaFunction)
     ensures { EquationsHold listing.now f.now.parts }
 {
     f.parts().graph.known();
+}
+
+/// An op that computes the same value in another way leaves the run equal step by step.
+pub fn same_value_runs_alike(listing: &Listing, before: &SsaFunction, after: &SsaFunction)
+    ensures { SameValueRunsAlike listing.now before.now.parts after.now.parts }
+{
+    before.parts().graph.known();
+    after.parts().graph.known();
 }

@@ -42,5 +42,8 @@ fn is_supported_code_of(code: &[Instruction]) -> bool
 pub fn is_supported(listing: &Listing) -> bool
     ensures { IsTrue result ↔ IsSupported listing.now }
 {
+    if listing.stack.is_some() {
+        return false;
+    }
     is_supported_code_of(listing.code.as_slice())
 }

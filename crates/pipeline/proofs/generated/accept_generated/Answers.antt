@@ -18,17 +18,8 @@ returns-in_err-flow-clause-memory c =
     never_stops c.args.number c.in_ok-listing.listing c.in_ok-listing.ensures _ c.in_err-flow.ensures.stops in
     search (rules, memory)
 
-pub stack_variables-requires-clause-formed : goal.stack_variables-requires-clause-formed
-stack_variables-requires-clause-formed c = formed c.args.number c.in_ok-listing.listing c.in_ok-listing.ensures
-
-pub stack_variables-requires-clause-ops : goal.stack_variables-requires-clause-ops
-stack_variables-requires-clause-ops c = obeys c.args.number c.in_ok-listing.listing c.in_ok-listing.ensures
-
-pub returns-in_err-frame-clause-memory : goal.returns-in_err-frame-clause-memory
-returns-in_err-frame-clause-memory c =
-    let memory =
-    never_stops c.args.number c.in_ok-listing.listing c.in_ok-listing.ensures _ c.in_err-frame.ensures.stops in
-    search (rules, memory)
+pub empty_frame-requires : goal.empty_frame-requires
+empty_frame-requires c = (built c.args.number c.in_ok-listing.listing c.in_ok-listing.ensures).stack
 
 pub returns-in_err-atoms-clause-memory : goal.returns-in_err-atoms-clause-memory
 returns-in_err-atoms-clause-memory c =
@@ -46,7 +37,7 @@ returns-clause-passed c =
       blocks = c.in_ok-flow.ensures.blocks;
       no_fault = c.in_ok-flow.ensures.no_fault;
       few_blocks = c.in_ok-flow.ensures.few;
-      frame = c.in_ok-frame.ensures.frame;
+      frame = c.empty_frame-frame.ensures;
       atoms = c.in_ok-atoms.ensures.atoms;
       few_atoms = c.in_ok-atoms.ensures.few;
     }

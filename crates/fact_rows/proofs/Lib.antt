@@ -1,0 +1,7 @@
+pub mod Found
+pub mod Ranges
+pub mod Entries
+pub mod Passed
+pub mod Below
+pub mod Meaning
+pub mod Collected

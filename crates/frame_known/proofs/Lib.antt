@@ -1,0 +1,10 @@
+pub mod Ways
+pub mod Common
+pub mod Joined
+pub mod Entries
+pub mod Along
+pub mod Walked
+pub mod Shaped
+pub mod Settled
+pub mod Facts
+pub mod Passing

@@ -1,0 +1,4 @@
+pub mod Families
+pub mod Lefts
+pub mod Places
+pub mod Turning
