@@ -67,7 +67,12 @@ pub(crate) fn blocks(alloc: Global, listing: &Listing) -> Result<Flow, Refusal>
 }
 
 /// The atoms: each is a variable.
-pub(crate) fn variables(alloc: Global, listing: &Listing, flow: &Flow, frame: &Frame) -> Result<Atoms, Refusal>
+pub(crate) fn variables(
+    alloc: Global,
+    listing: &Listing,
+    flow: &Flow,
+    frame: &Frame,
+) -> Result<Atoms, Refusal>
     requires formed { IsWellFormed listing.now }
     requires ops { first_bad listing.now ≡ None }
     requires flow { IsFlow listing.now [] flow.now }

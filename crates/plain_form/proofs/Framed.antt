@@ -151,39 +151,39 @@ module _
     (t : List TableAt)
     (evaluated : List Place)
   where
-  known_access : (a : FrameAccess) → IsFrameAccess l t evaluated a → IsKnown l a
-  known_access a is =
-      let stand = stands_in l a.place is.instruction is.op is.does in
-      let few : IsFew is.by.size = reaches_few l read good is.instruction is.op stand is.by is.is_by in
-      let can = (is.fact.1.1).can a.place is.by.base is.base is.fact.1.0 in
-      record {
-        few = subst IsFew (sym is.size) few;
-        within = is.within;
-        pointer = can.stack;
-        is_pointer = can.is;
-      }
+    known_access : (a : FrameAccess) → IsFrameAccess l t evaluated a → IsKnown l a
+    known_access a is =
+        let stand = stands_in l a.place is.instruction is.op is.does in
+        let few : IsFew is.by.size = reaches_few l read good is.instruction is.op stand is.by is.is_by in
+        let can = (is.fact.1.1).can a.place is.by.base is.base is.fact.1.0 in
+        record {
+          few = subst IsFew (sym is.size) few;
+          within = is.within;
+          pointer = can.stack;
+          is_pointer = can.is;
+        }
 
-  -- An access of the frame has 1 to 16 bytes.
-  pub few_access : (a : FrameAccess) → IsFrameAccess l t evaluated a → IsFew a.size
-  few_access a is = (known_access a is).few
+    -- An access of the frame has 1 to 16 bytes.
+    pub few_access : (a : FrameAccess) → IsFrameAccess l t evaluated a → IsFew a.size
+    few_access a is = (known_access a is).few
 
-  module _ (f : Frame) (frame : IsFrame l t evaluated f) where
-    -- What is said of each access.
-    pub framed : (a : FrameAccess) → IsIn a f.accesses → IsKnown l a
-    framed a is = known_access a ((frame.accesses.each a).0 is).1.is_class.access
+    module _ (f : Frame) (frame : IsFrame l t evaluated f) where
+      -- What is said of each access.
+      pub framed : (a : FrameAccess) → IsIn a f.accesses → IsKnown l a
+      framed a is = known_access a ((frame.accesses.each a).0 is).1.is_class.access
 
-    near_by : (a : FrameAccess) → IsKnown l a → IsNearAccess a
-    near_by a is =
-        let limit = limit_near (stack_width l) in
-        let few = is.few.1 in
-        let low = is.within.0 in
-        let high = is.within.1 in
-        record { from = omega (arith, ints); to = omega (arith, ints); few = omega arith }
+      near_by : (a : FrameAccess) → IsKnown l a → IsNearAccess a
+      near_by a is =
+          let limit = limit_near (stack_width l) in
+          let few = is.few.1 in
+          let low = is.within.0 in
+          let high = is.within.1 in
+          record { from = omega (arith, ints); to = omega (arith, ints); few = omega arith }
 
-    all_near : (xs : List FrameAccess) → ((a : FrameAccess) → IsIn a xs → IsKnown l a) → AllByRecursion IsNearAccess xs
-    all_near [] each = tt
-    all_near (a ∷ xs) each = (near_by a (each a (inl refl)), all_near xs (λ b is. each b (inr is)))
+      all_near : (xs : List FrameAccess) → ((a : FrameAccess) → IsIn a xs → IsKnown l a) → AllByRecursion IsNearAccess xs
+      all_near [] each = tt
+      all_near (a ∷ xs) each = (near_by a (each a (inl refl)), all_near xs (λ b is. each b (inr is)))
 
-    -- They all lie near the entry word.
-    pub near_accesses : HasNearAccesses f
-    near_accesses = all_near f.accesses framed
+      -- They all lie near the entry word.
+      pub near_accesses : HasNearAccesses f
+      near_accesses = all_near f.accesses framed

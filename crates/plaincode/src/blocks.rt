@@ -70,7 +70,9 @@ fn body(
 {
     let mut body = Body::new(alloc);
     for place in places {
-        add_place(alloc, listing, frame, table, left, variables, &mut body, *place)?;
+        add_place(
+            alloc, listing, frame, table, left, variables, &mut body, *place,
+        )?;
     }
     Ok(body)
 }
