@@ -46,7 +46,7 @@ taken_never_stops l taken (R.Flow (F.TooManyBlocks n)) (fine, (starts, (are, (co
     let few = taken.blocks starts are in absurd (omega (arith, few, count, many))
 taken_never_stops l taken (R.Flow F.Memory) h = absurd h
 taken_never_stops l taken (R.Atoms (A.TooManyAtoms n)) (fine, (blocks, (frame, (is, ((atoms, (are, count)), many))))) =
-    let none = without_pointer l [] [] taken.built.built.stack in
+    let none = without_pointer l [] [] taken.built.stack in
     let few = taken.atoms atoms (atoms_by l frame no_variables is none atoms are) in
     absurd (omega (arith, few, count, many))
 taken_never_stops l taken (R.Atoms A.Memory) h = absurd h

@@ -18,8 +18,8 @@ returns-in_err-flow-clause-memory c =
     never_stops c.args.number c.in_ok-listing.listing c.in_ok-listing.ensures _ c.in_err-flow.ensures.stops in
     search (rules, memory)
 
-pub empty_frame-requires : goal.empty_frame-requires
-empty_frame-requires c = (built c.args.number c.in_ok-listing.listing c.in_ok-listing.ensures).stack
+pub empty_frame-frame-requires : goal.empty_frame-frame-requires
+empty_frame-frame-requires c = (built c.args.number c.in_ok-listing.listing c.in_ok-listing.ensures).stack
 
 pub returns-in_err-atoms-clause-memory : goal.returns-in_err-atoms-clause-memory
 returns-in_err-atoms-clause-memory c =

@@ -8,8 +8,8 @@ use Rattle.pipeline.proofs.verdict.accept.Goals as goal
 pub check_ops-requires : goal.check_ops-requires
 check_ops-requires c = c.in_ok-listing.ensures.formed.few
 
-pub empty_frame-requires : goal.empty_frame-requires
-empty_frame-requires c = (c.is_supported.ensures.0 c.if-not-is_supported.false).stack
+pub empty_frame-frame-requires : goal.empty_frame-frame-requires
+empty_frame-frame-requires c = (c.is_supported.ensures.0 c.if-not-is_supported.false).stack
 
 pub returns-clause-accepted : goal.returns-clause-accepted
 returns-clause-accepted c =
