@@ -1,3 +1,5 @@
 pub mod Low
 pub mod Reached
+pub mod Rising
+pub mod Told
 pub mod Whole

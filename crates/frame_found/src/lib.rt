@@ -3,8 +3,10 @@
 #![tactic(auto)]
 
 mod accesses;
+mod escapes;
 mod facts;
 mod offsets;
 
 pub use accesses::accesses_found;
+pub use escapes::escapes_found;
 pub use facts::facts_found;
