@@ -17,10 +17,12 @@ ghost use Rattle.std.specs.Prelude.{◌≡◌, [], None};
 ghost use Rattle.frame_facts.specs.Listed.{IsFrame};
 
 mod accesses;
+mod escapes;
 mod facts;
 mod offsets;
 
 pub use accesses::accesses_found;
+pub use escapes::escapes_found;
 pub use facts::facts_found;
 use pcode_model::{Frame, Listing};
 use std::alloc::Global;
