@@ -55,7 +55,7 @@ use Rattle.layout_laws.proofs.Fits.{laid_fits}
 use Rattle.layout_laws.proofs.Obeys.{laid_valid}
 use Rattle.plain_form.proofs.Accessed.{accessed_low}
 use Rattle.plain_form.proofs.Form.{plain_form}
-use Rattle.plain_form.proofs.Framed.{framed}
+use Rattle.frame_facts.proofs.Bounded.{framed}
 use Rattle.plain_form.proofs.Read.{first_long}
 use Rattle.instructions.proofs.Standing.{stands_in}
 use Rattle.pipeline.specs.Passed.{Lowers}
