@@ -7,3 +7,4 @@ pub mod AllFacts
 pub mod Low
 pub mod Reached
 pub mod Whole
+pub mod Near

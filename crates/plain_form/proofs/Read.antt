@@ -1,7 +1,7 @@
 -- What the reader and the rules of operations promise of the spaces of a listing, of the ranges of its ops and of the
 -- function's result.
-use Rattle.std.proofs.Common.{◌≡◌, ◌≤◌, ◌<◌, ◌+◌, ◌^◌, ◌⊎◌, ℕ, Bool, true, false, List, [], ◌∷◌, Option, Some, None, refl, inl, inr, sym, subst, ap, ◌∙◌, arith, lit<}
-use Rattle.std.specs.Prelude.{◌==◌, ◌&&◌, if◌then◌else◌, not, IfSome}
+use Rattle.std.proofs.Common.{◌≡◌, ◌≤◌, ◌<◌, ◌+◌, ◌^◌, ◌⊎◌, ℕ, true, false, List, [], ◌∷◌, Option, Some, None, refl, inl, inr, sym, subst, ap, ◌∙◌, arith, lit<}
+use Rattle.std.specs.Prelude.{◌==◌, ◌&&◌, not}
 use Rattle.std.specs.List.{AllByRecursion}
 use Rattle.std.proofs.Math.Bool.{and-false}
 use Rattle.std.proofs.lemmas.Bool.Decides.{nat_tests}
@@ -11,15 +11,14 @@ use Rattle.pcode_model.specs.declared.listing.Listing.{Listing}
 use Rattle.pcode_model.specs.declared.listing.Op.{Op}
 use Rattle.pcode_model.specs.declared.listing.SpaceKind.TheVariants.{Constant, Register, Unique}
 use Rattle.pcode_model.specs.declared.listing.Varnode.{Varnode}
-use Rattle.pcode_model.specs.declared.opcode.Opcode.{Opcode}
 use Rattle.pcode_model.specs.declared.rules.OpWhy.{OpWhy}
-use Rattle.pcode_model.specs.declared.rules.OpWhy.TheVariants.{BadSpace, TooWide, OutOfSpace}
+use Rattle.pcode_model.specs.declared.rules.OpWhy.TheVariants.{BadSpace, OutOfSpace}
 use Rattle.pcode_model.specs.Atoms.{IsLocal, one_range}
 use Rattle.pcode_model.specs.Flow.{IsIn}
-use Rattle.pcode_model.specs.Rules.{breaks, first_bad, input_ranges, inputs_stand, is_out_of_space, is_too_wide, names_address, output_is_constant, past_first, rules}
+use Rattle.pcode_model.specs.Rules.{breaks, first_bad, input_ranges, inputs_stand, is_out_of_space, output_is_constant, rules}
 use Rattle.pcode_model.specs.Spaces.{kind_of, register_space, same_kind, size_of, unique_space}
 use Rattle.pcode_model.specs.Step.{proto_of, varnode_at}
-use Rattle.pcode_model.specs.WellFormed.{HasKnownOps, HasOps, IsKnown, IsKnownOp, IsOp, IsOperand, IsProto, IsStorage, IsWellFormed}
+use Rattle.pcode_model.specs.WellFormed.{HasKnownOps, IsKnown, IsKnownOp, IsOperand, IsProto, IsStorage, IsWellFormed}
 use Rattle.pcode_model.proofs.Members.{of_member}
 use Rattle.pcode_laws.proofs.Rules.{breaks_none, neither}
 use Rattle.frame_facts.proofs.Few.{formed, input_few, input_in, one_in, output_few}

@@ -1,13 +1,12 @@
 -- What the rules of operations say of the ranges of an op.
-use Rattle.std.proofs.Common.{◌≡◌, ◌≤◌, ◌+◌, ℕ, Bool, true, false, List, [], ◌∷◌, Option, Some, None, refl, inl, inr, sym, subst, arith}
-use Rattle.std.specs.Prelude.{◌&&◌, ◌==◌, nat_lt, not}
-use Rattle.std.proofs.lemmas.Bool.Decides.{nat_tests}
+use Rattle.std.proofs.Common.{◌≡◌, ◌≤◌, ◌+◌, ℕ, Bool, true, false, List, [], ◌∷◌, Option, Some, None, refl, inl, inr, sym, subst}
+use Rattle.std.specs.Prelude.{◌&&◌, ◌==◌, not}
 use Rattle.std.proofs.lemmas.Bool.{eqb-true, ltb-false}
 use Rattle.pcode_model.specs.declared.listing.Listing.{Listing}
 use Rattle.pcode_model.specs.declared.listing.Varnode.{Varnode}
 use Rattle.pcode_model.specs.Atoms.{one_range}
 use Rattle.pcode_model.specs.Flow.{IsIn}
-use Rattle.pcode_model.specs.Rules.{any_leaves, any_wide, leaves_space, output_leaves, output_wide}
+use Rattle.pcode_model.specs.Rules.{any_leaves, leaves_space, output_leaves}
 use Rattle.pcode_model.specs.Spaces.{size_of}
 use Rattle.pcode_laws.proofs.Rules.{neither}
 
