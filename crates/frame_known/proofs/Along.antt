@@ -18,11 +18,11 @@ use Rattle.pcode_model.specs.Flow.{IsBefore, IsIn, Rising, places_of}
 use Rattle.pcode_model.proofs.Members.{in_front, behind, same_place}
 use Rattle.flow.proofs.Order.{not_before, rising_head, rising_rest}
 use Rattle.frame_facts.specs.Facts.{IsDifference, IsSum, Known, Makes, Over, OverCall, OverOp, OverOther}
-use Rattle.fact_rows.specs.declared.slots.Slots.{Slots}
-use Rattle.fact_rows.specs.Slots.{AreSlots}
-use Rattle.fact_rows.specs.Rows.{IsRow, Row, over_row}
-use Rattle.fact_rows.proofs.Below.{over_fine}
-use Rattle.frame_known.specs.Rows.{along}
+use Rattle.frame_known.specs.declared.slots.Slots.{Slots}
+use Rattle.frame_known.specs.Slots.{AreSlots}
+use Rattle.frame_known.specs.Rows.{IsRow, Row, over_row}
+use Rattle.frame_known.proofs.Below.{over_fine}
+use Rattle.frame_known.specs.Meeting.{along}
 use Rattle.frame_known.specs.Known.{Before}
 use Rattle.frame_known.specs.Passing.{is_place}
 use Rattle.frame_known.specs.Settling.{KnowsNoLess}

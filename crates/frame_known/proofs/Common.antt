@@ -3,10 +3,10 @@ use Rattle.std.proofs.Common.{◌≡◌, ℕ, zero, suc, ◌+◌, ◌<◌, ◌�
 use Rattle.std.specs.Prelude.{cond, ◌==◌}
 use Rattle.std.proofs.lemmas.Bool.{eq-eqb, eqb-true}
 use Rattle.pcode_model.specs.declared.listing.Varnode.{Varnode}
-use Rattle.fact_rows.specs.declared.slots.Slots.{Slots}
-use Rattle.fact_rows.specs.Rows.{AreBelow, IsBelow, IsRow, Row, knows, offset_in}
-use Rattle.fact_rows.proofs.Meaning.{held, knows_from}
-use Rattle.frame_known.specs.Rows.{both, common, count, one_known}
+use Rattle.frame_known.specs.declared.slots.Slots.{Slots}
+use Rattle.frame_known.specs.Rows.{AreBelow, IsBelow, IsRow, Row, knows, offset_in}
+use Rattle.frame_known.proofs.Meaning.{held, knows_from}
+use Rattle.frame_known.specs.Meeting.{both, common, count, one_known}
 use Rattle.frame_known.specs.Entering.{row_at, waiting, weight, weights}
 
 -- ---- one entry

@@ -1,130 +1,59 @@
--- What comes of rows as one is brought to blocks.
-use Rattle.std.proofs.Common.{◌≡◌, ℕ, zero, suc, ◌+◌, Bool, true, false, List, [], ◌∷◌, ◌++◌, length, set, Option, Some, None, refl, sym, ap, ◌∙◌, subst, ◌⊎◌, inl, inr, ⊎_elim, arith}
-use Rattle.std.proofs.Math.ListN.{length-set}
-use Rattle.fact_rows.specs.Rows.{Row}
-use Rattle.frame_known.specs.Rows.{count}
-use Rattle.frame_known.specs.Entering.{AreLong, Brought, Entered, EnteredAll, IsLong, brought, row_at, weight}
-use Rattle.frame_known.proofs.Common.{common_long, count_few}
+-- What a row says of a slot.
+use Rattle.std.proofs.Common.{◌≡◌, ℕ, zero, suc, ◌<◌, Bool, true, false, List, [], ◌∷◌, length, get_or, map, Option, Some, None, refl, sym, ap, ◌∙◌, inl, inr, ⊎_elim, arith}
+use Rattle.std.specs.Prelude.{◌==◌, cond}
+use Rattle.std.proofs.lemmas.Bool.{cases_eq, eqb-true, eq-eqb, ne_eqb}
+use Rattle.pcode_model.specs.Flow.{IsIn}
+use Rattle.frame_known.specs.Rows.{Row, is_offset, offset_in}
 
-pub brought_new : (old : Option Row) (out copy : Row) → old ≡ None → copy ≡ out → Brought old out true (Some copy)
-brought_new old out copy e f =
-    let new : Some copy ≡ Some (brought old out) = ap Some f ∙ sym (ap (λ o. Some (brought o out)) e) in
-    let w : weight (length out) old ≡ length out + 1 = ap (weight (length out)) e in
-    let c : count copy ≡ count out = ap count f in
-    record {
-      is = new;
-      less = λ t. omega (arith, w, c, count_few out);
-      same = λ t. absurd (cc);
-    }
+pub is_offset_is : (r : Option ℕ) (c : ℕ) → is_offset r c ≡ true → r ≡ Some c
+is_offset_is None c h = absurd (cc)
+is_offset_is (Some d) c h = ap Some (eqb-true d c h)
 
-pub entered_by : (rows : List (Option Row)) (waits : List Bool) (m : ℕ) (out : Row) (fewer : Bool) (new : Option Row)
-    (rows' : List (Option Row)) (waits' : List Bool)
-    → Brought (row_at rows m) out fewer new
-    → rows' ≡ set rows m new
-    → ((fewer ≡ true) × (waits' ≡ set waits m true)) ⊎ ((fewer ≡ false) × (waits' ≡ waits))
-    → Entered (length out) rows waits m out rows' waits'
-entered_by rows waits m out fewer new rows' waits' b r w = record {
-  rows_are = r ∙ ap (set rows m) b.is;
-  less = ⊎_elim
-      (λ h.
-      let lt = b.less h.0 in
-      let e : weight (length out) new ≡ weight (length out) (Some (brought (row_at rows m) out)) =
-      ap (weight (length out)) b.is in
-      inl (h.1, omega (arith, lt, e)))
-      (λ h. inr (h.1, b.same h.0 ∙ b.is))
-      w;
-}
+pub offset_is : (r : Option ℕ) (c : ℕ) → r ≡ Some c → is_offset r c ≡ true
+offset_is r c e = ap (λ x. is_offset x c) e ∙ eq-eqb c c refl
 
--- ---- lengths
+-- Each number but one that stands further on differs from the first.
+abbrev pub Rises : List ℕ → Type 0
+Rises ks = (i j : ℕ) → i < j → j < length ks → get_or ks i 0 < get_or ks j 0
 
-brought_long : (k : ℕ) (o : Option Row) (out : Row) → IsLong k o → length out ≡ k → length (brought o out) ≡ k
-brought_long k None out h e = e
-brought_long k (Some row) out h e = common_long row out (h ∙ sym e) ∙ h
+pub rises_rest : (k : ℕ) (ks : List ℕ) → Rises (k ∷ ks) → Rises ks
+rises_rest k ks up i j lt inside = up (suc i) (suc j) (omega arith) (omega arith)
 
-long_at : (k : ℕ) (rows : List (Option Row)) (m : ℕ) → AreLong k rows → IsLong k (row_at rows m)
-long_at k [] m h = tt
-long_at k (o ∷ rows) zero h = h.0
-long_at k (o ∷ rows) (suc m) h = long_at k rows m h.1
+-- the entry of a slot by its number
+pub offset_at : (ks : List ℕ) (row : Row) → Rises ks → length row ≡ length ks → (i : ℕ) → i < length ks
+    → offset_in ks row (get_or ks i 0) ≡ get_or row i None
+offset_at [] row up long i lt = absurd (omega arith)
+offset_at (k ∷ ks) [] up long i lt = absurd (omega arith)
+offset_at (k ∷ ks) (r ∷ row) up long zero lt = ap (λ b. cond b r (offset_in ks row k)) (eq-eqb k k refl)
+offset_at (k ∷ ks) (r ∷ row) up long (suc i) lt =
+    let less : k < get_or ks i 0 = up 0 (suc i) (omega arith) lt in
+    ap (λ b. cond b r (offset_in ks row (get_or ks i 0))) (ne_eqb k (get_or ks i 0) (λ e. omega (arith, less, e)))
+    ∙ offset_at ks row (rises_rest k ks up) (omega arith) i (omega arith)
 
-pub long_here : (k : ℕ) (rows : List (Option Row)) (m : ℕ) → AreLong k rows → IsLong k (row_at rows m)
-long_here k rows m h = long_at k rows m h
+pub offset_none : (ks : List ℕ) (row : Row) (n : ℕ) → (IsIn n ks → ⊥) → offset_in ks row n ≡ None
+offset_none [] row n h = refl
+offset_none (k ∷ ks) [] n h = refl
+offset_none (k ∷ ks) (r ∷ row) n h =
+    ap (λ b. cond b r (offset_in ks row n)) (ne_eqb k n (λ e. h (inl (sym e))))
+    ∙ offset_none ks row n (λ is. h (inr is))
 
-long_set : (k : ℕ) (rows : List (Option Row)) (m : ℕ) (o : Option Row)
-    → AreLong k rows
-    → IsLong k o
-    → AreLong k (set rows m o)
-long_set k [] m o h e = tt
-long_set k (r ∷ rows) zero o h e = (e, h.1)
-long_set k (r ∷ rows) (suc m) o h e = (h.0, long_set k rows m o h.1 e)
+pub offset_some : (ks : List ℕ) (row : Row) (n c : ℕ) → offset_in ks row n ≡ Some c → IsIn n ks
+offset_some [] row n c h = absurd (cc)
+offset_some (k ∷ ks) [] n c h = absurd (cc)
+offset_some (k ∷ ks) (r ∷ row) n c h = by (k == n) refl (offset_some ks row n c) h where
+  by : (b : Bool)
+      → (k == n) ≡ b
+      → (offset_in ks row n ≡ Some c → IsIn n ks)
+      → cond b r (offset_in ks row n) ≡ Some c
+      → IsIn n (k ∷ ks)
+  by true e rest h = inl (sym (eqb-true k n e))
+  by false e rest h = inr (rest h)
 
-pub entered_long : (rows : List (Option Row)) (waits : List Bool) (m : ℕ) (out : Row) (rows' : List (Option Row))
-    (waits' : List Bool)
-    → Entered (length out) rows waits m out rows' waits'
-    → AreLong (length out) rows
-    → AreLong (length out) rows'
-entered_long rows waits m out rows' waits' h long =
-    subst (λ r. AreLong (length out) r) (sym h.rows_are)
-    (long_set (length out) rows m (Some (brought (row_at rows m) out)) long
-    (brought_long (length out) (row_at rows m) out (long_at (length out) rows m long) refl))
-
-pub entered_lengths : (k : ℕ) (rows : List (Option Row)) (waits : List Bool) (m : ℕ) (out : Row)
-    (rows' : List (Option Row)) (waits' : List Bool)
-    → Entered k rows waits m out rows' waits'
-    → (length rows' ≡ length rows) × (length waits' ≡ length waits)
-entered_lengths k rows waits m out rows' waits' h = (
-  ap length h.rows_are ∙ length-set rows m (Some (brought (row_at rows m) out)),
-  ⊎_elim (λ a. ap length a.0 ∙ length-set waits m true) (λ a. ap length a.0) h.less,
-)
-
--- ---- several blocks
-
--- What holds as a row is brought to blocks one after the other.
-pub record Bringing (out : Row) (ms : List ℕ) (rows : List (Option Row)) (waits : List Bool) (rows' : List (Option Row))
-    (waits' : List Bool) : Type 0 where
-  pub entered : EnteredAll (length out) out rows waits ms rows' waits'
-  pub long : AreLong (length out) rows'
-  pub rows_long : length rows' ≡ length rows
-  pub waits_long : length waits' ≡ length waits
-
-pub bringing_first : (out : Row) (rows : List (Option Row)) (waits : List Bool)
-    → AreLong (length out) rows
-    → Bringing out [] rows waits rows waits
-bringing_first out rows waits long = record {
-  entered = (refl, refl);
-  long = long;
-  rows_long = refl;
-  waits_long = refl;
-}
-
-entered_more : (k : ℕ) (out : Row) (ms : List ℕ) (rows : List (Option Row)) (waits : List Bool)
-    (rows' : List (Option Row)) (waits' : List Bool) (m : ℕ) (rows'' : List (Option Row)) (waits'' : List Bool)
-    → EnteredAll k out rows waits ms rows' waits'
-    → Entered k rows' waits' m out rows'' waits''
-    → EnteredAll k out rows waits (ms ++ m ∷ []) rows'' waits''
-entered_more k out [] rows waits rows' waits' m rows'' waits'' h e = (
-  rows'',
-  (
-    waits'',
-    (
-      subst (λ r. Entered k r waits m out rows'' waits'') h.0
-          (subst (λ w. Entered k rows' w m out rows'' waits'') h.1 e),
-      (refl, refl),
-    ),
-  ),
-)
-entered_more k out (x ∷ ms) rows waits rows' waits' m rows'' waits'' h e =
-    (h.0, (h.1.0, (h.1.1.0, entered_more k out ms h.0 h.1.0 rows' waits' m rows'' waits'' h.1.1.1 e)))
-
-pub bringing_more : (out : Row) (ms : List ℕ) (rows : List (Option Row)) (waits : List Bool) (rows' : List (Option Row))
-    (waits' : List Bool) (m : ℕ) (rows'' : List (Option Row)) (waits'' : List Bool)
-    → Bringing out ms rows waits rows' waits'
-    → Entered (length out) rows' waits' m out rows'' waits''
-    → Bringing out (ms ++ m ∷ []) rows waits rows'' waits''
-bringing_more out ms rows waits rows' waits' m rows'' waits'' x e =
-    let n = entered_lengths (length out) rows' waits' m out rows'' waits'' e in
-    record {
-      entered = entered_more (length out) out ms rows waits rows' waits' m rows'' waits'' x.entered e;
-      long = entered_long rows' waits' m out rows'' waits'' e x.long;
-      rows_long = n.0 ∙ x.rows_long;
-      waits_long = n.1 ∙ x.waits_long;
-    }
+-- an entry that is made slot by slot
+pub offset_map : (f : ℕ → Option ℕ) (ks : List ℕ) (n : ℕ) → IsIn n ks → offset_in ks (map f ks) n ≡ f n
+offset_map f [] n is = absurd is
+offset_map f (k ∷ ks) n is = ⊎_elim
+    (λ (e : k ≡ n). ap (λ b. cond b (f k) (offset_in ks (map f ks) n)) (eq-eqb k n e) ∙ ap f e)
+    (λ ne. ap (λ b. cond b (f k) (offset_in ks (map f ks) n)) (ne_eqb k n ne)
+    ∙ offset_map f ks n (⊎_elim (λ e. absurd (ne (sym e))) (λ h. h) is))
+    (cases_eq k n)

@@ -12,10 +12,10 @@ use Rattle.pcode_model.specs.Step.{first_place}
 use Rattle.pcode_model.specs.Flow.{Entry, First, IsFlow, IsIn, LeadsTo, Next, NoFault, Reached, RunsBlock, starts_of}
 use Rattle.pcode_model.specs.WellFormed.{IsWellFormed}
 use Rattle.frame_facts.specs.Facts.{AreSupported, CanHold, Facts, Known, Over}
-use Rattle.fact_rows.specs.declared.slots.Slots.{Slots}
-use Rattle.fact_rows.specs.Slots.{AreSlots}
-use Rattle.fact_rows.specs.Rows.{IsRow, Row, knows, over_row}
-use Rattle.fact_rows.proofs.Meaning.{can_from, held}
+use Rattle.frame_known.specs.declared.slots.Slots.{Slots}
+use Rattle.frame_known.specs.Slots.{AreSlots}
+use Rattle.frame_known.specs.Rows.{IsRow, Row, knows, over_row}
+use Rattle.frame_known.proofs.Meaning.{can_from, held}
 use Rattle.frame_known.specs.declared.known.Known as known
 use Rattle.frame_known.specs.Known.{AreKnown, Before, IsFactRow}
 use Rattle.frame_known.specs.Entering.{nexts, row_at, waits_at}
@@ -248,7 +248,7 @@ are_known l blocks k read sound slots flow settled = record {
       all_rows l read sound k.slots slots blocks flow k.rows.items settled.waits settled.settling settled.none n
       (get_or blocks n nothing) b in
       (r.0, get_row l read sound k.slots slots blocks flow k.rows.items settled.waits settled.settling settled.none n r.0 r.1);
-  rows = λ n row e. fine_rows l read sound k.slots slots blocks flow k.rows.items settled.waits settled.settling settled.none n row e;
+  each = λ n row e. fine_rows l read sound k.slots slots blocks flow k.rows.items settled.waits settled.settling settled.none n row e;
   facts = λ n b row p r is has before.
       fact_row l read sound k.slots slots blocks flow k.rows.items settled.waits settled.settling settled.none p
       (record {

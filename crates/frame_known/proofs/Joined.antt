@@ -4,9 +4,9 @@ use Rattle.std.specs.Prelude.{cond, ◌==◌, not}
 use Rattle.std.proofs.Math.ListN.{length-set}
 use Rattle.std.proofs.lemmas.Bool.{cases_Bool, cases_eq}
 use Rattle.std.proofs.lemmas.List.{ext_get_or, get_or-set_same, get_or-set_other}
-use Rattle.fact_rows.specs.Rows.{Row}
-use Rattle.fact_rows.specs.Steps.{entry}
-use Rattle.frame_known.specs.Rows.{KeepsCommon, both, common, count, is_lost, one_known}
+use Rattle.frame_known.specs.Rows.{Row}
+use Rattle.frame_known.specs.Steps.{entry}
+use Rattle.frame_known.specs.Meeting.{KeepsCommon, both, common, count, is_lost, one_known}
 use Rattle.frame_known.proofs.Common.{common_long}
 
 -- so many entries are those that both know

@@ -1,7 +1,14 @@
+pub mod Found
+pub mod Ranges
+pub mod Entries
+pub mod Passed
+pub mod Below
+pub mod Meaning
+pub mod Collected
 pub mod Ways
 pub mod Common
 pub mod Joined
-pub mod Entries
+pub mod Brought
 pub mod Along
 pub mod Walked
 pub mod Shaped

@@ -14,13 +14,13 @@ use Rattle.pcode_model.specs.Step.{first_place}
 use Rattle.pcode_model.specs.Flow.{Entry, IsFlow, IsIn, Leaves, NoFault, Reached, RunsBlock, starts_of}
 use Rattle.pcode_model.specs.WellFormed.{IsWellFormed}
 use Rattle.frame_facts.specs.Facts.{offsets}
-use Rattle.fact_rows.specs.declared.slots.Slots.{Slots}
-use Rattle.fact_rows.specs.Slots.{AreSlots, key}
-use Rattle.fact_rows.specs.Rows.{AreBelow, IsBelow, IsRow, Row, is_at, knows}
-use Rattle.fact_rows.proofs.Entries.{offset_map}
-use Rattle.fact_rows.proofs.Meaning.{at_is, held, is_at_from, knows_from}
-use Rattle.fact_rows.proofs.Ranges.{holds_low, key_same, stack_holds}
-use Rattle.frame_known.specs.Rows.{along, first_entries, first_entry}
+use Rattle.frame_known.specs.declared.slots.Slots.{Slots}
+use Rattle.frame_known.specs.Slots.{AreSlots, key}
+use Rattle.frame_known.specs.Rows.{AreBelow, IsBelow, IsRow, Row, is_at, knows}
+use Rattle.frame_known.proofs.Entries.{offset_map}
+use Rattle.frame_known.proofs.Meaning.{at_is, held, is_at_from, knows_from}
+use Rattle.frame_known.proofs.Ranges.{holds_low, key_same, stack_holds}
+use Rattle.frame_known.specs.Meeting.{along, first_entries, first_entry}
 use Rattle.frame_known.specs.Entering.{AreInside, AreLong, EnteredAll, IsLong, nexts, row_at, waiting, waits_at, weights}
 use Rattle.frame_known.specs.Passing.{Passed, PassedFrom, begins_in, end_in}
 use Rattle.frame_known.specs.Settling.{KnowsNoLess, Nothing_owed, Settling}

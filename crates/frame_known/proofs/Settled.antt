@@ -11,9 +11,9 @@ use Rattle.pcode_model.specs.declared.flow.Block.{Block}
 use Rattle.pcode_model.specs.Step.{first_place}
 use Rattle.pcode_model.specs.Flow.{IsIn, starts_of}
 use Rattle.frame_facts.specs.Facts.{AreSupported, Facts}
-use Rattle.fact_rows.specs.declared.slots.Slots.{Slots}
-use Rattle.fact_rows.specs.Rows.{IsRow, Row, knows}
-use Rattle.frame_known.specs.Rows.{along, common}
+use Rattle.frame_known.specs.declared.slots.Slots.{Slots}
+use Rattle.frame_known.specs.Rows.{IsRow, Row, knows}
+use Rattle.frame_known.specs.Meeting.{along, common}
 use Rattle.frame_known.specs.Entering.{Entered, EnteredAll, brought, nexts, row_at, waiting, waits_at, weight, weights}
 use Rattle.frame_known.specs.Settling.{IsDone, KnowsNoLess, Nothing_owed, Owes, Settling}
 use Rattle.frame_known.proofs.Common.{common_both, common_fine, common_left, common_right, waiting_on, weights_set}

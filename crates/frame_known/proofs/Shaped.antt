@@ -6,7 +6,7 @@ use Rattle.pcode_model.specs.declared.listing.Listing.{Listing}
 use Rattle.pcode_model.specs.declared.flow.Block.{Block}
 use Rattle.pcode_model.specs.Flow.{AllRun, IsFlow, IsIn, Reached, RunsBlock, first_in, places_of, starts_of}
 use Rattle.pcode_model.proofs.Members.{in_either}
-use Rattle.fact_rows.specs.declared.slots.Slots.{Slots}
+use Rattle.frame_known.specs.declared.slots.Slots.{Slots}
 use Rattle.frame_known.proofs.Along.{has_place}
 
 module _ (l : Listing) (starts : List Place) where

@@ -10,12 +10,12 @@ use Rattle.pcode_model.specs.Places.{Nothing, standing}
 use Rattle.pcode_model.specs.Flow.{IsIn, LeadsTo, NoFault, Reached, RunsBlock, stands_by}
 use Rattle.pcode_model.specs.WellFormed.{IsWellFormed}
 use Rattle.frame_facts.specs.Facts.{AreSupported, CanHold, Facts, Over}
-use Rattle.fact_rows.specs.declared.slots.Slots.{Slots}
-use Rattle.fact_rows.specs.Slots.{AreSlots}
-use Rattle.fact_rows.specs.Rows.{IsRow, Row, knows, over_row}
-use Rattle.fact_rows.proofs.Below.{over_fine}
-use Rattle.fact_rows.proofs.Meaning.{over_is}
-use Rattle.frame_known.specs.Rows.{along}
+use Rattle.frame_known.specs.declared.slots.Slots.{Slots}
+use Rattle.frame_known.specs.Slots.{AreSlots}
+use Rattle.frame_known.specs.Rows.{IsRow, Row, knows, over_row}
+use Rattle.frame_known.proofs.Below.{over_fine}
+use Rattle.frame_known.proofs.Meaning.{over_is}
+use Rattle.frame_known.specs.Meeting.{along}
 use Rattle.frame_known.specs.Known.{Before}
 use Rattle.frame_known.specs.Entering.{nexts}
 use Rattle.frame_known.specs.Settling.{KnowsNoLess}

@@ -3,8 +3,8 @@ use Rattle.std.specs.Prelude.{◌≡◌, ℕ, ◌+◌, ◌<◌, Bool, true, fals
 use Rattle.std.specs.List.{slice_index_or, AllByRecursion}
 use Rattle.pcode_model.specs.declared.flow.Exit.{Exit}
 use Rattle.pcode_model.specs.declared.flow.Exit.TheVariants.{Return, Jump, Test, Switch, Stop}
-use Rattle.fact_rows.specs.Rows.{Row}
-use Rattle.frame_known.specs.Rows.{common, count}
+use Rattle.frame_known.specs.Rows.{Row}
+use Rattle.frame_known.specs.Meeting.{common, count}
 
 -- the numbers of the blocks behind a block
 abbrev pub nexts : Exit → List ℕ

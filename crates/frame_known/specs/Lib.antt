@@ -1,4 +1,7 @@
+pub mod Slots
 pub mod Rows
+pub mod Steps
+pub mod Meeting
 pub mod Entering
 pub mod Settling
 pub mod Passing

@@ -4,9 +4,9 @@ use Rattle.pcode_model.specs.declared.listing.Place.{Place}
 use Rattle.pcode_model.specs.declared.listing.Listing.{Listing}
 use Rattle.pcode_model.specs.declared.flow.Block.{Block}
 use Rattle.pcode_model.specs.declared.flow.Exit.{Exit}
-use Rattle.fact_rows.specs.declared.slots.Slots.{Slots}
-use Rattle.fact_rows.specs.Rows.{Row}
-use Rattle.frame_known.specs.Rows.{along}
+use Rattle.frame_known.specs.declared.slots.Slots.{Slots}
+use Rattle.frame_known.specs.Rows.{Row}
+use Rattle.frame_known.specs.Meeting.{along}
 use Rattle.frame_known.specs.Entering.{EnteredAll, nexts, row_at}
 
 -- ---- the block where the function begins

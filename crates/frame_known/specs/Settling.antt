@@ -7,9 +7,9 @@ use Rattle.pcode_model.specs.declared.flow.Block.{Block}
 use Rattle.pcode_model.specs.Step.{first_place}
 use Rattle.pcode_model.specs.Flow.{IsIn, starts_of}
 use Rattle.frame_facts.specs.Facts.{AreSupported, Facts, Known}
-use Rattle.fact_rows.specs.declared.slots.Slots.{Slots}
-use Rattle.fact_rows.specs.Rows.{IsRow, Row, knows}
-use Rattle.frame_known.specs.Rows.{along}
+use Rattle.frame_known.specs.declared.slots.Slots.{Slots}
+use Rattle.frame_known.specs.Rows.{IsRow, Row, knows}
+use Rattle.frame_known.specs.Meeting.{along}
 use Rattle.frame_known.specs.Entering.{nexts, row_at, waits_at}
 
 abbrev pub KnowsNoLess : Known → Known → Type 0

@@ -3,9 +3,9 @@
 ghost use Rattle.std.specs.Prelude.{◌≡◌, ◌<◌, length, IfOk, OnOk, vec_len};
 ghost use Rattle.frame_known.specs.Entering.{AreInside, AreLong, Brought, Entered, EnteredAll, IsLong, nexts};
 
-use crate::rows::keep_common;
+use crate::meeting::keep_common;
+use crate::rows::Row;
 use bits_core::Memory;
-use fact_rows::Row;
 use pcode_model::Exit;
 use sqlite_items::Items;
 use std::alloc::Global;

@@ -5,18 +5,19 @@ ghost use Rattle.pcode_model.specs.Flow.{IsFlow, NoFault, starts_of};
 ghost use Rattle.pcode_model.specs.Places.{place as place_of};
 ghost use Rattle.pcode_model.specs.Step.{first_place};
 ghost use Rattle.pcode_model.specs.WellFormed.{IsWellFormed};
-ghost use Rattle.fact_rows.specs.Rows.{IsRow};
-ghost use Rattle.fact_rows.specs.Slots.{AreSlots};
+ghost use Rattle.frame_known.specs.Rows.{IsRow};
+ghost use Rattle.frame_known.specs.Slots.{AreSlots};
 ghost use Rattle.frame_known.specs.Entering.{AreInside, AreLong, nexts, row_at, waits_at};
 ghost use Rattle.frame_known.specs.Known.{AreKnown};
 ghost use Rattle.frame_known.specs.Passing.{Passed, begins_in, end_in};
-ghost use Rattle.frame_known.specs.Rows.{along};
+ghost use Rattle.frame_known.specs.Meeting.{along};
 ghost use Rattle.frame_known.specs.Settling.{Nothing_owed, Settled, Settling};
 
 use crate::entering::{Rows, copied, leave};
-use crate::rows::{first_row, pass_along};
+use crate::meeting::{first_row, pass_along};
+use crate::rows::Row;
+use crate::slots::{Slots, slots_of};
 use bits_core::Memory;
-use fact_rows::{Row, Slots, slots_of};
 use pcode_model::{Block, Flow, Listing, Place};
 use std::alloc::Global;
 

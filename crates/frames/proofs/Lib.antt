@@ -1,0 +1,11 @@
+pub mod Walk
+pub mod Places
+pub mod Sorted
+pub mod Escaping
+pub mod AllAccesses
+pub mod AllFacts
+pub mod Low
+pub mod Reached
+pub mod Rising
+pub mod Told
+pub mod Whole

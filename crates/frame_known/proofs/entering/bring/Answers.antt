@@ -1,4 +1,4 @@
-use Rattle.frame_known.proofs.Entries.{brought_new}
+use Rattle.frame_known.proofs.Brought.{brought_new}
 use Rattle.frame_known.proofs.entering.bring.Goals as goal
 
 pub returns-in_ok-copied-in-None : goal.returns-in_ok-copied-in-None

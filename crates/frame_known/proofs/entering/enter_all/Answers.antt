@@ -1,6 +1,6 @@
 use Rattle.std.proofs.Common.{ℕ, List, get_or, take, subst, sym}
 use Rattle.std.proofs.lemmas.List.{take_more}
-use Rattle.frame_known.proofs.Entries.{Bringing, bringing_more}
+use Rattle.frame_known.proofs.Brought.{Bringing, bringing_more}
 use Rattle.frame_known.proofs.entering.enter_all.Goals as goal
 
 pub loop-target-preserved : goal.loop-target-preserved

@@ -1,5 +1,5 @@
 use Rattle.std.proofs.Common.{take}
-use Rattle.frame_known.proofs.Entries.{Bringing}
+use Rattle.frame_known.proofs.Brought.{Bringing}
 use Rattle.frame_known.proofs.entering.enter_all.Given as goal
 
 abbrev pub invariant-loop-target : goal.invariant-loop-target

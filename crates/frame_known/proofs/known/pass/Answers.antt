@@ -1,6 +1,6 @@
 use Rattle.std.proofs.Common.{subst, sym}
 use Rattle.std.specs.Prelude.{IfSome}
-use Rattle.fact_rows.specs.Rows.{IsRow}
+use Rattle.frame_known.specs.Rows.{IsRow}
 use Rattle.frame_known.specs.Entering.{AreLong}
 use Rattle.frame_known.proofs.known.pass.Goals as goal
 

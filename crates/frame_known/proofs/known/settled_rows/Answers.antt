@@ -1,7 +1,7 @@
 use Rattle.std.proofs.Common.{◌≡◌, ◌∙◌, Bool, List, Option, Some, None, true, false, length, replicate, set, ap, sym, subst, arith}
 use Rattle.std.proofs.lemmas.List.{length-replicate}
 use Rattle.pcode_model.specs.Step.{first_place}
-use Rattle.fact_rows.specs.Rows.{Row}
+use Rattle.frame_known.specs.Rows.{Row}
 use Rattle.frame_known.specs.Settling.{Nothing_owed, Settling}
 use Rattle.frame_known.proofs.Passing.{number_inside, settling_first}
 use Rattle.frame_known.proofs.known.settled_rows.Goals as goal

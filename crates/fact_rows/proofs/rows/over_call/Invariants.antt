@@ -1,6 +1,0 @@
-use Rattle.pcode_model.specs.Step.{proto_at}
-use Rattle.fact_rows.proofs.Passed.{Called}
-use Rattle.fact_rows.proofs.rows.over_call.Given as goal
-
-abbrev pub invariant-loop-slot : goal.invariant-loop-slot
-invariant-loop-slot l = Called l.listing l.slots (proto_at l.listing l.proto) l.slot l.fn.row l.row

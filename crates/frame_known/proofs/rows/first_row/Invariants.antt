@@ -1,6 +1,0 @@
-use Rattle.std.proofs.Common.{◌≡◌, map, take}
-use Rattle.frame_known.specs.Rows.{first_entry}
-use Rattle.frame_known.proofs.rows.first_row.Given as goal
-
-abbrev pub invariant-loop-slot : goal.invariant-loop-slot
-invariant-loop-slot l = l.row ≡ map (first_entry l.listing l.slots) (take l.slot l.slots.keys.items)

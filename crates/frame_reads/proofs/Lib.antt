@@ -1,6 +1,0 @@
-pub mod Walk
-pub mod Places
-pub mod Sorted
-pub mod Escaping
-pub mod Accesses
-pub mod Facts
