@@ -31,15 +31,17 @@ use Rattle.frame_known.proofs.Ranges.{holds_low, key_low, range_back, stack_hold
 
 -- ---- members
 
-contained : (n : ℕ) (xs : List ℕ) → IsIn n xs → Contains xs n
-contained n [] h = absurd h
-contained n (x ∷ xs) (inl e) = (zero, omega arith, sym e)
-contained n (x ∷ xs) (inr h) = let r = contained n xs h in (suc r.0, omega (arith, r.1), r.2)
+-- a member stands at some number
+pub contained : {A : Type 0} (x : A) (xs : List A) → IsIn x xs → Contains xs x
+contained x [] h = absurd h
+contained x (y ∷ xs) (inl e) = (zero, omega arith, sym e)
+contained x (y ∷ xs) (inr h) = let r = contained x xs h in (suc r.0, omega (arith, r.1), r.2)
 
-member : (n : ℕ) (xs : List ℕ) → Contains xs n → IsIn n xs
-member n [] h = absurd (omega (arith, h.1))
-member n (x ∷ xs) h = by (member n xs) h.0 h.1 h.2 where
-  by : (Contains xs n → IsIn n xs) → (k : ℕ) → k < length (x ∷ xs) → get_or (x ∷ xs) k n ≡ n → IsIn n (x ∷ xs)
+-- what stands at some number is a member
+pub member : {A : Type 0} (x : A) (xs : List A) → Contains xs x → IsIn x xs
+member x [] h = absurd (omega (arith, h.1))
+member {A = A} x (y ∷ xs) h = by (member x xs) h.0 h.1 h.2 where
+  by : (Contains xs x → IsIn x xs) → (k : ℕ) → k < length (y ∷ xs) → get_or (y ∷ xs) k x ≡ x → IsIn x (y ∷ xs)
   by rest zero lt e = inl (sym e)
   by rest (suc k) lt e = inr (rest (k, omega (arith, lt), e))
 

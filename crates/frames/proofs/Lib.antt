@@ -6,5 +6,7 @@ pub mod AllAccesses
 pub mod AllFacts
 pub mod Low
 pub mod Reached
+pub mod Rising
+pub mod Told
 pub mod Whole
 pub mod Near

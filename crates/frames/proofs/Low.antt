@@ -22,7 +22,7 @@ use Rattle.frame_known.specs.declared.slots.Slots.{Slots}
 use Rattle.frame_known.specs.Slots.{AreSlots, key}
 use Rattle.frame_known.specs.Rows.{AreBelow, IsBelow, IsRow, Row, offset_of}
 use Rattle.frame_known.proofs.Entries.{offset_is}
-use Rattle.frame_known.proofs.Meaning.{held}
+use Rattle.frame_known.proofs.Meaning.{can_from, held}
 
 module _ (l : Listing) (read : IsWellFormed l) where
   pub stack_low : (sp : Varnode) (c : ℕ) → l.stack ≡ Some sp → c < offsets l → c < limit (stack_width l)
@@ -57,6 +57,18 @@ known_low l s row v d n read slots fine e =
     let x = held s row v d (offset_is (offset_of s row v) d e) in
     let some = slots.some in
     slot_low l read s (key v) (n % s.offsets) slots x.has (omega (arith, some))
+
+-- an offset that a row knows is one
+pub known_below : (l : Listing) (s : Slots) (row : Row) (v : Varnode) (d : ℕ)
+    → IsWellFormed l
+    → AreSlots l s
+    → IsRow s row
+    → offset_of s row v ≡ Some d
+    → d < limit (stack_width l)
+known_below l s row v d read slots fine e =
+    let x = held s row v d (offset_is (offset_of s row v) d e) in
+    let can = can_from l read s slots row fine row fine v d x in
+    stack_low l read can.stack d can.is can.below
 
 -- ---- the width of the stack pointer
 

@@ -73,7 +73,7 @@ fn push_access(
     Ok(())
 }
 
-fn is_of_memory(listing: &Listing, op: &Op) -> bool
+pub(crate) fn is_of_memory(listing: &Listing, op: &Op) -> bool
     ensures { result ≡ is_of_memory listing.now op.now.inputs }
 {
     op.input(0).offset == number_of(SpaceKind::Ram, listing.spaces.as_slice()) as u64

@@ -12,7 +12,7 @@
 //! what the definition has, and nothing else (`proofs/Walk.antt`, `proofs/Places.antt`). The blocks' places rise, one block
 //! after another; at one place accesses come by rising number, and facts by rising slot. So the lists of accesses and of
 //! facts are in their order as they are found (`proofs/Sorted.antt`). Offsets that escape are found in no order, and some
-//! more than once.
+//! more than once: they are sorted, and each is kept once (`proofs/Rising.antt`).
 //!
 //! Without a `stack` line no range can hold an address of the stack: there are no slots for facts, each block is passed once
 //! and each op looked at a few times, and the frame is empty.
