@@ -39,18 +39,18 @@ module _
     (t : List TableAt)
     (evaluated : List Place)
   where
-  -- Those of a frame lie near the entry word.
-  pub near_accesses : (f : Frame) → IsFrame l t evaluated f → HasNearAccesses f
-  near_accesses f frame = all_known l IsNearAccess (near_by l) f.accesses (framed l read good t evaluated f frame)
+    -- Those of a frame lie near the entry word.
+    pub near_accesses : (f : Frame) → IsFrame l t evaluated f → HasNearAccesses f
+    near_accesses f frame = all_known l IsNearAccess (near_by l) f.accesses (framed l read good t evaluated f frame)
 
-  module _ (xs : List FrameAccess) (listed : Lists (IsFrameAccess l t evaluated) IsAccessBefore xs) where
-    each_known : (a : FrameAccess) → IsIn a xs → IsKnown l a
-    each_known a is = known_access l read good t evaluated a ((listed.each a).0 is)
+    module _ (xs : List FrameAccess) (listed : Lists (IsFrameAccess l t evaluated) IsAccessBefore xs) where
+      each_known : (a : FrameAccess) → IsIn a xs → IsKnown l a
+      each_known a is = known_access l read good t evaluated a ((listed.each a).0 is)
 
-    -- So do all accesses of the frame,
-    pub listed_near : AllByRecursion IsNearAccess xs
-    listed_near = all_known l IsNearAccess (near_by l) xs each_known
+      -- So do all accesses of the frame,
+      pub listed_near : AllByRecursion IsNearAccess xs
+      listed_near = all_known l IsNearAccess (near_by l) xs each_known
 
-    -- and each has a byte.
-    pub listed_some : AllByRecursion HasBytes xs
-    listed_some = all_known l HasBytes (λ a is. is.few.0) xs each_known
+      -- and each has a byte.
+      pub listed_some : AllByRecursion HasBytes xs
+      listed_some = all_known l HasBytes (λ a is. is.few.0) xs each_known
