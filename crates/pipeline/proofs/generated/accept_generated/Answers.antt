@@ -18,11 +18,11 @@ returns-in_err-flow-clause-memory c =
     never_stops c.args.number c.in_ok-listing.listing c.in_ok-listing.ensures _ c.in_err-flow.ensures.stops in
     search (rules, memory)
 
-pub frame-frame-requires-clause-read : goal.frame-frame-requires-clause-read
-frame-frame-requires-clause-read c = formed c.args.number c.in_ok-listing.listing c.in_ok-listing.ensures
+pub frame-requires-clause-read : goal.frame-requires-clause-read
+frame-requires-clause-read c = formed c.args.number c.in_ok-listing.listing c.in_ok-listing.ensures
 
-pub frame-frame-requires-clause-ops : goal.frame-frame-requires-clause-ops
-frame-frame-requires-clause-ops c = obeys c.args.number c.in_ok-listing.listing c.in_ok-listing.ensures
+pub frame-requires-clause-ops : goal.frame-requires-clause-ops
+frame-requires-clause-ops c = obeys c.args.number c.in_ok-listing.listing c.in_ok-listing.ensures
 
 pub returns-in_err-atoms-clause-memory : goal.returns-in_err-atoms-clause-memory
 returns-in_err-atoms-clause-memory c =
