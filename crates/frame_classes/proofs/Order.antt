@@ -29,7 +29,8 @@ module _ {A : Type 0} (stands : A → A → Type 0) where
 
 -- ---- accesses by their places
 
-access_on : (a b c : FrameAccess) → IsAccessBefore a b → IsAccessBefore b c → IsAccessBefore a c
+-- the order of accesses is transitive
+pub access_on : (a b c : FrameAccess) → IsAccessBefore a b → IsAccessBefore b c → IsAccessBefore a c
 access_on a b c (inl x) (inl y) = inl (before_trans a.place b.place c.place x y)
 access_on a b c (inl x) (inr y) = inl (subst (IsBefore a.place) y.0 x)
 access_on a b c (inr x) (inl y) = inl (subst (λ p. IsBefore p c.place) (sym x.0) y)

@@ -6,4 +6,3 @@ pub mod Leading
 pub mod Standing
 pub mod Turning
 pub mod Owning
-pub mod Framed

@@ -10,12 +10,12 @@ use Rattle.pcode_model.specs.Memory.{whole}
 use Rattle.pcode_model.specs.Spaces.{is_some}
 use Rattle.pcode_model.specs.WellFormed.{IsWellFormed}
 use Rattle.pcode_model.proofs.ReadOnly.{fixed_small}
-use Rattle.pcode_model.specs.Step.{first_whole, layout, machine, seen_p, start}
+use Rattle.pcode_model.specs.Step.{first_whole, layout, machine, start}
 use Rattle.pcode_laws.proofs.Grows.{pcode_grows}
 use Rattle.frame_facts.specs.Listed.{IsFrame}
 use Rattle.cmeaning.specs.declared.tree.CFunction.{CFunction}
 use Rattle.cmeaning.specs.Agree.{AgreesWith}
-use Rattle.cmeaning.specs.Step.{c_machine, seen_c, start_c}
+use Rattle.cmeaning.specs.Step.{c_machine, start_c}
 use Rattle.cmeaning.proofs.Grows.{c_grows}
 use Rattle.run_world.specs.declared.entry.Entry.{Entry}
 use Rattle.run_world.specs.declared.trace.Trace.{Trace}

@@ -2,7 +2,7 @@ use Rattle.std.proofs.Common.{◌∙◌, ◌++◌, List, ℕ, [], ap, arith}
 use Rattle.side_by_side.specs.Judged.{both_text}
 use Rattle.frame_facts.proofs.Bounded.{few_access}
 use Rattle.run_world.specs.Meaning.{trace_of}
-use Rattle.pcode_run.proofs.Framed.{frame_lies, frame_ordered}
+use Rattle.side_by_side.proofs.Framed.{frame_lies, frame_ordered}
 use Rattle.side_by_side.proofs.Running.{shown_is}
 use Rattle.side_by_side.proofs.judging.show.Goals as goal
 

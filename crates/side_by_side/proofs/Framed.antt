@@ -16,19 +16,20 @@ use Rattle.pcode_model.specs.declared.listing.Place.{Place}
 use Rattle.pcode_model.specs.declared.listing.Varnode.{Varnode}
 use Rattle.pcode_model.specs.declared.opcode.Opcode.{Opcode}
 use Rattle.pcode_model.specs.declared.opcode.Opcode.TheVariants as O
-use Rattle.pcode_model.specs.Flow.{IsBefore, IsIn}
+use Rattle.pcode_model.specs.Flow.{IsIn}
 use Rattle.pcode_model.specs.Places.{standing}
 use Rattle.pcode_model.specs.Spaces.{first_ram, or, size_of}
-use Rattle.pcode_model.specs.Step.{varnode_at}
 use Rattle.pcode_model.specs.WellFormed.{IsStackPointer, IsWellFormed}
 use Rattle.pcode_memory.specs.Frame.{ComesBefore, EndsBefore, IsNear, IsOrdered, Rise}
 use Rattle.pcode_run.specs.Run.{LiesInRam, accesses, by_pointer, lies_in_ram}
-use Rattle.frame_facts.specs.Accesses.{IsFrameAccess, IsFrameVariable, Reach, Same, frame_limit, only_memory, reach, reaches, stack_width, width_in}
+use Rattle.frame_facts.specs.Accesses.{IsFrameAccess, IsFrameVariable, Reach, Same, frame_limit, reaches, stack_width, width_in}
 use Rattle.frame_facts.specs.Escapes.{is_of_memory}
 use Rattle.frame_facts.specs.Listed.{InOrderBy, IsAccessBefore, IsFrame, IsVariableBefore}
 use Rattle.frame_facts.proofs.Prototypes.{offsets_are}
 use Rattle.frame_facts.proofs.Classes.{joined_access, variables_same}
 use Rattle.frame_facts.proofs.Numbers.{more_by}
+use Rattle.frame_facts.proofs.Reaches.{memory_reach}
+use Rattle.frame_classes.proofs.Order.{access_on}
 
 -- ---- orders
 
@@ -77,18 +78,6 @@ wide_by w two = ⊎_elim
 
 -- ---- accesses
 
-place_on : (p q r : Place) → IsBefore p q → IsBefore q r → IsBefore p r
-place_on p q r (inl a) (inl b) = inl (omega (arith, a, b))
-place_on p q r (inl a) (inr b) = inl (omega (arith, a, b.0))
-place_on p q r (inr a) (inl b) = inl (omega (arith, a.0, b))
-place_on p q r (inr a) (inr b) = inr (a.0 ∙ b.0, omega (arith, a.1, b.1))
-
-access_on : (a b c : FrameAccess) → IsAccessBefore a b → IsAccessBefore b c → IsAccessBefore a c
-access_on a b c (inl x) (inl y) = inl (place_on a.place b.place c.place x y)
-access_on a b c (inl x) (inr y) = inl (subst (IsBefore a.place) y.0 x)
-access_on a b c (inr x) (inl y) = let P : Place → Type 0 = λ p. IsBefore p c.place in inl (subst P (sym x.0) y)
-access_on a b c (inr x) (inr y) = inr (x.0 ∙ y.0, omega (arith, x.1, y.1))
-
 comes_before : (a b : FrameAccess) → IsAccessBefore a b → ComesBefore a b
 comes_before a b (inl (inl less)) = grind (arith, nat_tests, less)
 comes_before a b (inl (inr both)) = let e = both.0 in let less = both.1 in grind (arith, nat_tests)
@@ -98,25 +87,14 @@ comes_before a b (inr both) =
     let less = both.1 in
     grind (arith, nat_tests)
 
-memory_is : (l : Listing) (vs : List Varnode) (k : ℕ) (r : Reach)
-    → IsIn r (only_memory l vs k)
-    → is_of_memory l vs ≡ true
-memory_is l vs k r is = by (is_of_memory l vs) refl is where
-  by : (b : Bool)
-      → is_of_memory l vs ≡ b
-      → IsIn r (cond b (reach 0 (varnode_at vs 1) 0 k ∷ []) [])
-      → is_of_memory l vs ≡ true
-  by true e is = e
-  by false e is = absurd is
-
 lies_by : (l : Listing) (code : Opcode) (out : Option Varnode) (vs : List Varnode) (r : Reach)
     → IsIn r (reaches l (record { code = code; out = out; inputs = vs }))
     → or (not (by_pointer code)) (is_of_memory l vs) ≡ true
 lies_by l (O.Unary op) out vs r is = refl
 lies_by l (O.Binary op) out vs r is = refl
 lies_by l (O.Divide op) out vs r is = refl
-lies_by l O.Load out vs r is = memory_is l vs _ r is
-lies_by l O.Store out vs r is = memory_is l vs _ r is
+lies_by l O.Load out vs r is = (memory_reach l vs _ r is).0
+lies_by l O.Store out vs r is = (memory_reach l vs _ r is).0
 lies_by l O.Branch out vs r is = refl
 lies_by l O.CBranch out vs r is = refl
 lies_by l O.BranchInd out vs r is = refl
