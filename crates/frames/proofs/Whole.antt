@@ -14,8 +14,8 @@ use Rattle.frame_known.specs.Known.{AreKnown}
 use Rattle.frames.specs.Walk.{accesses_found, escapes_found, facts_found}
 use Rattle.frames.proofs.AllAccesses.{accesses_are}
 use Rattle.frames.proofs.Escaping.{escapes_are}
-use Rattle.frames.proofs.Rising.{all_kept, kept_rising}
 use Rattle.frames.proofs.AllFacts.{facts_are, rising_of}
+use Rattle.frames.proofs.Rising.{all_kept, kept_rising}
 use Rattle.frame_known.proofs.Found.{rises}
 
 module _ (l : Listing) (blocks : List Block) (k : Known) (are : AreKnown l blocks k) where
