@@ -6,3 +6,6 @@ pub mod Reaches
 pub mod Owns
 pub mod Classes
 pub mod Whole
+pub mod Counted
+pub mod Few
+pub mod Bounded

@@ -8,4 +8,7 @@
 //! (`specs/Escapes.antt`). The accesses of the frame are those by addresses with facts, near the entry word; they fall into
 //! classes by shared bytes, and a class below every escaped offset is a frame variable (`specs/Accesses.antt`). What all
 //! this makes of a listing is its frame (`specs/Listed.antt`).
+//!
+//! In a listing whose ops obey their rules each access of the frame has 1 to 16 bytes, and begins at most 2^20 bytes from
+//! the entry word (`proofs/Bounded.antt`).
 #![tactic(auto)]

@@ -9,3 +9,4 @@ pub mod Reached
 pub mod Rising
 pub mod Told
 pub mod Whole
+pub mod Near

@@ -13,8 +13,9 @@ use Rattle.generator_laws.proofs.Obeys.{built, obeys}
 -- The listing of any draws that fit has all that is asked of a listing.
 pub drawn_taken : (draws : ℕ → Drawn) → AreFit draws → IsTaken (listing_of draws)
 drawn_taken draws fit = record {
+  stack = refl;
   ops = obeys draws fit;
-  built = record { stack = refl; ops = built draws };
+  built = built draws;
   flow = no_fault draws;
   blocks = few_starts draws;
   atoms = few_atoms draws fit;

@@ -19,7 +19,7 @@ use Rattle.pcode_model.specs.Step.{varnode_at}
 use Rattle.pcode_model.specs.WellFormed.{IsWellFormed}
 use Rattle.frame_facts.specs.Listed.{IsFrame}
 use Rattle.pcodetext.specs.Meaning.{Good, reading}
-use Rattle.supported.specs.Supported.{IsSupported}
+use Rattle.supported.specs.Supported.{HasBuiltOps}
 use Rattle.flow.specs.Answer.{IsFlowFault}
 use Rattle.flow.specs.declared.answer.FlowFault.{FlowFault}
 use Rattle.flow.specs.declared.answer.FlowFault.TheVariants as F
@@ -55,7 +55,7 @@ use Rattle.layout_laws.proofs.Fits.{laid_fits}
 use Rattle.layout_laws.proofs.Obeys.{laid_valid}
 use Rattle.plain_form.proofs.Accessed.{accessed_low}
 use Rattle.plain_form.proofs.Form.{plain_form}
-use Rattle.plain_form.proofs.Framed.{framed}
+use Rattle.frame_facts.proofs.Bounded.{framed}
 use Rattle.plain_form.proofs.Read.{first_long}
 use Rattle.instructions.proofs.Standing.{stands_in}
 use Rattle.pipeline.specs.Passed.{Lowers}
@@ -77,7 +77,7 @@ module _
     (l : Listing)
     (read : IsWellFormed l)
     (good : first_bad l ≡ None)
-    (built : IsSupported l)
+    (built : HasBuiltOps l)
     (blocks : List Block)
     (flow : IsFlow l [] blocks)
     (fine : NoFault l [])
@@ -88,7 +88,7 @@ module _
     (are : AreAtoms l [] f atoms)
   where
     form : code.IsLowerable l [] (frame_of l f) blocks atoms
-    form = plain_form l read good built.ops [] f frame blocks flow fine few atoms are
+    form = plain_form l read good built [] f frame blocks flow fine few atoms are
 
     abbrev made : Code
     made = lowered l (frame_of l f) blocks atoms
@@ -103,7 +103,7 @@ module _
 
     long : HasLong l [] atoms
     long = record {
-      storages = atoms_long l [] f atoms are (accessed_low l read good built.ops)
+      storages = atoms_long l [] f atoms are (accessed_low l read good built)
           (λ a is. long_access l a (framed l read good [] [] f frame a is));
       places = λ p reached. stands_long (standing l p) p refl;
     }
@@ -206,7 +206,7 @@ may_print bytes text l frame f read is_frame lowers is = record {
 
 pub accepts : (bytes : List ℕ) (l : Listing)
     → IsGood bytes l
-    → IsSupported l
+    → HasBuiltOps l
     → (blocks : List Block)
     → IsFlow l [] blocks
     → NoFault l []
@@ -246,7 +246,7 @@ atoms_stops l A.Memory fine few h = tt
 
 pub stops_refused : (bytes : List ℕ) (l : Listing)
     → IsGood bytes l
-    → IsSupported l
+    → HasBuiltOps l
     → (fault : Refusal)
     → Stops l fault
     → IsCause bytes fault

@@ -6,7 +6,7 @@ use Rattle.pcode_model.specs.declared.frame.FrameAccess.{FrameAccess}
 use Rattle.pcode_model.specs.declared.listing.Listing.{Listing}
 use Rattle.pcode_model.specs.declared.listing.Varnode.{Varnode}
 use Rattle.frame_facts.specs.Accesses.{frame_limit, stack_width}
-use Rattle.plain_form.proofs.Framed.{IsKnown, limit_near}
+use Rattle.frame_facts.proofs.Bounded.{IsKnown, limit_near}
 use Rattle.plain_valid.specs.Long.{IsLongAccess}
 
 has_one : (o : Option Varnode) (sp : Varnode) → o ≡ Some sp → IsSome o

@@ -9,7 +9,7 @@ use Rattle.pcode_model.specs.Rules.{first_bad}
 use Rattle.pcode_model.specs.WellFormed.{IsWellFormed}
 use Rattle.pcodetext.proofs.Whole.{is_well_formed}
 use Rattle.pcodetext.specs.Meaning.{Good, reading}
-use Rattle.supported.specs.Supported.{IsSupported}
+use Rattle.supported.specs.Supported.{HasBuiltOps}
 use Rattle.flow.specs.declared.answer.FlowFault.TheVariants as F
 use Rattle.flow.proofs.Built.{blocks_listed}
 use Rattle.stackvars.proofs.Built.{atoms_listed}
@@ -46,7 +46,7 @@ taken_never_stops l taken (R.Flow (F.TooManyBlocks n)) (fine, (starts, (are, (co
     let few = taken.blocks starts are in absurd (omega (arith, few, count, many))
 taken_never_stops l taken (R.Flow F.Memory) h = absurd h
 taken_never_stops l taken (R.Atoms (A.TooManyAtoms n)) (fine, (blocks, (frame, (is, ((atoms, (are, count)), many))))) =
-    let none = without_pointer l [] [] taken.built.stack in
+    let none = without_pointer l [] [] taken.stack in
     let few = taken.atoms atoms (atoms_by l frame no_variables is none atoms are) in
     absurd (omega (arith, few, count, many))
 taken_never_stops l taken (R.Atoms A.Memory) h = absurd h
@@ -69,7 +69,7 @@ module _ (number : ℕ) (l : Listing) (is : l ≡ generated number) where
   pub never_stops : (fault : Refusal) → Stops l fault → fault ≡ R.Memory
   never_stops fault h = taken_never_stops l taken fault h
 
-  pub built : IsSupported l
+  pub built : HasBuiltOps l
   built = taken.built
 
 -- Every generated listing is accepted: its text is read as it, no check refuses it, and its blocks and atoms are so many.
@@ -89,7 +89,7 @@ accepted number =
       blocks = (starts_of blocks.0, (blocks.1.starts, omega (arith, few)));
       atoms = (
         length atoms.0,
-        ((no_variables, (without_pointer l [] [] t.built.stack, (atoms.0, (atoms.1, refl)))), omega (arith, so_few)),
+        ((no_variables, (without_pointer l [] [] t.stack, (atoms.0, (atoms.1, refl)))), omega (arith, so_few)),
       );
     }
 

@@ -9,7 +9,7 @@ use Rattle.pcode_model.specs.Limits.{max_atoms, max_blocks}
 use Rattle.pcode_model.specs.Rules.{first_bad}
 use Rattle.pcode_model.specs.WellFormed.{IsWellFormed}
 use Rattle.frame_facts.specs.Listed.{IsFrame}
-use Rattle.supported.specs.Supported.{IsSupported}
+use Rattle.supported.specs.Supported.{HasBuiltOps}
 use Rattle.cmeaning.specs.declared.tree.CFunction.{CFunction}
 use Rattle.cmeaning.specs.Agree.{AgreesWith}
 use Rattle.cmeaning.specs.Fits.{Fits}
@@ -22,7 +22,7 @@ use Rattle.pipeline.specs.declared.verdict.Accepted.{Accepted}
 pub record HasPassed (a : Accepted) : Type 0 where
   pub read : IsWellFormed a.listing
   pub ops : first_bad a.listing ≡ None
-  pub built : IsSupported a.listing
+  pub built : HasBuiltOps a.listing
   pub blocks : IsFlow a.listing [] a.flow
   pub no_fault : NoFault a.listing []
   pub few_blocks : length a.flow ≤ max_blocks

@@ -9,7 +9,7 @@ use Rattle.pcode_model.specs.Limits.{max_atoms}
 use Rattle.pcode_model.specs.Rules.{first_bad}
 use Rattle.pcodetext.specs.Meaning.{Good, Bad, reading}
 use Rattle.frame_facts.specs.Listed.{IsFrame}
-use Rattle.supported.specs.Supported.{IsSupported}
+use Rattle.supported.specs.Supported.{HasBuiltOps}
 use Rattle.flow.specs.Answer.{IsFlowFault}
 use Rattle.flow.specs.declared.answer.FlowFault.TheVariants as flow
 use Rattle.stackvars.specs.Cuts as cuts
@@ -37,7 +37,7 @@ IsAtomFault l fault = (frame : Frame) × (IsFrame l [] [] frame × cuts.IsCause 
 -- the input is a listing that is built, no place of its flow has a fault, and there are not too many blocks and atoms
 pub record Accepts (bytes : Bytes) (l : Listing) : Type 0 where
   pub good : IsGood bytes l
-  pub built : IsSupported l
+  pub built : HasBuiltOps l
   pub flow : NoFault l []
   pub blocks : HasFewBlocks l
   pub atoms : (n : ℕ) × (HasAtoms l n × (n ≤ max_atoms))
@@ -49,12 +49,12 @@ IsAccepted bytes = (l : Listing) × Accepts bytes l
 abbrev pub IsRefused : Bytes → Refusal → Type 0
 IsRefused bytes (refusal.Text fault) = reading bytes ≡ Bad fault
 IsRefused bytes (refusal.Op fault) = (l : Listing) × ((reading bytes ≡ Good l) × (first_bad l ≡ Some fault))
-IsRefused bytes refusal.NotBuilt = RefusedBy bytes (λ l. IsSupported l → ⊥)
+IsRefused bytes refusal.NotBuilt = RefusedBy bytes (λ l. HasBuiltOps l → ⊥)
 IsRefused bytes (refusal.Flow flow.Memory) = ⊥
-IsRefused bytes (refusal.Flow fault) = RefusedBy bytes (λ l. IsSupported l × IsFlowFault l [] fault)
+IsRefused bytes (refusal.Flow fault) = RefusedBy bytes (λ l. HasBuiltOps l × IsFlowFault l [] fault)
 IsRefused bytes (refusal.Atoms atoms.Memory) = ⊥
 IsRefused bytes (refusal.Atoms fault) =
-    RefusedBy bytes (λ l. IsSupported l × (NoFault l [] × (HasFewBlocks l × IsAtomFault l fault)))
+    RefusedBy bytes (λ l. HasBuiltOps l × (NoFault l [] × (HasFewBlocks l × IsAtomFault l fault)))
 IsRefused bytes refusal.Memory = ⊥
 
 -- a refusal of the input, unless memory ran out

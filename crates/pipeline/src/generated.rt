@@ -11,7 +11,7 @@ ghost use Rattle.pipeline.specs.Passed.{HasPassed, Lowers};
 use crate::passes::lower;
 use crate::verdict::{Accepted, blocks, variables};
 use bits_core::Memory;
-use frames::empty_frame;
+use frames::frame;
 use generator::generated_listing;
 use pcode_model::Text;
 use refusals::Refusal;
@@ -26,7 +26,7 @@ fn accept_generated(alloc: Global, number: u32) -> Result<Accepted, Refusal>
 {
     let listing = generated_listing(alloc, number)?;
     let flow = blocks(alloc, &listing)?;
-    let frame = empty_frame(alloc, &listing);
+    let frame = frame(alloc, &listing, &flow)?;
     let atoms = variables(alloc, &listing, &flow, &frame)?;
     Ok(Accepted {
         listing,

@@ -10,7 +10,7 @@ ghost use Rattle.pipeline.specs.Verdict.{Accepts, IsCause, Stops};
 ghost use Rattle.pipeline.specs.Passed.{HasPassed};
 
 use flow::follow;
-use frames::empty_frame;
+use frames::frame;
 use pcode_model::{Atoms, Flow, Frame, Listing, Tables, check_ops};
 use pcodetext::read_listing;
 use refusals::Refusal;
@@ -41,7 +41,7 @@ pub fn accept(alloc: Global, bytes: &[u8]) -> Result<Accepted, Refusal>
         return Err(Refusal::NotBuilt);
     }
     let flow = blocks(alloc, &listing)?;
-    let frame = empty_frame(alloc, &listing);
+    let frame = frame(alloc, &listing, &flow)?;
     let atoms = variables(alloc, &listing, &flow, &frame)?;
     Ok(Accepted {
         listing,

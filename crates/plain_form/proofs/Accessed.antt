@@ -21,13 +21,14 @@ use Rattle.pcode_model.proofs.Members.{in_either}
 use Rattle.supported.specs.Supported.{HasBuiltOps, is_supported_code}
 use Rattle.stackvars.proofs.Passed.{reads_passed}
 use Rattle.stackvars.proofs.Reach.{of_rest, read_back, read_rest}
+use Rattle.frame_facts.proofs.Few.{one_in}
 use Rattle.plain_form.proofs.Halves.{first_ram_is, pointer_is}
 use Rattle.plain_form.proofs.Memory.{memory_is}
 use Rattle.plain_form.proofs.Prototypes.{IsDeclared, callee_declared, own_declared, passed_storage}
 use Rattle.instructions.proofs.Standing.{StandsIn, stands_in}
 use Rattle.plain_form.proofs.Standing.{supported_in}
 use Rattle.plain_form.proofs.Formed.{IsInput, Inside}
-use Rattle.plain_form.proofs.Read.{input, input_inside, one_in, output_inside, storage_input, storage_inside}
+use Rattle.plain_form.proofs.Read.{input, input_inside, output_inside, storage_input, storage_inside}
 
 -- ---- what a supported op accesses: what it reads, its output, and at a call the result and the
 -- stack pointer, and at a RETURN the result

@@ -23,7 +23,7 @@ use Rattle.op_code.specs.Ranges.{HasAtoms}
 use Rattle.op_code.proofs.Atoms.{accessed_cover}
 use Rattle.plain_form.proofs.Accessed.{accessed_inside}
 use Rattle.plain_form.proofs.Formed.{Inside}
-use Rattle.plain_form.proofs.Framed.{IsKnown, framed}
+use Rattle.frame_facts.proofs.Bounded.{IsKnown, framed}
 use Rattle.plain_form.proofs.Halves.{even, off_frame}
 use Rattle.plain_form.proofs.Owned.{owned}
 use Rattle.plain_form.proofs.Plain.{plain_at}

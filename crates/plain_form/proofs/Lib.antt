@@ -7,8 +7,6 @@ pub mod Prototypes
 pub mod Read
 pub mod Accessed
 pub mod Halves
-pub mod Counted
-pub mod Framed
 pub mod Plain
 pub mod Table
 pub mod Owned

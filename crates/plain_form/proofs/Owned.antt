@@ -32,7 +32,7 @@ use Rattle.op_code.proofs.Apart.{registers_stacked, uniques_stacked}
 use Rattle.op_code.proofs.Atoms.{accessed_row}
 use Rattle.op_code.proofs.Rows.{row_covers}
 use Rattle.plain_form.proofs.Formed.{Inside}
-use Rattle.plain_form.proofs.Framed.{IsKnown}
+use Rattle.frame_facts.proofs.Bounded.{IsKnown}
 use Rattle.plain_form.proofs.Halves.{IsHalfway, centred_is, even, room}
 use Rattle.plain_form.proofs.Spaces.{space_some}
 use Rattle.plain_form.proofs.Table.{Placed, atoms_some, atoms_table, in_ranges, placed}

@@ -42,7 +42,7 @@ use Rattle.op_code.specs.Lowerable.{IsPlain}
 use Rattle.pcode_model.proofs.Members.{behind, in_front}
 use Rattle.pcode_laws.proofs.Rules.{breaks_none}
 use Rattle.pcode_laws.proofs.Sizes.{binary_is, two_of, unary_is}
-use Rattle.plain_form.proofs.Counted.{counted, of_one, of_three, of_two, third, with_output, without_output}
+use Rattle.frame_facts.proofs.Counted.{counted, of_one, of_three, of_two, third, with_output, without_output}
 use Rattle.instructions.proofs.Standing.{StandsIn, stands_in}
 use Rattle.plain_form.proofs.Standing.{supported_in}
 use Rattle.plain_form.proofs.Spaces.{differ, first_constant, same_is}
@@ -54,7 +54,7 @@ use Rattle.frame_facts.specs.Accesses.{Reach, only_memory, reaches, stack_reache
 use Rattle.frame_facts.proofs.Prototypes.{offsets_are}
 use Rattle.frame_facts.proofs.Reaches.{memory_reach, one_byte, reach_of}
 use Rattle.plain_form.proofs.Accessed.{operand_input, pointer_storage}
-use Rattle.plain_form.proofs.Framed.{past_read}
+use Rattle.frame_facts.proofs.Bounded.{past_read}
 use Rattle.plain_form.proofs.Halves.{first_ram_is}
 use Rattle.plain_form.proofs.Owned.{IsOwned}
 use Rattle.plain_form.proofs.Rules.{ends_within}

@@ -1,7 +1,7 @@
 -- What the reader and the rules of operations promise of the spaces of a listing, of the ranges of its ops and of the
 -- function's result.
-use Rattle.std.proofs.Common.{◌≡◌, ◌≤◌, ◌<◌, ◌+◌, ◌^◌, ◌⊎◌, ℕ, Bool, true, false, List, [], ◌∷◌, Option, Some, None, refl, inl, inr, sym, subst, ap, ◌∙◌, arith, lit<}
-use Rattle.std.specs.Prelude.{◌==◌, ◌&&◌, if◌then◌else◌, not, IfSome}
+use Rattle.std.proofs.Common.{◌≡◌, ◌≤◌, ◌<◌, ◌+◌, ◌^◌, ◌⊎◌, ℕ, true, false, List, [], ◌∷◌, Option, Some, None, refl, inl, inr, sym, subst, ap, ◌∙◌, arith, lit<}
+use Rattle.std.specs.Prelude.{◌==◌, ◌&&◌, not}
 use Rattle.std.specs.List.{AllByRecursion}
 use Rattle.std.proofs.Math.Bool.{and-false}
 use Rattle.std.proofs.lemmas.Bool.Decides.{nat_tests}
@@ -11,37 +11,22 @@ use Rattle.pcode_model.specs.declared.listing.Listing.{Listing}
 use Rattle.pcode_model.specs.declared.listing.Op.{Op}
 use Rattle.pcode_model.specs.declared.listing.SpaceKind.TheVariants.{Constant, Register, Unique}
 use Rattle.pcode_model.specs.declared.listing.Varnode.{Varnode}
-use Rattle.pcode_model.specs.declared.opcode.Opcode.{Opcode}
 use Rattle.pcode_model.specs.declared.rules.OpWhy.{OpWhy}
-use Rattle.pcode_model.specs.declared.rules.OpWhy.TheVariants.{BadSpace, TooWide, OutOfSpace}
+use Rattle.pcode_model.specs.declared.rules.OpWhy.TheVariants.{BadSpace, OutOfSpace}
 use Rattle.pcode_model.specs.Atoms.{IsLocal, one_range}
 use Rattle.pcode_model.specs.Flow.{IsIn}
-use Rattle.pcode_model.specs.Rules.{breaks, first_bad, input_ranges, inputs_stand, is_out_of_space, is_too_wide, names_address, output_is_constant, past_first, rules}
+use Rattle.pcode_model.specs.Rules.{breaks, first_bad, input_ranges, inputs_stand, is_out_of_space, output_is_constant, rules}
 use Rattle.pcode_model.specs.Spaces.{kind_of, register_space, same_kind, size_of, unique_space}
 use Rattle.pcode_model.specs.Step.{proto_of, varnode_at}
-use Rattle.pcode_model.specs.WellFormed.{HasKnownOps, HasOps, IsKnown, IsKnownOp, IsOp, IsOperand, IsProto, IsStorage, IsWellFormed}
+use Rattle.pcode_model.specs.WellFormed.{HasKnownOps, IsKnown, IsKnownOp, IsOperand, IsProto, IsStorage, IsWellFormed}
 use Rattle.pcode_model.proofs.Members.{of_member}
 use Rattle.pcode_laws.proofs.Rules.{breaks_none, neither}
-use Rattle.stackvars.proofs.Reach.{of_rest}
+use Rattle.frame_facts.proofs.Few.{formed, input_few, input_in, one_in, output_few}
 use Rattle.plain_form.proofs.Prototypes.{own_declared}
 use Rattle.instructions.proofs.Standing.{StandsIn}
 use Rattle.plain_form.proofs.Spaces.{constant_is, differ, first_constant, kind_of_first, low, only, same_is}
-use Rattle.plain_form.proofs.Rules.{ends_within, narrow_in, output_narrow, output_stays, stays_in}
+use Rattle.plain_form.proofs.Rules.{ends_within, output_stays, stays_in}
 use Rattle.plain_form.proofs.Formed.{IsInput, IsWritten, Inside}
-
--- What holds of a range that there may be.
-pub one_in : (P : Varnode → Type 0) (o : Option Varnode) → IfSome o P → (v : Varnode) → IsIn v (one_range o) → P v
-one_in P None h v is = absurd is
-one_in P (Some w) h v (inl e) = subst P (sym e) h
-one_in P (Some w) h v (inr is) = absurd is
-
--- what is looked at is an input
-input_in : (code : Opcode) (vs : List Varnode) (v : Varnode) → IsIn v (input_ranges code vs) → IsIn v vs
-input_in code vs v = by_test (names_address code vs) vs
-  where
-    by_test : (b : Bool) (vs : List Varnode) → IsIn v (if b then past_first vs else vs) → IsIn v vs
-    by_test true vs h = of_rest vs v h
-    by_test false vs h = h
 
 -- ---- what the rules say of the ranges of an op
 
@@ -115,14 +100,8 @@ module _ (l : Listing) (read : IsWellFormed l) (good : first_bad l ≡ None) whe
     spaces : (not (output_is_constant op.out) && inputs_stand l op.code op.inputs) ≡ true
     spaces = not-false _ (obeys BadSpace (inr (inr (inr (inr (inl refl))))))
 
-    wide : is_too_wide op ≡ false
-    wide = obeys TooWide (inr (inr (inr (inr (inr (inl refl))))))
-
     leaving : is_out_of_space l op ≡ false
     leaving = obeys OutOfSpace (inr (inr (inr (inr (inr (inr (inl refl)))))))
-
-    formed : IsOp op
-    formed = of_member IsOp op i.ops (of_member HasOps i l.code read.ops stand.code_has) stand.ops_have
 
     known : IsKnownOp l.spaces op
     known = of_member (IsKnownOp l.spaces) op i.ops
@@ -132,11 +111,12 @@ module _ (l : Listing) (read : IsWellFormed l) (good : first_bad l ≡ None) whe
     pub input : (v : Varnode) → IsIn v (input_ranges op.code op.inputs) → IsInput l v
     input v is =
         let among = input_in op.code op.inputs v is in
-        let operand = of_member IsOperand v op.inputs formed.inputs among in
+        let operand = of_member IsOperand v op.inputs (formed l read i op stand).inputs among in
         let small = of_member (IsKnown l.spaces) v op.inputs known.inputs among in
+        let sized = input_few l read i op stand good v is in
         record {
-          some = operand.some;
-          narrow = narrow_in (input_ranges op.code op.inputs) (neither _ _ wide).0 v is;
+          some = sized.0;
+          narrow = sized.1;
           stays = stays_in l (input_ranges op.code op.inputs) (neither _ _ (neither _ _ leaving).1).0 v is;
           fits = λ e. operand.reduced (constant_is l.spaces read.spaces v.space small e);
         }
@@ -144,11 +124,11 @@ module _ (l : Listing) (read : IsWellFormed l) (good : first_bad l ≡ None) whe
     -- What is known of the output.
     pub output : (v : Varnode) → IsIn v (one_range op.out) → IsWritten l v
     output v is =
-        let operand = one_in IsOperand op.out formed.out v is in
         let small = one_in (IsKnown l.spaces) op.out known.out v is in
+        let sized = output_few l read i op stand good v is in
         record {
-          some = operand.some;
-          narrow = output_narrow op.out (neither _ _ wide).1 v is;
+          some = sized.0;
+          narrow = sized.1;
           stays = output_stays l op.out (neither _ _ (neither _ _ leaving).1).1 v is;
           variable =
               λ e. no_output_constant op.out (not-true _ (and_parts _ _ spaces).0) v is
@@ -157,7 +137,7 @@ module _ (l : Listing) (read : IsWellFormed l) (good : first_bad l ≡ None) whe
 
     -- The first input's offset, or 0 without inputs, has 64 bits.
     pub first_long : (varnode_at op.inputs 0).offset < 2 ^ 64
-    first_long = by op.inputs formed.inputs
+    first_long = by op.inputs (formed l read i op stand).inputs
       where
         by : (vs : List Varnode) → AllByRecursion IsOperand vs → (varnode_at vs 0).offset < 2 ^ 64
         by [] all = lit< tt

@@ -1,39 +1,14 @@
 -- What the rules of operations say of the ranges of an op.
-use Rattle.std.proofs.Common.{◌≡◌, ◌≤◌, ◌+◌, ℕ, Bool, true, false, List, [], ◌∷◌, Option, Some, None, refl, inl, inr, sym, subst, arith}
-use Rattle.std.specs.Prelude.{◌&&◌, ◌==◌, nat_lt, not}
-use Rattle.std.proofs.lemmas.Bool.Decides.{nat_tests}
+use Rattle.std.proofs.Common.{◌≡◌, ◌≤◌, ◌+◌, ℕ, Bool, true, false, List, [], ◌∷◌, Option, Some, None, refl, inl, inr, sym, subst}
+use Rattle.std.specs.Prelude.{◌&&◌, ◌==◌, not}
 use Rattle.std.proofs.lemmas.Bool.{eqb-true, ltb-false}
 use Rattle.pcode_model.specs.declared.listing.Listing.{Listing}
 use Rattle.pcode_model.specs.declared.listing.Varnode.{Varnode}
 use Rattle.pcode_model.specs.Atoms.{one_range}
 use Rattle.pcode_model.specs.Flow.{IsIn}
-use Rattle.pcode_model.specs.Rules.{any_leaves, any_wide, leaves_space, output_leaves, output_wide}
+use Rattle.pcode_model.specs.Rules.{any_leaves, leaves_space, output_leaves}
 use Rattle.pcode_model.specs.Spaces.{size_of}
 use Rattle.pcode_laws.proofs.Rules.{neither}
-
--- ---- widths
-
-not_wide : (n : ℕ) → nat_lt 16 n ≡ false → n ≤ 16
-not_wide n h = grind (arith, nat_tests)
-
--- Each input that is looked at has at most 16 bytes.
-pub narrow_in : (vs : List Varnode) → any_wide vs ≡ false → (v : Varnode) → IsIn v vs → v.size ≤ 16
-narrow_in [] h v is = absurd is
-narrow_in (x ∷ vs) h v (inl e) = let P : Varnode → Type 0 = λ y. y.size ≤ 16 in
-    subst P (sym e) (not_wide x.size (neither _ _ h).0)
-narrow_in (x ∷ vs) h v (inr is) = narrow_in vs (neither _ _ h).1 v is
-
--- The output has at most 16 bytes.
-pub output_narrow : (out : Option Varnode)
-    → output_wide out ≡ false
-    → (v : Varnode)
-    → IsIn v (one_range out)
-    → v.size ≤ 16
-output_narrow None h v is = absurd is
-output_narrow (Some z) h v (inl e) = let P : Varnode → Type 0 = λ y. y.size ≤ 16 in subst P (sym e) (not_wide z.size h)
-output_narrow (Some z) h v (inr is) = absurd is
-
--- ---- ends
 
 -- No input that is looked at goes past the end of its space.
 pub stays_in : (l : Listing) (vs : List Varnode)

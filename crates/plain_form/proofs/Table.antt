@@ -25,7 +25,7 @@ use Rattle.op_code.proofs.Variables.{IsAtomAt, atom_at, range_size}
 use Rattle.stackvars.proofs.Reach.{spaces_differ}
 use Rattle.frame_facts.proofs.Numbers.{more_by}
 use Rattle.plain_form.proofs.Formed.{Inside}
-use Rattle.plain_form.proofs.Framed.{IsKnown}
+use Rattle.frame_facts.proofs.Bounded.{IsKnown}
 use Rattle.plain_form.proofs.Halves.{IsHalfway, centred_is, even, off_frame, room}
 
 -- ---- the order of atoms

@@ -10,9 +10,9 @@
 //! (`proofs/Table.antt`). From cut to cut the atoms fill each range that is accessed, so it has a cover, which is all
 //! that the form of an op asks of a register or unique range (`proofs/Plain.antt`).
 //!
-//! The accesses of the frame have 1 to 16 bytes too, and begin near the stack pointer's entry word (`proofs/Framed.antt`).
-//! Half the first ram space is more than they need on either side, so counted from half the space below that word each
-//! range of the frame lies inside the space and none wraps (`proofs/Halves.antt`). Such a range has a cover as any other
-//! has, and what an op accesses of the frame by a number is as wide as what it loads, stores or passes by that number,
-//! since the frame lists what the op reaches (`proofs/Owned.antt`).
+//! The accesses of the frame have 1 to 16 bytes too, and begin near the stack pointer's entry word. Half the first ram space
+//! is more than they need on either side, so counted from half the space below that word each range of the frame lies inside
+//! the space and none wraps (`proofs/Halves.antt`). Such a range has a cover as any other has, and what an op accesses of
+//! the frame by a number is as wide as what it loads, stores or passes by that number, since the frame lists what the op
+//! reaches (`proofs/Owned.antt`).
 #![tactic(auto)]

@@ -8,4 +8,8 @@
 //! any other op twice its own level. One more where a rule may still change an op over in place: operands that commute
 //! with no constant on the right, a shift by a count that isn't known to be below the bits, and where a rule's right
 //! side may have such operands: a difference, `<`, `<=`, and words put together.
+//!
+//! Of an expression the total is the needs of all its nodes together (`specs/Total.antt`). An edit, a rule at any one of
+//! its nodes, lessens the total, makes nothing higher and keeps the width (`lessens` in `proofs/Lessens.antt`); so an
+//! expression sees at most as many edits as its total (`edits_most`).
 #![tactic(auto)]

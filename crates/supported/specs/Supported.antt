@@ -1,5 +1,5 @@
 -- Which listings are built so far. This project's own.
-use Rattle.std.specs.Prelude.{◌≡◌, Bool, true, false, ◌&&◌, List, [], ◌∷◌, None}
+use Rattle.std.specs.Prelude.{◌≡◌, Bool, true, false, ◌&&◌, List, [], ◌∷◌}
 use Rattle.pcode_model.specs.declared.opcode.Opcode.{Opcode}
 use Rattle.pcode_model.specs.declared.opcode.Opcode.TheVariants as O
 use Rattle.pcode_model.specs.declared.listing.Op.{Op}
@@ -29,11 +29,6 @@ abbrev pub is_supported_code_of : List Instruction → Bool
 is_supported_code_of [] = true
 is_supported_code_of (i ∷ rest) = are_supported_ops i.ops && is_supported_code_of rest
 
--- each op is built
+-- A listing that is built: each of its ops is.
 abbrev pub HasBuiltOps : Listing → Type 0
 HasBuiltOps l = is_supported_code_of l.code ≡ true
-
--- A listing without a `stack` line, whose ops are all built.
-pub record IsSupported (l : Listing) : Type 0 where
-  pub stack : l.stack ≡ None
-  pub ops : HasBuiltOps l

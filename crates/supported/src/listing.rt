@@ -1,6 +1,6 @@
 // Whether a listing is built so far.
 ghost use Rattle.std.specs.Prelude.{◌≡◌, ◌↔◌, IsTrue};
-ghost use Rattle.supported.specs.Supported.{IsSupported, are_supported_ops, is_supported_code, is_supported_code_of};
+ghost use Rattle.supported.specs.Supported.{HasBuiltOps, are_supported_ops, is_supported_code, is_supported_code_of};
 
 use pcode_model::{Instruction, Listing, Op, Opcode};
 
@@ -38,12 +38,9 @@ fn is_supported_code_of(code: &[Instruction]) -> bool
     true
 }
 
-/// Whether the listing is one of those that are built so far.
+/// Whether the listing is one of those that are built so far: all of its ops are.
 pub fn is_supported(listing: &Listing) -> bool
-    ensures { IsTrue result ↔ IsSupported listing.now }
+    ensures { IsTrue result ↔ HasBuiltOps listing.now }
 {
-    if listing.stack.is_some() {
-        return false;
-    }
     is_supported_code_of(listing.code.as_slice())
 }

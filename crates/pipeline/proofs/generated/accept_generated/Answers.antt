@@ -18,8 +18,11 @@ returns-in_err-flow-clause-memory c =
     never_stops c.args.number c.in_ok-listing.listing c.in_ok-listing.ensures _ c.in_err-flow.ensures.stops in
     search (rules, memory)
 
-pub empty_frame-frame-requires : goal.empty_frame-frame-requires
-empty_frame-frame-requires c = (built c.args.number c.in_ok-listing.listing c.in_ok-listing.ensures).stack
+pub frame-requires-clause-read : goal.frame-requires-clause-read
+frame-requires-clause-read c = formed c.args.number c.in_ok-listing.listing c.in_ok-listing.ensures
+
+pub frame-requires-clause-ops : goal.frame-requires-clause-ops
+frame-requires-clause-ops c = obeys c.args.number c.in_ok-listing.listing c.in_ok-listing.ensures
 
 pub returns-in_err-atoms-clause-memory : goal.returns-in_err-atoms-clause-memory
 returns-in_err-atoms-clause-memory c =
@@ -37,7 +40,7 @@ returns-clause-passed c =
       blocks = c.in_ok-flow.ensures.blocks;
       no_fault = c.in_ok-flow.ensures.no_fault;
       few_blocks = c.in_ok-flow.ensures.few;
-      frame = c.empty_frame-frame.ensures;
+      frame = c.in_ok-frame.ensures.frame;
       atoms = c.in_ok-atoms.ensures.atoms;
       few_atoms = c.in_ok-atoms.ensures.few;
     }

@@ -1,7 +1,7 @@
 use Rattle.std.proofs.Common.{[], sym, subst}
 use Rattle.refusals.specs.declared.refusal.Refusal.{Refusal}
 use Rattle.refusals.proofs.Blocks.{few_starts}
-use Rattle.plain_form.proofs.Framed.{near_accesses}
+use Rattle.frames.proofs.Near.{near_accesses}
 use Rattle.pipeline.specs.Verdict.{Stops}
 use Rattle.pipeline.proofs.Forms.{atoms_stops}
 use Rattle.pipeline.proofs.verdict.variables.Goals as goal

@@ -1,9 +1,8 @@
--- Each access of a listing's frame has 1 to 16 bytes and begins near the stack pointer's entry word.
-use Rattle.std.proofs.Common.{◌≡◌, ◌<◌, ◌≤◌, ◌^◌, ℕ, suc, Bool, true, false, List, [], ◌∷◌, Option, Some, None, length, refl, inl, inr, ⊎_elim, sym, subst, ap, arith}
+-- Each access of the frame has 1 to 16 bytes, and begins near the stack pointer's entry word.
+use Rattle.std.proofs.Common.{◌≡◌, ◌≤◌, ◌^◌, ℕ, suc, Bool, true, false, List, [], ◌∷◌, Option, Some, None, length, refl, inl, inr, ⊎_elim, sym, subst, ap, arith}
 use Rattle.std.specs.Prelude.{◌==◌, cond}
 use Rattle.std.specs.List.{AllByRecursion}
 use Rattle.std.proofs.lemmas.Bool.{not-false}
-use Rattle.std.proofs.lemmas.Int.{ints}
 use Rattle.pcode_model.specs.declared.frame.Frame.{Frame}
 use Rattle.pcode_model.specs.declared.frame.FrameAccess.{FrameAccess}
 use Rattle.pcode_model.specs.declared.listing.Instruction.{Instruction}
@@ -24,17 +23,12 @@ use Rattle.pcode_model.specs.Step.{Operand, Reads, arguments, callee_at, proto_o
 use Rattle.pcode_model.specs.WellFormed.{IsArgument, IsWellFormed}
 use Rattle.instructions.proofs.Standing.{StandsIn, stands_in}
 use Rattle.pcode_laws.proofs.Rules.{breaks_none}
-use Rattle.stackvars.specs.Near.{HasNearAccesses, IsNearAccess}
-use Rattle.frame_facts.specs.Accesses.{IsFrameAccess, IsWithinLimits, Reach, frame_limit, only_memory, reach, reaches, stack_reaches, stack_width}
+use Rattle.frame_facts.specs.Accesses.{IsFrameAccess, IsWithinLimits, Reach, frame_limit, only_memory, reach, reaches, stack_reaches}
 use Rattle.frame_facts.specs.Escapes.{is_of_memory}
 use Rattle.frame_facts.specs.Listed.{IsFrame}
-use Rattle.plain_form.proofs.Counted.{counted, of_three, third, with_output}
-use Rattle.plain_form.proofs.Prototypes.{callee_declared, own_declared}
-use Rattle.plain_form.proofs.Read.{input, output}
-
--- 1 to 16 bytes
-abbrev pub IsFew : ℕ → Type 0
-IsFew k = (0 < k) × (k ≤ 16)
+use Rattle.frame_facts.proofs.Counted.{counted, of_three, third, with_output}
+use Rattle.frame_facts.proofs.Few.{IsFew, input_few, output_few}
+use Rattle.frame_facts.proofs.Prototypes.{proto_fine}
 
 -- what an access of the frame is, whatever its place
 pub record IsKnown (l : Listing) (a : FrameAccess) : Type 0 where
@@ -110,13 +104,14 @@ module _
     called : (out : Option Varnode) (vs : List Varnode) → AllFew O.Call out vs
     called out [] r is = absurd (none_reached l.stack r is)
     called out (to ∷ vs) r is =
-        stack_few l l.stack (proto_of l (callee_at l to.offset)).args (callee_declared l read to.offset).is.args 0 r is
+        let to_it = callee_at l to.offset in
+        stack_few l l.stack (proto_of l to_it).args (proto_fine l read to_it).args 0 r is
 
     called_by : (out : Option Varnode) (vs : List Varnode) → AllFew O.CallInd out vs
     called_by out [] r is = absurd (none_reached l.stack r is)
     called_by out (to ∷ vs) r is =
         let args : List Storage = (proto_of l None).args in
-        stack_few l l.stack args (own_declared l read).is.args 0 r (past_read l.stack to (arguments 0 args) r is)
+        stack_few l l.stack args (proto_fine l read None).args 0 r (past_read l.stack to (arguments 0 args) r is)
 
     few_by : (code : Opcode) (out : Option Varnode) (vs : List Varnode)
         → has_operands (operands_of code) out (length vs) ≡ true
@@ -132,8 +127,7 @@ module _
     -- What an op reaches has 1 to 16 bytes.
     pub reaches_few : (r : Reach) → IsIn r (reaches l op) → IsFew r.size
     reaches_few = few_by op.code op.out op.inputs enough
-        (λ v is. let k = output l read good i op stand v is in (k.some, k.narrow))
-        (λ v is. let k = input l read good i op stand v is in (k.some, k.narrow))
+        (output_few l read i op stand good) (input_few l read i op stand good)
 
 -- ---- the accesses of a frame
 
@@ -151,7 +145,8 @@ module _
     (t : List TableAt)
     (evaluated : List Place)
   where
-    known_access : (a : FrameAccess) → IsFrameAccess l t evaluated a → IsKnown l a
+    -- What is said of an access of the frame.
+    pub known_access : (a : FrameAccess) → IsFrameAccess l t evaluated a → IsKnown l a
     known_access a is =
         let stand = stands_in l a.place is.instruction is.op is.does in
         let few : IsFew is.by.size = reaches_few l read good is.instruction is.op stand is.by is.is_by in
@@ -168,22 +163,6 @@ module _
     few_access a is = (known_access a is).few
 
     module _ (f : Frame) (frame : IsFrame l t evaluated f) where
-      -- What is said of each access.
+      -- The same of the accesses of variables.
       pub framed : (a : FrameAccess) → IsIn a f.accesses → IsKnown l a
       framed a is = known_access a ((frame.accesses.each a).0 is).1.is_class.access
-
-      near_by : (a : FrameAccess) → IsKnown l a → IsNearAccess a
-      near_by a is =
-          let limit = limit_near (stack_width l) in
-          let few = is.few.1 in
-          let low = is.within.0 in
-          let high = is.within.1 in
-          record { from = omega (arith, ints); to = omega (arith, ints); few = omega arith }
-
-      all_near : (xs : List FrameAccess) → ((a : FrameAccess) → IsIn a xs → IsKnown l a) → AllByRecursion IsNearAccess xs
-      all_near [] each = tt
-      all_near (a ∷ xs) each = (near_by a (each a (inl refl)), all_near xs (λ b is. each b (inr is)))
-
-      -- They all lie near the entry word.
-      pub near_accesses : HasNearAccesses f
-      near_accesses = all_near f.accesses framed
