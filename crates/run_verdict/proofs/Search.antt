@@ -9,7 +9,7 @@ use Rattle.pcode_model.specs.Flow.{IsIn}
 use Rattle.pcode_model.specs.Spaces.{or}
 use Rattle.pcode_laws.proofs.Rules.{neither}
 use Rattle.run_verdict.specs.Runnable.{IsRunnable}
-use Rattle.run_verdict.specs.Search.{is_table_code, is_table, names_table, any_table, FindsNone}
+use Rattle.run_verdict.specs.Search.{is_table_code, is_table, names_table, any_table}
 
 never : true ≡ false → ⊥
 never h = cc
@@ -36,8 +36,9 @@ no_table (x ∷ code) h i (inl same) op in_ops e =
     no_op x.ops (neither _ _ h).0 op (let P : Instruction → Type 0 = λ y. IsIn op y.ops in subst P same in_ops) e
 no_table (x ∷ code) h i (inr is) op in_ops e = no_table code (neither _ _ h).1 i is op in_ops e
 
-pub runnable : (l : Listing) → FindsNone l → IsRunnable l
-runnable l h = record { stack = h.stack; tables = no_table l.code h.tables }
+-- Where no branch is found that a jump table leads on, there is none.
+pub runnable : (l : Listing) → any_table l.code ≡ false → IsRunnable l
+runnable l h = no_table l.code h
 
 both_false : (a b : Bool) → a ≡ false → b ≡ false → or a b ≡ false
 both_false a b p q = rw (p, q) refl
@@ -65,12 +66,13 @@ ops_none [] h = refl
 ops_none (op ∷ ops) h = both_false (is_table op) (names_table ops) (code_none op.code (h op (inl refl)))
     (ops_none ops (λ o is. h o (inr is)))
 
-none_found : (code : List Instruction)
+no_instruction : (code : List Instruction)
     → ((i : Instruction) → IsIn i code → (op : Op) → IsIn op i.ops → op.code ≡ O.BranchInd → ⊥)
     → any_table code ≡ false
-none_found [] h = refl
-none_found (i ∷ code) h = both_false (names_table i.ops) (any_table code) (ops_none i.ops (h i (inl refl)))
-    (none_found code (λ j is. h j (inr is)))
+no_instruction [] h = refl
+no_instruction (i ∷ code) h = both_false (names_table i.ops) (any_table code) (ops_none i.ops (h i (inl refl)))
+    (no_instruction code (λ j is. h j (inr is)))
 
-pub found_none : (l : Listing) → IsRunnable l → FindsNone l
-found_none l h = record { stack = h.stack; tables = none_found l.code h.tables }
+-- And where there is none, none is found.
+pub none_found : (l : Listing) → IsRunnable l → any_table l.code ≡ false
+none_found l h = no_instruction l.code h

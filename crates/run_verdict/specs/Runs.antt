@@ -1,6 +1,6 @@
 -- Which inputs are listings that are run, and why the others are refused. This project's own.
--- The order of refusals: faults of the text, faults of ops, a `stack` line or a BRANCHIND, faults of the flow, too many
--- blocks. How many ranges a listing accesses isn't asked, as a run keeps bytes.
+-- The order of refusals: faults of the text, faults of ops, a BRANCHIND, faults of the flow, too many blocks. How many
+-- ranges a listing accesses isn't asked, as a run keeps bytes.
 use Rattle.std.specs.Prelude.{◌≡◌, [], Some, ⊤}
 use Rattle.pcode_model.specs.declared.listing.Listing.{Listing}
 use Rattle.pcode_model.specs.Flow.{NoFault}

@@ -1,11 +1,10 @@
--- How the code looks for a branch that a jump table leads on. No definition of which listings are run: that FindsNone holds
--- exactly where IsRunnable does is proved in proofs/Search.antt, by the lemmas runnable and found_none.
-use Rattle.std.specs.Prelude.{◌≡◌, Bool, true, false, List, [], ◌∷◌, None}
+-- How the code looks for a branch that a jump table leads on. No definition of which listings are run: that it finds none
+-- exactly where IsRunnable holds is proved in proofs/Search.antt, by the lemmas runnable and none_found.
+use Rattle.std.specs.Prelude.{Bool, true, false, List, [], ◌∷◌}
 use Rattle.pcode_model.specs.declared.opcode.Opcode.{Opcode}
 use Rattle.pcode_model.specs.declared.opcode.Opcode.TheVariants as O
 use Rattle.pcode_model.specs.declared.listing.Op.{Op}
 use Rattle.pcode_model.specs.declared.listing.Instruction.{Instruction}
-use Rattle.pcode_model.specs.declared.listing.Listing.{Listing}
 use Rattle.pcode_model.specs.Spaces.{or}
 
 abbrev pub is_table_code : Opcode → Bool
@@ -22,7 +21,3 @@ names_table (op ∷ ops) = or (is_table op) (names_table ops)
 abbrev pub any_table : List Instruction → Bool
 any_table [] = false
 any_table (i ∷ code) = or (names_table i.ops) (any_table code)
-
-pub record FindsNone (l : Listing) : Type 0 where
-  pub stack : l.stack ≡ None
-  pub tables : any_table l.code ≡ false

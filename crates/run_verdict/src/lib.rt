@@ -4,5 +4,5 @@
 mod accepting;
 mod tables;
 
-pub use accepting::accept;
+pub use accepting::{Accepted, accept};
 pub use tables::is_runnable;

@@ -2,7 +2,7 @@
 
 ghost use Rattle.std.specs.Prelude.{◌≡◌, ◌↔◌, IsTrue};
 ghost use Rattle.run_verdict.specs.Runnable.{IsRunnable};
-ghost use Rattle.run_verdict.specs.Search.{FindsNone, any_table, is_table, names_table};
+ghost use Rattle.run_verdict.specs.Search.{any_table, is_table, names_table};
 
 use pcode_model::{Instruction, Listing, Op, Opcode};
 
@@ -34,15 +34,9 @@ fn any_table(code: &[Instruction]) -> bool
     false
 }
 
-fn finds_none(listing: &Listing) -> bool
-    ensures { IsTrue result ↔ FindsNone listing.now }
-{
-    listing.stack.is_none() && !any_table(listing.code.as_slice())
-}
-
-/// Whether a listing has no `stack` line and no BRANCHIND, so that its run is one without stack variables and jump tables.
+/// Whether a listing has no BRANCHIND, so that its run is one without jump tables.
 pub fn is_runnable(listing: &Listing) -> bool
     ensures { IsTrue result ↔ IsRunnable listing.now }
 {
-    finds_none(listing)
+    !any_table(listing.code.as_slice())
 }

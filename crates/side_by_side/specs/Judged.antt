@@ -1,9 +1,11 @@
 -- What the three inputs come to. This project's own.
-use Rattle.std.specs.Prelude.{◌≡◌, ◌<◌, ℕ, List, ◌++◌, codes, Some, ⊤}
+use Rattle.std.specs.Prelude.{◌≡◌, ◌<◌, ℕ, List, [], ◌++◌, codes, Some, ⊤}
 use Rattle.machine.specs.Trace.{Trace}
+use Rattle.pcode_model.specs.declared.frame.Frame.{Frame}
 use Rattle.pcode_model.specs.declared.listing.Listing.{Listing}
-use Rattle.pcode_model.specs.Frame.{frame_of, no_variables}
+use Rattle.pcode_model.specs.Frame.{frame_of}
 use Rattle.pcode_model.specs.Step.{seen_p}
+use Rattle.frame_facts.specs.Listed.{IsFrame}
 use Rattle.cmeaning.specs.declared.tree.CFunction.{CFunction}
 use Rattle.cmeaning.specs.Agree.{AgreesWith}
 use Rattle.cmeaning.specs.Fits.{Fits}
@@ -76,21 +78,23 @@ IsEntryFault l bytes _ = ⊥
 abbrev pub both_text : Listing → Trace → Trace → Comparison → List ℕ
 both_text l p c comparison = trace_text l (codes "p ") p ++ (trace_text l (codes "c ") c ++ comparison_text comparison)
 
--- what the p-code run of the listing has shown after so many steps; a listing that is run has no frame variables
-abbrev pub shown_p : Listing → Entry → ℕ → Trace
-shown_p l e n = seen_p l (frame_of l no_variables) (entry_of l e) n
+-- what the p-code run of the listing with this frame has shown after so many steps
+abbrev pub shown_p : Listing → Frame → Entry → ℕ → Trace
+shown_p l frame e n = seen_p l (frame_of l frame) (entry_of l e) n
 
 -- what the run of the function has shown after so many steps
 abbrev pub shown_c : Listing → CFunction → Entry → ℕ → Trace
 shown_c l f e n = seen_c l f (entry_of l e) n
 
--- The text of what both machines have shown after so many steps. Where the function agrees with the listing they are
--- never told to be apart.
+-- The text of what both machines have shown after so many steps, the p-code by the listing's frame. Where the function
+-- agrees with the listing for this frame they are never told to be apart.
 pub record IsShown (l : Listing) (f : CFunction) (e : Entry) (n : ℕ) (text : List ℕ) : Type 0 where
+  pub frame : Frame
+  pub is_frame : IsFrame l [] [] frame
   pub comparison : Comparison
-  pub says : Says (within (shown_p l e n)) (within (shown_c l f e n)) comparison
-  pub never_apart : AgreesWith l (frame_of l no_variables) f → comparison ≡ Apart → ⊥
-  pub is : text ≡ both_text l (shown_p l e n) (shown_c l f e n) comparison
+  pub says : Says (within (shown_p l frame e n)) (within (shown_c l f e n)) comparison
+  pub never_apart : AgreesWith l (frame_of l frame) f → comparison ≡ Apart → ⊥
+  pub is : text ≡ both_text l (shown_p l frame e n) (shown_c l f e n) comparison
 
 abbrev pub IsTold : Listing → CFunction → Entry → ℕ → Answer → Type 0
 IsTold l f e n (answer.Shown text) = IsShown l f e n text

@@ -1,8 +1,9 @@
 //! The runs of both machines, and what is told of them.
 
-ghost use Rattle.std.specs.Prelude.{◌≡◌, ◌++◌, IfOk, None, OnOk};
+ghost use Rattle.std.specs.Prelude.{◌≡◌, ◌++◌, [], IfOk, None, OnOk};
 ghost use Rattle.cmeaning.specs.Valid.{IsValid};
 ghost use Rattle.cmeaning.specs.Fits.{Fits};
+ghost use Rattle.pcode_model.specs.Flow.{IsFlow, NoFault};
 ghost use Rattle.pcode_model.specs.Rules.{first_bad};
 ghost use Rattle.pcode_model.specs.WellFormed.{IsWellFormed};
 ghost use Rattle.entrytext.specs.Lies.{LiesIn};
@@ -17,7 +18,8 @@ use crate::reading::{Parsed, parse};
 use bits_core::Memory;
 use c_run::run_c;
 use comparison::{Comparison, compare, put_comparison};
-use pcode_model::{Frame, Listing};
+use frames::frame;
+use pcode_model::Listing;
 use pcode_run::run_p;
 use run_world::Trace;
 use runwords::Inputs;
@@ -40,16 +42,18 @@ fn put_both(
     put_comparison(out, comparison)
 }
 
-// The traces of both machines after so many steps, and how they compare.
+// The traces of both machines after so many steps, the p-code's by the listing's frame, and how they compare.
 fn show(alloc: Global, parsed: &Parsed, steps: u32) -> Result<Vec<u8>, Memory>
     requires formed { IsWellFormed parsed.now.listing }
     requires ops { first_bad parsed.now.listing ≡ None }
+    requires flow { IsFlow parsed.now.listing [] parsed.now.flow }
+    requires no_fault { NoFault parsed.now.listing [] }
     requires valid { IsValid parsed.now.function }
     requires fits { Fits parsed.now.listing parsed.now.function }
     requires lies { LiesIn parsed.now.listing parsed.now.entry }
     ensures { IfOk result (λ text. IsShown parsed.now.listing parsed.now.function parsed.now.entry steps text.items) }
 {
-    let frame = Frame::empty(alloc);
+    let frame = frame(alloc, &parsed.listing, &parsed.flow)?;
     let p = run_p(alloc, &parsed.listing, &frame, &parsed.entry, steps)?;
     let c = run_c(
         alloc,
@@ -79,6 +83,8 @@ fn refused(alloc: Global, input_fault: &InputFault) -> Outcome
 fn shown(alloc: Global, parsed: &Parsed, steps: u32) -> Outcome
     requires formed { IsWellFormed parsed.now.listing }
     requires ops { first_bad parsed.now.listing ≡ None }
+    requires flow { IsFlow parsed.now.listing [] parsed.now.flow }
+    requires no_fault { NoFault parsed.now.listing [] }
     requires valid { IsValid parsed.now.function }
     requires fits { Fits parsed.now.listing parsed.now.function }
     requires lies { LiesIn parsed.now.listing parsed.now.entry }

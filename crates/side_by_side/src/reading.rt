@@ -1,7 +1,8 @@
 //! The inputs in their order: the listing, the C text, the entry.
 
-ghost use Rattle.std.specs.Prelude.{◌≡◌, ◌≤◌, length, IfErr, IfOk};
+ghost use Rattle.std.specs.Prelude.{◌≡◌, ◌≤◌, [], length, IfErr, IfOk};
 ghost use Rattle.exact_c.specs.Tree.{IsTreeOf};
+ghost use Rattle.pcode_model.specs.Flow.{IsFlow};
 ghost use Rattle.pcode_model.specs.WellFormed.{IsWellFormed};
 ghost use Rattle.run_verdict.specs.Runs.{Runs};
 ghost use Rattle.entrytext.specs.Lies.{LiesIn};
@@ -16,29 +17,31 @@ use c_run::fits;
 use cmeaning::CFunction;
 use cread::{CFault, read_c};
 use entrytext::{EntryFault, read_entry};
-use pcode_model::Listing;
+use pcode_model::{Flow, Listing};
 use refusals::Refusal;
-use run_verdict::accept;
+use run_verdict::{Accepted, accept};
 use run_world::Entry;
 use runwords::Inputs;
 use std::alloc::Global;
 
-/// What the inputs say.
+/// What the inputs say: a listing with its blocks, a C function, an entry.
 #[derive(Drop)]
 pub struct Parsed {
     pub listing: Listing,
+    pub flow: Flow,
     pub function: CFunction,
     pub entry: Entry,
 }
 
-fn listing(alloc: Global, bytes: &[u8]) -> Result<Listing, InputFault>
+fn listing(alloc: Global, bytes: &[u8]) -> Result<Accepted, InputFault>
     requires { length bytes.now ≤ max_input }
-    ensures runs { IfOk result (Runs bytes.now) }
-    ensures formed { IfOk result IsWellFormed }
+    ensures runs { IfOk result (λ accepted. Runs bytes.now accepted.listing) }
+    ensures formed { IfOk result (λ accepted. IsWellFormed accepted.listing) }
+    ensures flow { IfOk result (λ accepted. IsFlow accepted.listing [] accepted.flow) }
     ensures refused { IfErr result (IsListingFault bytes.now) }
 {
     match accept(alloc, bytes) {
-        Ok(listing) => Ok(listing),
+        Ok(accepted) => Ok(accepted),
         Err(Refusal::Memory) => Err(InputFault::Memory),
         Err(refusal) => Err(InputFault::Listing(refusal)),
     }
@@ -74,10 +77,11 @@ pub fn parse(alloc: Global, inputs: &Inputs) -> Result<Parsed, InputFault>
     requires { AreShort inputs.now }
     ensures parsed { IfOk result (λ p. IsParsed inputs.now p.listing p.function p.entry) }
     ensures formed { IfOk result (λ p. IsWellFormed p.listing) }
+    ensures flow { IfOk result (λ p. IsFlow p.listing [] p.flow) }
     ensures lies { IfOk result (λ p. LiesIn p.listing p.entry) }
     ensures refused { IfErr result (IsCause inputs.now) }
 {
-    let listing = listing(alloc, inputs.listing.as_slice())?;
+    let Accepted { listing, flow } = listing(alloc, inputs.listing.as_slice())?;
     let function = function(alloc, inputs.c_text.as_slice())?;
     if !fits(&listing, &function) {
         return Err(InputFault::Misfit);
@@ -85,6 +89,7 @@ pub fn parse(alloc: Global, inputs: &Inputs) -> Result<Parsed, InputFault>
     let entry = entry(alloc, &listing, inputs.entry.as_slice())?;
     Ok(Parsed {
         listing,
+        flow,
         function,
         entry,
     })

@@ -7,7 +7,7 @@ use Rattle.side_by_side.proofs.reading.parse.Goals as goal
 
 pub returns-in_err-entry-clause-refused : goal.returns-in_err-entry-clause-refused
 returns-in_err-entry-clause-refused c =
-    let l = c.in_ok-listing.listing in
+    let l = c.in_ok-listing.field-0.listing in
     let f = c.in_ok-function.function in
     let L : List ℕ → Type 0 = λ bytes. Runs bytes l in
     let T : List ℕ → Type 0 = λ bytes. IsTreeOf bytes f in

@@ -6,7 +6,7 @@ use Rattle.refusals.specs.declared.refusal.Refusal.{Refusal}
 use Rattle.refusals.proofs.Blocks.{few_starts}
 use Rattle.run_verdict.specs.Runs.{StopsFlow}
 use Rattle.run_verdict.proofs.Flow.{flow_stops}
-use Rattle.run_verdict.proofs.accepting.check_flow.Goals as goal
+use Rattle.run_verdict.proofs.accepting.blocks.Goals as goal
 
 pub returns-in-Ok-clause-no_fault : goal.returns-in-Ok-clause-no_fault
 returns-in-Ok-clause-no_fault c =
@@ -15,8 +15,8 @@ returns-in-Ok-clause-no_fault c =
 
 pub returns-in-Ok-clause-few : goal.returns-in-Ok-clause-few
 returns-in-Ok-clause-few c =
-    let P : List TableAt → Type 0 = λ t. IsFlow c.args.listing.now t c.in-Ok.field-0 in
-    few_starts c.args.listing.now c.in-Ok.field-0 (subst P c.new-tables.ensures c.in-Ok.ensures.blocks)
+    let P : List TableAt → Type 0 = λ t. IsFlow c.args.listing.now t c.in-Ok.flow in
+    few_starts c.args.listing.now c.in-Ok.flow (subst P c.new-tables.ensures c.in-Ok.ensures.blocks)
     c.in-Ok.ensures.few
 
 pub returns-clause-stops : goal.returns-clause-stops
