@@ -3,11 +3,13 @@
 //!
 //! `c FILE`: what the command writes, and its status. `canonical FILE OTHER`: whether the canonical text of the one is
 //! the other. `cuts FILE`: the fault of the text up to each line feed but the last one. `blocks FILE`: the blocks, or
-//! the fault of the flow. `atoms FILE`: the atoms. `chain N`: how many blocks N branches have.
+//! the fault of the flow. `atoms FILE`: the atoms. `frame FILE`: the offsets that are known where blocks begin, those that
+//! escape, and the variables and accesses of the frame. `chain N`: how many blocks N branches have.
 #![tactic(auto)]
 
 mod atoms;
 mod blocks;
+mod stack_frames;
 mod texts;
 
 use std::io;
@@ -34,6 +36,7 @@ fn row(rt: &HostRuntime, line: &str) -> io::Result<()> {
         "blocks" => blocks::of_file(rt, name),
         "chain" => blocks::of_chain(rt, name.parse::<u32>().unwrap_or(0)),
         "atoms" => atoms::of_file(rt, name),
+        "frame" => stack_frames::of_file(rt, name),
         _ => println!(rt; "no such row"),
     }
 }
