@@ -1,5 +1,5 @@
 -- What is seen at a node of a graph.
-use Rattle.std.proofs.Common.{◌≡◌, ◌⊎◌, ⊎_elim, inl, inr, ℕ, List, Option, Some, None, refl, sym, ap, ◌∙◌, subst}
+use Rattle.std.proofs.Common.{◌≡◌, ◌⊎◌, ⊎_elim, inl, inr, ℕ, List, Some, refl, sym, ap, ◌∙◌, subst}
 use Rattle.bits_core.specs.declared.word.Word.{Word}
 use Rattle.cmeaning.specs.declared.tree.Expr.{Expr}
 use Rattle.cmeaning.specs.declared.tree.Expr.TheVariants as E
@@ -7,7 +7,7 @@ use Rattle.rules.specs.Letters.{IsAtom, Var, Const}
 use Rattle.rule_views.specs.declared.nodes.Single.{Single}
 use Rattle.rule_views.specs.declared.nodes.Pair.{Pair}
 use Rattle.rule_views.specs.Nodes.{single_node, pair_node}
-use Rattle.rule_views.specs.Sees.{IsVariable, IsSame, IsConstant, NoConstant, IsOver, IsSingle, NoSingle, AreUnder, IsPair, NoPair}
+use Rattle.rule_views.specs.Sees.{IsVariable, IsSame, IsConstant, NoConstant, IsSingle, NoSingle, IsPair, NoPair}
 use Rattle.rule_views.proofs.Layers.{same_pair, same_single, same_const, same_var, pair_no_single, pair_no_const, pair_no_var, single_no_const, single_no_var, const_no_var}
 use Rattle.rule_graph.specs.declared.node.Op.{Op}
 use Rattle.rule_graph.specs.declared.node.Op.TheVariants as O

@@ -1,5 +1,5 @@
 -- What a rule of the table makes of what is seen at a node reads as the node's value.
-use Rattle.std.proofs.Common.{◌≡◌, ℕ, List, Option, Some, refl, sym, ◌∙◌, subst}
+use Rattle.std.proofs.Common.{ℕ, List, Option, refl, sym, ◌∙◌, subst}
 use Rattle.cmeaning.specs.declared.tree.Expr.{Expr}
 use Rattle.rules.specs.Readings.{Reading, IsReading}
 use Rattle.rules.specs.Table.{Rule}
@@ -12,7 +12,7 @@ use Rattle.rule_views.specs.Makes.{ArgIs, Makes}
 use Rattle.rule_graph.specs.declared.node.Node.{Node}
 use Rattle.rule_graph.specs.declared.place.Place.{Place}
 use Rattle.rule_graph.specs.Graph.{width_at, IsSeen}
-use Rattle.rule_graph.specs.Holds.{Holds, ReadsAs, ReadsAt, IsKept, IsKeptAt}
+use Rattle.rule_graph.specs.Holds.{Holds, ReadsAs, ReadsAt, IsKeptAt}
 use Rattle.rule_graph.proofs.Values.{seen_reads}
 
 -- what is seen at places of a graph

@@ -2,7 +2,7 @@
 use Rattle.std.proofs.Common.{◌≡◌, ℕ, ◌<◌, List, length, Option, Some, None, refl, sym, ap, ◌∙◌}
 use Rattle.cmeaning.specs.declared.tree.Expr.{Expr}
 use Rattle.cmeaning.specs.declared.tree.Expr.TheVariants as E
-use Rattle.rules.specs.Size.{size_of, AreWords}
+use Rattle.rules.specs.Size.{size_of}
 use Rattle.rules.specs.Readings.{Reading, IsReading, value_by}
 use Rattle.rules.proofs.Nodes as N
 use Rattle.rules.proofs.Words.{good}
