@@ -23,12 +23,11 @@ use Rattle.rule_views.specs.declared.view.Made.{Made}
 use Rattle.rule_views.specs.declared.view.Made.TheVariants as M
 use Rattle.rule_views.specs.Nodes.{pair_node}
 use Rattle.rule_views.specs.Rows.{ComparingOf}
-use Rattle.rule_views.specs.Beside.{ConstOn, OnRight, OnLeft, IsBeside, NoArithmetic}
+use Rattle.rule_views.specs.Beside.{ConstOn, OnRight, OnLeft, IsBeside, NoArithmetic, IsSum}
 use Rattle.rule_views.specs.Sees.{Sight, IsSized, IsPair, IsConstant, NoConstant, NoAtom, NoZero}
 use Rattle.rule_views.specs.Fires.{FiredWith, FiredOfPair, NoneOfPair}
 use Rattle.rule_views.proofs.Seen.{pair_only, constant_only}
 use Rattle.rule_views.proofs.Fire as F
-use Rattle.rule_sums.specs.Sides.{IsSum}
 use Rattle.rule_conditions.specs.Twice.{NoneJoined, NoneOfTwo}
 use Rattle.rule_conditions.specs.Compared.{NoDifference, Moves, NoneComparedBy, NoneComparedWith, NoneCompared}
 

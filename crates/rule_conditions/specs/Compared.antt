@@ -9,7 +9,7 @@ use Rattle.cmeaning.specs.declared.tree.Expr.{Expr}
 use Rattle.cmeaning.specs.declared.tree.Expr.TheVariants as E
 use Rattle.rules.specs.Letters.{Cancels, Folds, IsEquality}
 use Rattle.rule_views.specs.Sees.{Sight, NoAtom, NoZero}
-use Rattle.rule_sums.specs.Sides.{IsSum, NoneBeside}
+use Rattle.rule_views.specs.Beside.{IsSum, NoneBeside}
 use Rattle.rule_conditions.specs.Twice.{NoBorrow}
 
 -- no x - y and no x ^ y

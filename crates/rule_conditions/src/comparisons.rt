@@ -11,14 +11,15 @@ ghost use Rattle.rule_views.specs.declared.row.Row.TheVariants as R;
 ghost use Rattle.rule_views.specs.Rows.{ComparingOf};
 ghost use Rattle.rule_views.specs.Sees.{NoAtom, NoZero};
 ghost use Rattle.rule_views.specs.Fires.{FiredWith, NoneOfPair, FiredOfPair};
-ghost use Rattle.rule_sums.specs.Sides.{IsSum, NoneBeside};
+ghost use Rattle.rule_views.specs.Beside.{IsSum, NoneBeside};
 ghost use Rattle.rule_conditions.specs.Compared as N;
 
 use crate::letters::{of_two_tests, with_borrow};
 use bits_core::Word;
 use cmeaning::{ArithmeticOp, CompareOp, OverflowOp, SignedCompareOp};
-use rule_sums::constants::{cancels, is_sum};
-use rule_views::{Arg, Found, Made, Pair, Row, View, arithmetic, beside_constant, folded, zero};
+use rule_views::{
+    Arg, Found, Made, Pair, Row, View, arithmetic, beside_constant, cancels, folded, is_sum, zero,
+};
 
 fn is_equality(op: CompareOp) -> bool
     ensures { IsTrue result ↔ IsEquality op }

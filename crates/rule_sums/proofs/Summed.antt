@@ -26,13 +26,13 @@ use Rattle.rule_views.specs.declared.view.Made.{Made}
 use Rattle.rule_views.specs.declared.view.Made.TheVariants as M
 use Rattle.rule_views.specs.Nodes.{single_node, pair_node}
 use Rattle.rule_views.specs.Rows.{SummingOf}
-use Rattle.rule_views.specs.Beside.{ConstOn, OnRight, OnLeft, IsBeside}
+use Rattle.rule_views.specs.Beside.{ConstOn, OnRight, OnLeft, IsBeside, IsSum}
 use Rattle.rule_views.specs.Sees.{Sight, IsSized, IsWideAt, IsConstant, NoConstant, IsSame, IsSingle}
 use Rattle.rule_views.specs.Fires.{FiredWith, FiredOfPair, FiredOfSingle, NoneOfPair, NoneOfSingle}
 use Rattle.rule_views.proofs.Layers.{same_pair, same_single, pair_no_single}
 use Rattle.rule_views.proofs.Seen.{constant_only}
 use Rattle.rule_views.proofs.Fire as F
-use Rattle.rule_sums.specs.Sides.{Leaves, IsSum, NoUnaryOf, Nests, AreOpposite, NoneByOp, NoneBy, NoneByConstant, NoneOfTwo}
+use Rattle.rule_sums.specs.Sides.{Leaves, NoUnaryOf, Nests, AreOpposite, NoneByOp, NoneBy, NoneByConstant, NoneOfTwo}
 
 -- ---- rules, by what they ask
 

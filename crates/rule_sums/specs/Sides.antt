@@ -16,7 +16,7 @@ use Rattle.rules.specs.Letters.{IsWide, Folds, KeepsAtZero, FallsAtZero, Cancels
 use Rattle.rule_views.specs.declared.nodes.Pair.{Pair}
 use Rattle.rule_views.specs.declared.nodes.Pair.TheVariants as P
 use Rattle.rule_views.specs.Sees.{Sight, NoAtom}
-use Rattle.rule_views.specs.Beside.{ConstOn}
+use Rattle.rule_views.specs.Beside.{IsSum, NoneBeside}
 
 -- whatever is seen has more bits than c
 abbrev pub NotPassed : {S : Type 0} → Sight S → S → Word → Type 0
@@ -35,17 +35,6 @@ Leaves (P.Arithmetic A.And) c = c.value ≡ limit c.width.bytes - 1
 Leaves (P.Division D.Div) c = c.value ≡ 1
 Leaves (P.SignedDivision T.SDiv) c = c.value ≡ 1
 Leaves p c = ⊥
-
--- Add and Sub
-abbrev pub IsSum : ArithmeticOp → Type 0
-IsSum A.Add = Unit {0}
-IsSum A.Sub = Unit {0}
-IsSum op = ⊥
-
--- no letter stands beside a constant by one of these operations
-abbrev pub NoneBeside : {S : Type 0} → Sight S → S → (ArithmeticOp → Type 0) → Type 0
-NoneBeside sees a is = (ws : ℕ → ℕ) (op : ArithmeticOp) (x : Expr) (c : Word) (l : Expr)
-    → is op → ConstOn op x c l → sees ws a l → ⊥
 
 abbrev pub NoUnaryOf : {S : Type 0} → Sight S → UnaryOp → S → Type 0
 NoUnaryOf sees op a = (ws : ℕ → ℕ) (x : Expr) → sees ws a (E.Unary op x) → ⊥

@@ -2,7 +2,7 @@
 
 ghost use Rattle.std.specs.Prelude.{◌≡◌, ◌-◌, ◌↔◌, IsTrue};
 ghost use Rattle.bits_core.specs.Value.{limit};
-ghost use Rattle.rules.specs.Letters.{KeepsAtZero, FallsAtZero, Cancels, RepeatsItself, IsBitwise};
+ghost use Rattle.rules.specs.Letters.{KeepsAtZero, FallsAtZero, RepeatsItself, IsBitwise};
 ghost use Rattle.rule_sums.specs.Sides as N;
 
 use bits_core::{Unary, Width, Word, unary};
@@ -14,15 +14,6 @@ fn ones(width: Width) -> Word
     ensures { result.value ≡ limit width.bytes - 1 }
 {
     unary(Unary::Complement, Word::new(0, width), width)
-}
-
-pub fn is_sum(op: ArithmeticOp) -> bool
-    ensures { IsTrue result ↔ N.IsSum op }
-{
-    match op {
-        ArithmeticOp::Add | ArithmeticOp::Sub => true,
-        ArithmeticOp::Mul | ArithmeticOp::And | ArithmeticOp::Or | ArithmeticOp::Xor => false,
-    }
 }
 
 pub fn keeps_at_zero(op: ArithmeticOp) -> bool
@@ -40,15 +31,6 @@ pub fn falls_at_zero(op: ArithmeticOp) -> bool
     match op {
         ArithmeticOp::Mul | ArithmeticOp::And => true,
         ArithmeticOp::Add | ArithmeticOp::Sub | ArithmeticOp::Or | ArithmeticOp::Xor => false,
-    }
-}
-
-pub fn cancels(op: ArithmeticOp) -> bool
-    ensures { IsTrue result ↔ Cancels op }
-{
-    match op {
-        ArithmeticOp::Sub | ArithmeticOp::Xor => true,
-        ArithmeticOp::Add | ArithmeticOp::Mul | ArithmeticOp::And | ArithmeticOp::Or => false,
     }
 }
 

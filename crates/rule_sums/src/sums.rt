@@ -7,17 +7,18 @@ ghost use Rattle.rules.specs.Letters.{KeepsAtZero, FallsAtZero, Cancels, Repeats
 ghost use Rattle.rule_views.specs.declared.nodes.Single.TheVariants as S;
 ghost use Rattle.rule_views.specs.declared.nodes.Pair.TheVariants as P;
 ghost use Rattle.rule_views.specs.declared.row.Row.TheVariants as R;
+ghost use Rattle.rule_views.specs.Beside as B;
 ghost use Rattle.rule_views.specs.Rows.{SummingOf};
 ghost use Rattle.rule_views.specs.Sees.{NoAtom};
 ghost use Rattle.rule_views.specs.Fires.{FiredWith, NoneOfPair, FiredOfPair, NoneOfSingle, FiredOfSingle};
 ghost use Rattle.rule_sums.specs.Sides as N;
 
-use crate::constants::{
-    cancels, falls_at_zero, is_bitwise, is_sum, keeps_at_zero, leaves, nested, repeats_itself,
-};
+use crate::constants::{falls_at_zero, is_bitwise, keeps_at_zero, leaves, nested, repeats_itself};
 use bits_core::Word;
 use cmeaning::{ArithmeticOp, UnaryOp};
-use rule_views::{Arg, Found, Made, Pair, Row, Single, View, beside_constant, folded, unary};
+use rule_views::{
+    Arg, Found, Made, Pair, Row, Single, View, beside_constant, cancels, folded, is_sum, unary,
+};
 
 /// x + 0, x - 0, x | 0, x ^ 0: x
 #[tactic(auto, using(crate::proofs::Summed::nothing_fires))]
@@ -94,7 +95,7 @@ fn repeated<V: View>(op: ArithmeticOp, a: V, b: V) -> Option<Made<V>>
 /// (x + c) + d: x + (c + d), (x - c) - d: x - (c + d), (x + c) - d: x + (c - d), (x - c) + d: x + (d - c)
 #[tactic(auto, using(crate::proofs::Summed::nested_fires))]
 fn nested_sum<V: View>(op: ArithmeticOp, a: V, d: Word) -> Option<Made<V>>
-    ensures { MatchOption result (N.IsSum op → N.NoneBeside V.Sees a N.IsSum)
+    ensures { MatchOption result (B.IsSum op → B.NoneBeside V.Sees a B.IsSum)
         (FiredWith (SummingOf R.A5) V.Sees (P.Arithmetic op) a d) }
 {
     if !is_sum(op) {
@@ -111,7 +112,7 @@ fn nested_sum<V: View>(op: ArithmeticOp, a: V, d: Word) -> Option<Made<V>>
 /// (x op c) op d: x op (c op d), for And, Or and Xor
 #[tactic(auto, using(crate::proofs::Summed::bits_fire))]
 fn nested_bits<V: View>(op: ArithmeticOp, a: V, d: Word) -> Option<Made<V>>
-    ensures { MatchOption result (IsBitwise op → N.NoneBeside V.Sees a (λ o. o ≡ op))
+    ensures { MatchOption result (IsBitwise op → B.NoneBeside V.Sees a (λ o. o ≡ op))
         (FiredWith (SummingOf R.A6) V.Sees (P.Arithmetic op) a d) }
 {
     if !is_bitwise(op) {
@@ -140,7 +141,7 @@ fn undone<V: View>(op: UnaryOp, a: V) -> Option<Made<V>>
 /// x + (-y): x - y, x - (-y): x + y
 #[tactic(auto, using(crate::proofs::Summed::opposite_fires))]
 fn with_opposite<V: View>(op: ArithmeticOp, a: V, b: V) -> Option<Made<V>>
-    ensures { MatchOption result (N.IsSum op → N.NoUnaryOf V.Sees Opposite b)
+    ensures { MatchOption result (B.IsSum op → N.NoUnaryOf V.Sees Opposite b)
         (FiredOfPair (SummingOf R.A8) V.Sees (P.Arithmetic op) a b) }
 {
     if !is_sum(op) {

@@ -3,6 +3,7 @@ use Rattle.std.specs.Prelude.{◌≡◌, ℕ}
 use Rattle.bits_core.specs.declared.word.Word.{Word}
 use Rattle.cmeaning.specs.declared.tree.UnaryOp.{UnaryOp}
 use Rattle.cmeaning.specs.declared.tree.ArithmeticOp.{ArithmeticOp}
+use Rattle.cmeaning.specs.declared.tree.ArithmeticOp.TheVariants as A
 use Rattle.cmeaning.specs.declared.tree.Expr.{Expr}
 use Rattle.cmeaning.specs.declared.tree.Expr.TheVariants as E
 use Rattle.rules.specs.Letters.{Commutes}
@@ -35,3 +36,14 @@ NoUnary sees at = (ws : ℕ → ℕ) (op : UnaryOp) (x : Expr) → sees ws at (E
 
 abbrev pub NoArithmetic : {S : Type 0} → Sight S → S → Type 0
 NoArithmetic sees at = (ws : ℕ → ℕ) (op : ArithmeticOp) (x y : Expr) → sees ws at (E.Arithmetic op x y) → ⊥
+
+-- Add and Sub
+abbrev pub IsSum : ArithmeticOp → Type 0
+IsSum A.Add = Unit {0}
+IsSum A.Sub = Unit {0}
+IsSum op = ⊥
+
+-- no letter stands beside a constant by one of these operations
+abbrev pub NoneBeside : {S : Type 0} → Sight S → S → (ArithmeticOp → Type 0) → Type 0
+NoneBeside sees a is = (ws : ℕ → ℕ) (op : ArithmeticOp) (x : Expr) (c : Word) (l : Expr)
+    → is op → ConstOn op x c l → sees ws a l → ⊥

@@ -14,7 +14,7 @@ pub mod row;
 pub mod tree;
 pub mod view;
 
-pub use looks::{arithmetic, beside_constant, folded, operands_of, unary, zero};
+pub use looks::{arithmetic, beside_constant, cancels, folded, is_sum, operands_of, unary, zero};
 pub use nodes::{Pair, Single};
 pub use row::Row;
 pub use tree::Tree;

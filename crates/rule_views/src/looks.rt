@@ -3,7 +3,7 @@
 ghost use Rattle.std.specs.Prelude.{◌≡◌, ◌↔◌, ℕ, IsTrue, MatchOption};
 ghost use Rattle.cmeaning.specs.declared.tree.Expr.{Expr};
 ghost use Rattle.cmeaning.specs.Value.{arithmetic_of};
-ghost use Rattle.rules.specs.Letters.{Folds};
+ghost use Rattle.rules.specs.Letters.{Folds, Cancels};
 ghost use Rattle.rule_views.specs.declared.nodes.Pair.TheVariants as P;
 ghost use Rattle.rule_views.specs.Beside as B;
 ghost use Rattle.rule_views.specs.declared.nodes.Single.TheVariants as S;
@@ -36,6 +36,26 @@ pub fn folded(op: ArithmeticOp, c: Word, d: Word) -> Word
         binary(operation, c, d, c.width)
     } else {
         c
+    }
+}
+
+/// Whether an operation is Add or Sub.
+pub fn is_sum(op: ArithmeticOp) -> bool
+    ensures { IsTrue result ↔ B.IsSum op }
+{
+    match op {
+        ArithmeticOp::Add | ArithmeticOp::Sub => true,
+        ArithmeticOp::Mul | ArithmeticOp::And | ArithmeticOp::Or | ArithmeticOp::Xor => false,
+    }
+}
+
+/// Whether an operation gives 0 of a word and itself.
+pub fn cancels(op: ArithmeticOp) -> bool
+    ensures { IsTrue result ↔ Cancels op }
+{
+    match op {
+        ArithmeticOp::Sub | ArithmeticOp::Xor => true,
+        ArithmeticOp::Add | ArithmeticOp::Mul | ArithmeticOp::And | ArithmeticOp::Or => false,
     }
 }
 

@@ -1,6 +1,6 @@
 use Rattle.std.proofs.Common.{rules}
 use Rattle.rules.specs.Letters.{IsEquality}
-use Rattle.rule_sums.specs.Sides.{IsSum}
+use Rattle.rule_views.specs.Beside.{IsSum}
 use Rattle.rule_conditions.proofs.Compared.{moved_fires}
 use Rattle.rule_conditions.proofs.comparisons.sum_compared.Goals as goal
 

@@ -1,5 +1,5 @@
 use Rattle.std.proofs.Common.{rules}
-use Rattle.rule_sums.specs.Sides.{IsSum}
+use Rattle.rule_views.specs.Beside.{IsSum}
 use Rattle.rule_sums.proofs.Summed.{nested_fires}
 use Rattle.rule_sums.proofs.sums.nested_sum.Goals as goal
 
