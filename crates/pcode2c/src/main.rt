@@ -8,13 +8,15 @@ use std::process::ExitCode;
 
 const BAD_ARGUMENTS: u8 = 2;
 
+const WRITE_FAULT: u8 = 4;
+
 const NO_MEMORY: u8 = 5;
 
 fn main(rt: HostRuntime) -> ExitCode {
     let words = match words_of(&rt) {
         Ok(words) => words,
         Err(error) if error.kind() == ErrorKind::OutOfMemory => return ExitCode::from(NO_MEMORY),
-        Err(_) => return ExitCode::from(BAD_ARGUMENTS),
+        Err(_) => return refused(&rt),
     };
     let mut input = StdSource::new(rt.stdin());
     let mut shelf = FileShelf::new(&rt);
@@ -29,4 +31,12 @@ fn main(rt: HostRuntime) -> ExitCode {
         &mut err,
     );
     ExitCode::from(status)
+}
+
+/// Words that aren't text are none that the program takes.
+fn refused(rt: &HostRuntime) -> ExitCode {
+    match eprintln!(rt; "pcode2c: bad arguments") {
+        Ok(()) => ExitCode::from(BAD_ARGUMENTS),
+        Err(_) => ExitCode::from(WRITE_FAULT),
+    }
 }
