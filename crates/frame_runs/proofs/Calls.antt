@@ -190,13 +190,13 @@ module _
         → OverCall l k p v c
         → HoldsOffset l entry v c (after_call l p a m)
     call_holds entry k a m holds v c can (inl stays) =
-        let same : can.stack ≡ sp = some_is (sym can.is ∙ is) in
+        let same : can.stack ≡ sp = let e : Some can.stack ≡ Some sp = sym can.is ∙ is in cc in
         let long : 0 < v.size =
         let e : v.size ≡ sp.size = can.wide ∙ ap (λ x. x.size) same in omega (arith, e, pointer.some) in
         after_stays a m v can.inside long stays.0 ∙ holds v c stays.1
     call_holds entry k a m holds v c can (inr popped) =
         let b = popped.1.0 in
-        let same : v ≡ sp = some_is (sym popped.0 ∙ is) in
+        let same : v ≡ sp = let e : Some v ≡ Some sp = sym popped.0 ∙ is in cc in
         let held : local_word l v m ≡ (entry + b) % offsets l = holds v b popped.1.1.0 in
         let size : limit sp.size ≡ offsets l = sym (offsets_are l read sp is) in
         ap (λ x. local_word l x (after_call l p a m)) same
