@@ -1,1 +1,5 @@
 mod Once
+mod Chains
+mod Cases
+mod Held
+mod OneTable

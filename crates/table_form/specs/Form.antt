@@ -1,10 +1,10 @@
 -- Which word of a slice is switched on, and by which of its values the slice goes on. This project's own.
-use Rattle.std.specs.Prelude.{◌≡◌, ℕ, ◌<◌, nat_lt, Bool, true, false, if◌then◌else◌, List, Option, Some, None, bit_and}
+use Rattle.std.specs.Prelude.{◌≡◌, ℕ, nat_lt, Bool, true, false, if◌then◌else◌, Option, Some, None, bit_and}
 use Rattle.bits_core.specs.declared.ops.Unary.TheVariants as U
 use Rattle.bits_core.specs.declared.ops.Binary.{Binary}
 use Rattle.bits_core.specs.declared.ops.Binary.TheVariants as B
 use Rattle.pcode_model.specs.declared.listing.Listing.{Listing}
-use Rattle.table_form.specs.Trees.{Doing, OfOne, OfTwo, Tree, Entry, Number, Node, Trees, End, More, constant_of, node_of_one, node_of_two}
+use Rattle.table_form.specs.Trees.{Doing, OfTwo, Tree, Entry, Number, Node, Trees, End, More, constant_of, node_of_one, node_of_two}
 use Rattle.table_form.specs.Values.{Gives}
 
 -- ---- guards

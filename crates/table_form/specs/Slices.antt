@@ -17,7 +17,7 @@ use Rattle.pcode_model.specs.Ranges.{is_kind}
 use Rattle.pcode_model.specs.Places.{Standing, Nothing, Passes, Does, standing}
 use Rattle.pcode_model.specs.Step.{in_range, size_out, varnode_at}
 use Rattle.pcode_model.specs.Flow.{next_in, ops_in}
-use Rattle.table_form.specs.Trees.{Doing, Divides, Loads, Joins, OfOne, OfTwo, Tree, Entry, Number, Node, Trees, End, More, cut, node_of_one, node_of_two, part_of, trees}
+use Rattle.table_form.specs.Trees.{Divides, Loads, Joins, Tree, Entry, Number, Node, End, More, cut, node_of_one, node_of_two, part_of, trees}
 
 -- ---- the trees of ranges
 

@@ -1,5 +1,5 @@
 -- The table of a BRANCHIND. This project's own.
-use Rattle.std.specs.Prelude.{◌≡◌, ℕ, suc, ◌+◌, ◌<◌, ◌≤◌, ◌⊎◌, ◌↔◌, Bool, true, List, [], ◌∷◌, ◌++◌, length, slice_get, Option, Some, None}
+use Rattle.std.specs.Prelude.{◌≡◌, ℕ, ◌+◌, ◌<◌, ◌≤◌, ◌⊎◌, ◌↔◌, true, List, [], ◌∷◌, ◌++◌, length, slice_get, Some, None}
 use Rattle.std.specs.List.{AllByRecursion}
 use Rattle.bits_core.specs.Value.{limit}
 use Rattle.pcode_model.specs.declared.listing.SpaceKind.TheVariants.{Ram, Register, Unique}
@@ -14,7 +14,7 @@ use Rattle.pcode_model.specs.Places.{instruction_at, place, standing}
 use Rattle.pcode_model.specs.Flow.{IsIn, branch_in}
 use Rattle.table_form.specs.Trees.{Tree, Entry, constant_of, reading, width}
 use Rattle.table_form.specs.Values.{Gives}
-use Rattle.table_form.specs.Slices.{Trace, IsSlice, first_of, guard_of, inner_of, input_at, length_of, ops_over, read, target_of, tests, traced}
+use Rattle.table_form.specs.Slices.{Trace, IsSlice, first_of, guard_of, inner_of, input_at, length_of, read, target_of, tests, traced}
 use Rattle.table_form.specs.Form.{IsSwitched, Passes}
 
 -- ---- cases

@@ -5,7 +5,7 @@ use Rattle.bits_core.specs.Bytes.{word_of}
 use Rattle.pcode_model.specs.declared.listing.Listing.{Listing}
 use Rattle.pcode_model.specs.Spaces.{bytes_at, fixed_byte, is_big, size_of}
 use Rattle.pcode_model.specs.Step.{byte_address}
-use Rattle.table_form.specs.Trees.{Doing, OfOne, OfTwo, Divides, Loads, Drops, Joins, Tree, Entry, Number, Node, Trees, End, More, width}
+use Rattle.table_form.specs.Trees.{Doing, OfOne, OfTwo, Divides, Loads, Drops, Joins, Tree, Number, Node, Trees, End, More, width}
 
 -- a word with its bytes
 pub record Sized : Type 0 where

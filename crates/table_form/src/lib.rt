@@ -9,9 +9,14 @@
 //! first such x (`specs/Tables.antt`).
 #![tactic(auto)]
 
-ghost use Rattle.table_form.specs.Laws.{OneValue};
+ghost use Rattle.table_form.specs.Laws.{OneTable, OneValue};
 
 /// A tree has one value at most where x has a value.
 pub fn one_value()
     ensures { OneValue }
+{}
+
+/// A BRANCHIND has one table at most.
+pub fn one_table()
+    ensures { OneTable }
 {}
