@@ -3,3 +3,4 @@ mod Chains
 mod Cases
 mod Held
 mod OneTable
+mod Worked

@@ -4,3 +4,4 @@ pub mod Slices
 pub mod Form
 pub mod Tables
 pub mod Laws
+pub mod Worked

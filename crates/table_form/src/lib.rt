@@ -10,6 +10,7 @@
 #![tactic(auto)]
 
 ghost use Rattle.table_form.specs.Laws.{OneTable, OneValue};
+ghost use Rattle.table_form.specs.Worked.{WorkedSlice, WorkedTrees};
 
 /// A tree has one value at most where x has a value.
 pub fn one_value()
@@ -19,4 +20,10 @@ pub fn one_value()
 /// A BRANCHIND has one table at most.
 pub fn one_table()
     ensures { OneTable }
+{}
+
+/// The trees of ranges after a few ops, and a small slice with its guard and its target.
+pub fn worked_slices()
+    ensures trees { WorkedTrees }
+    ensures slice { WorkedSlice }
 {}
