@@ -1,0 +1,6 @@
+mod Once
+mod Chains
+mod Cases
+mod Held
+mod OneTable
+mod Worked
