@@ -15,7 +15,7 @@ unfolding part
 part_below x k n = mod-lt (x / limit k) (limit_pos n)
 
 module _ (size : ℕ) (f : ℕ → ℕ) where
-  onward : (o n : ℕ) → o + suc n ≤ size → bytes_at size f (next size o) n ≡ bytes_at size f (suc o) n
+  pub onward : (o n : ℕ) → o + suc n ≤ size → bytes_at size f (next size o) n ≡ bytes_at size f (suc o) n
   onward o zero within = refl
   onward o (suc n) within = ap (λ x. bytes_at size f x (suc n)) (next_within size o (omega (arith, within)))
 

@@ -1,3 +1,4 @@
 mod Bytes
 mod Parts
 mod Sound
+mod Reading
