@@ -2,3 +2,4 @@ mod Bytes
 mod Parts
 mod Sound
 mod Reading
+mod Together
