@@ -1,5 +1,6 @@
-mod Bytes
-mod Parts
-mod Sound
-mod Reading
-mod Together
+pub mod Bytes
+pub mod Parts
+pub mod Sound
+pub mod Reading
+pub mod Together
+pub mod Giving
