@@ -4,3 +4,4 @@ pub mod Sound
 pub mod Reading
 pub mod Together
 pub mod Giving
+pub mod Writing
