@@ -12,7 +12,7 @@ use Rattle.ssa_model.proofs.Lists.{before_here, before_far}
 
 -- ---- what stands before an op
 
-in_before : (x v : ℕ) (xs : List ℕ) → IsIn v (before_op x xs) → IsIn v xs
+pub in_before : (x v : ℕ) (xs : List ℕ) → IsIn v (before_op x xs) → IsIn v xs
 in_before x v [] m = m
 in_before x v (y ∷ ys) m = by_case (cases_eq y x) (in_before x v ys)
   where

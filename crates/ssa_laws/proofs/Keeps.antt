@@ -63,7 +63,7 @@ before_first x (y ∷ xs) ys n =
     before_far x y (xs ++ x ∷ ys) (λ e. n (inl (sym e)))
     ∙ ap (λ zs. y ∷ zs) (before_first x xs ys (λ m. n (inr m)))
 
-join_line : (l : Listing) (x : ℕ) (vs : List ℕ) (role : Role) (w : Option Width)
+pub join_line : (l : Listing) (x : ℕ) (vs : List ℕ) (role : Role) (w : Option Width)
     → IsJoin role
     → line_by l x vs role w ≡ []
 join_line l x vs (Joins atom) w j = refl
@@ -73,11 +73,11 @@ target_at : (x v : ℕ) (w : Option Width) → target x w ≡ Some v → v ≡ x
 target_at x v None h = none_some h
 target_at x v (Some w) h = sym (some_same h)
 
-target_some : (x : ℕ) (w : Option Width) → 0 < bytes_of w → target x w ≡ Some x
+pub target_some : (x : ℕ) (w : Option Width) → 0 < bytes_of w → target x w ≡ Some x
 target_some x None h = absurd (omega (arith, h))
 target_some x (Some w) h = refl
 
-join_cases : (role : Role) → IsJoin role ⊎ (IsJoin role → ⊥)
+pub join_cases : (role : Role) → IsJoin role ⊎ (IsJoin role → ⊥)
 join_cases (Joins atom) = inl tt
 join_cases role = inr (λ h. h)
 
@@ -94,7 +94,7 @@ pub record IsBeside (from : ℕ) (bs vs : List ℕ) : Type 0 where
   pub value_at : slice_get vs place ≡ Some value
   pub is : beside from bs vs ≡ Some value
 
-is_beside : (from : ℕ) (bs vs : List ℕ) → IsIn from bs → length vs ≡ length bs → IsBeside from bs vs
+pub is_beside : (from : ℕ) (bs vs : List ℕ) → IsIn from bs → length vs ≡ length bs → IsBeside from bs vs
 is_beside from [] vs m len = absurd m
 is_beside from (b ∷ bs) [] m len = absurd (omega (arith, len))
 is_beside from (b ∷ bs) (v ∷ vs) m len = by_case (cases_eq b from) m (λ k. is_beside from bs vs k (omega (arith, len)))
@@ -121,14 +121,14 @@ is_beside from (b ∷ bs) (v ∷ vs) m len = by_case (cases_eq b from) m (λ k. 
           is = ap (λ c. cond c (Some v) (beside from bs vs)) (eqb_not b from n) ∙ q.is;
         }
 
-carried_plain : (v from to : ℕ) (bs : List ℕ) (r : OpRow) (role : Role)
+pub carried_plain : (v from to : ℕ) (bs : List ℕ) (r : OpRow) (role : Role)
     → (IsJoin role → r.block ≡ to → ⊥)
     → carried v from to bs r role ≡ v
 carried_plain v from to bs r (Joins atom) n =
     ap (λ c. cond c (or_else (beside from bs r.inputs) v) v) (eqb_not r.block to (n tt))
 carried_plain v from to bs r role n = refl
 
-carried_join : (v from to w : ℕ) (bs : List ℕ) (r : OpRow) (role : Role)
+pub carried_join : (v from to w : ℕ) (bs : List ℕ) (r : OpRow) (role : Role)
     → IsJoin role
     → r.block ≡ to
     → beside from bs r.inputs ≡ Some w
@@ -137,7 +137,7 @@ carried_join v from to w bs r (Joins atom) j same is =
     ap (λ c. cond c (or_else (beside from bs r.inputs) v) v) (eq-eqb r.block to same) ∙ ap (λ o. or_else o v) is
 carried_join v from to w bs r role j same is = absurd j
 
-all_width : (ws : ℕ → ℕ) (w k v : ℕ) (vs : List ℕ)
+pub all_width : (ws : ℕ → ℕ) (w k v : ℕ) (vs : List ℕ)
     → all_are w (map ws vs) ≡ true
     → slice_get vs k ≡ Some v
     → ws v ≡ w
@@ -147,11 +147,11 @@ all_width ws w zero v (u ∷ vs) h is =
 all_width ws w (suc k) v (u ∷ vs) h is =
     all_width ws w k v vs (both_hold (ws u == w) (all_are w (map ws vs)) h).1 is
 
-map_length : (f : ℕ → ℕ) (xs : List ℕ) → length (map f xs) ≡ length xs
+pub map_length : (f : ℕ → ℕ) (xs : List ℕ) → length (map f xs) ≡ length xs
 map_length f [] = refl
 map_length f (x ∷ xs) = ap suc (map_length f xs)
 
-join_fits : (ws : ℕ → ℕ) (w : ℕ) (vs : List ℕ) (role : Role)
+pub join_fits : (ws : ℕ → ℕ) (w : ℕ) (vs : List ℕ) (role : Role)
     → IsJoin role
     → fits role w (map ws vs) ≡ true
     → all_are w (map ws vs) ≡ true

@@ -52,7 +52,7 @@ length_append : {X : Type 0} (xs ys : List X) → length (xs ++ ys) ≡ length x
 length_append [] ys = omega arith
 length_append (x ∷ xs) ys = let h = length_append xs ys in omega (arith, h)
 
-append_append : {X : Type 0} (xs ys zs : List X) → ((xs ++ ys) ++ zs) ≡ (xs ++ (ys ++ zs))
+pub append_append : {X : Type 0} (xs ys zs : List X) → ((xs ++ ys) ++ zs) ≡ (xs ++ (ys ++ zs))
 append_append [] ys zs = refl
 append_append (x ∷ xs) ys zs = ap (λ us. x ∷ us) (append_append xs ys zs)
 
@@ -136,7 +136,7 @@ module _ (l : Listing) (p : Parts) (e : Entry) (whole : IsWhole p.graph) (ssa : 
     pub ready : IsReady behind
     pub kept : Keeps l p e whole ssa env b before
 
-  row_in : (b x : ℕ) → IsIn x (block_at p.graph b) → (t : OpRow) × (op_at p.graph x ≡ Some t) × (t.block ≡ b)
+  pub row_in : (b x : ℕ) → IsIn x (block_at p.graph b) → (t : OpRow) × (op_at p.graph x ≡ Some t) × (t.block ≡ b)
   row_in b x m = by_row (op_at p.graph x) refl ((whole.ops b x).0 m)
     where
       by_row : (o : Option OpRow)
@@ -323,7 +323,7 @@ module _ (l : Listing) (p : Parts) (e : Entry) (whole : IsWhole p.graph) (ssa : 
 
   -- ---- places with the same statements left
 
-  body_append : (xs ys : List ℕ) → body_of l p.graph (xs ++ ys) ≡ body_of l p.graph xs ++ body_of l p.graph ys
+  pub body_append : (xs ys : List ℕ) → body_of l p.graph (xs ++ ys) ≡ body_of l p.graph xs ++ body_of l p.graph ys
   body_append [] ys = refl
   body_append (x ∷ xs) ys =
       ap (λ cs. line_of l x (op_at p.graph x) ++ cs) (body_append xs ys)
