@@ -11,6 +11,7 @@ use Rattle.pcode_model.specs.declared.tables.TableAt.{TableAt}
 use Rattle.pcode_model.specs.Flow.{IsIn}
 use Rattle.pcode_model.proofs.Members.{of_member}
 use Rattle.stackvars.specs.Near.{IsNearAccess}
+use Rattle.stackvars.proofs.Members.{to_recursion}
 use Rattle.frame_facts.specs.Accesses.{AreJoined, Chained, IsAccessOf, IsByte, IsByteOf, IsClass, IsFrameAccess, IsFrameVariable, IsVariableAccess, Same, signed_offset}
 use Rattle.frame_facts.specs.Escapes.{Escapes}
 use Rattle.frame_facts.specs.Listed.{InOrderBy, IsAccessBefore, IsEscape, IsVariableBefore, Lists}
@@ -22,10 +23,6 @@ use Rattle.frame_classes.proofs.Apart.{IsInRun, has_bytes, in_variables, limit_w
 use Rattle.frame_classes.proofs.Order.{before_all, before_in, before_ordered, in_before}
 
 -- ---- runs of accesses
-
-all_of : {A : Type 0} (Q : A → Type 0) (xs : List A) → ((a : A) → IsIn a xs → Q a) → AllByRecursion Q xs
-all_of Q [] each = tt
-all_of Q (x ∷ xs) each = (each x (inl refl), all_of Q xs (λ a is. each a (inr is)))
 
 chain_end : (xs : List FrameAccess) (a b : FrameAccess) → AreChained xs a b → IsIn b xs
 chain_end xs a b (Alone c is) = is
@@ -51,7 +48,7 @@ module _ (xs : List FrameAccess) (near : AllByRecursion IsNearAccess xs) (runs :
 
   -- Each fits a variable.
   pub all_fit : AllByRecursion Fits runs
-  all_fit = all_of Fits runs fits
+  all_fit = to_recursion Fits runs fits
 
 -- ---- the least escape
 

@@ -18,11 +18,6 @@ use Rattle.frame_facts.specs.Facts.{offsets}
 
 -- ---- widths
 
--- The size of a space, by the bytes of its offsets.
-pub size_by : (o : Option Space) → size_in o ≡ 256 ^ offset_bytes_in o
-size_by None = refl
-size_by (Some s) = refl
-
 -- there are as many offsets as words of the stack pointer's width
 pub offsets_are : (l : Listing) → IsWellFormed l → (sp : Varnode) → l.stack ≡ Some sp → offsets l ≡ limit sp.size
 unfolding limit
@@ -30,6 +25,10 @@ offsets_are l read sp is =
     let P : Option Varnode → Type 0 = λ o. IfSome o (IsStackPointer l.spaces) in
     let s : IsStackPointer l.spaces sp = subst P is read.stack in
     size_by (slice_get l.spaces (first_ram l)) ∙ ap (λ n. 256 ^ n) (sym s.wide)
+  where
+    size_by : (o : Option Space) → size_in o ≡ 256 ^ offset_bytes_in o
+    size_by None = refl
+    size_by (Some s) = refl
 
 -- ---- prototypes
 
@@ -86,7 +85,3 @@ kept_meets Q g o sel here (x ∷ keep) all h = by (in_range x o) refl (kept_meet
       let f : true ≡ false = sym meet ∙ share in
       cc
   by false e rest h = rest h
-
--- There is one value.
-pub some_is : {A : Type 0} {x y : A} → Some x ≡ Some y → x ≡ y
-some_is e = cc

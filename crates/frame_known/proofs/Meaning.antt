@@ -24,7 +24,8 @@ use Rattle.frame_facts.specs.Facts.{CanHold, IsConstant, IsDifference, IsKept, I
 use Rattle.frame_facts.specs.Escapes.{is_constant}
 use Rattle.frame_facts.proofs.Spaces.{spaces_differ}
 use Rattle.pcode_laws.proofs.SpaceKinds.{same_is}
-use Rattle.frame_facts.proofs.Prototypes.{kept_meets, proto_fine, some_is}
+use Rattle.flow.proofs.Adjacent.{some_same}
+use Rattle.frame_facts.proofs.Prototypes.{kept_meets, proto_fine}
 use Rattle.frame_known.specs.declared.slots.Slots.{Slots}
 use Rattle.frame_known.specs.Slots.{AreSlots, is_wide, key, makes_address, range_of}
 use Rattle.frame_known.specs.Rows.{IsRow, Row, after, after_call, after_other, all_kept, first_of, is_at, is_offset, keeps, knows, made, offset_in, offset_of, over_row, plus, plus_if}
@@ -148,7 +149,7 @@ module _ (l : Listing) (read : IsWellFormed l) (s : Slots) (slots : AreSlots l s
         → IsSum l k base n c
     by true None e f h = absurd (cc)
     by true (Some b) e f h =
-        let g : c ≡ (b + n.offset) % s.offsets = sym (some_is h) in (
+        let g : c ≡ (b + n.offset) % s.offsets = sym (some_same h) in (
           same_is Constant (kind_of l n.space) e,
           (b, (offset_is (offset_of s row base) b f, g ∙ ap (λ m. (b + n.offset) % m) slots.count)),
         )
@@ -178,7 +179,7 @@ module _ (l : Listing) (read : IsWellFormed l) (s : Slots) (slots : AreSlots l s
         → IsDifference l k base n c
     by true None e f h = absurd (cc)
     by true (Some b) e f h =
-        let g : c ≡ (b + (s.offsets - n.offset)) % s.offsets = sym (some_is h) in (
+        let g : c ≡ (b + (s.offsets - n.offset)) % s.offsets = sym (some_same h) in (
           same_is Constant (kind_of l n.space) e,
           (b, (offset_is (offset_of s row base) b f, g ∙ ap (λ m. (b + (m - n.offset)) % m) slots.count)),
         )
@@ -366,7 +367,7 @@ module _ (l : Listing) (read : IsWellFormed l) (s : Slots) (slots : AreSlots l s
             record { wide = wide; low = low; has = offset_some s.keys.items row (key v) b g; entry = g } in
             inr (
               a.1.0 ∙ ap Some same,
-              (b, (knows_from s row v b x, sym (some_is h) ∙ ap (λ m. (b + p.pop) % m) slots.count)),
+              (b, (knows_from s row v b x, sym (some_same h) ∙ ap (λ m. (b + p.pop) % m) slots.count)),
             )
         by false true r e f g h =
             let x : Held s row v c =

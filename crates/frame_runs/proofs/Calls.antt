@@ -1,54 +1,28 @@
 -- What is known over a call holds after it.
-use Rattle.std.proofs.Common.{◌≡◌, ℕ, zero, suc, ◌+◌, ◌%◌, ◌<◌, ◌≤◌, Bool, true, false, [], ◌∷◌, Option, Some, None, IfSome, refl, sym, ap, ◌∙◌, subst, ◌⊎◌, inl, inr, ⊎_elim, arith}
+use Rattle.std.proofs.Common.{◌≡◌, ℕ, ◌+◌, ◌%◌, ◌<◌, Bool, true, false, [], Option, Some, None, IfSome, refl, sym, ap, ◌∙◌, subst, ◌⊎◌, inl, inr, ⊎_elim, arith}
 use Rattle.std.specs.Prelude.{cond, ◌==◌, ◌&&◌}
 use Rattle.std.proofs.Math.Bool.{and-false}
 use Rattle.std.proofs.lemmas.Bool.Decides.{nat_tests}
 use Rattle.bits_core.specs.Value.{limit}
-use Rattle.bits_core.specs.Bytes.{word_of}
 use Rattle.bits_core.proofs.Limits.{limit_pos}
 use Rattle.pcode_model.specs.declared.listing.SpaceKind.TheVariants.{Register}
 use Rattle.pcode_model.specs.declared.listing.Varnode.{Varnode}
 use Rattle.pcode_model.specs.declared.listing.Proto.{Proto}
 use Rattle.pcode_model.specs.declared.listing.Listing.{Listing}
-use Rattle.pcode_model.specs.Spaces.{kind_of, size_of, is_big, register_space, unique_space, next, bytes_at}
+use Rattle.pcode_model.specs.Spaces.{kind_of, register_space, unique_space}
 use Rattle.pcode_model.specs.WellFormed.{IsWellFormed, IsProto, IsRegister, IsStorage, ShareNothing, IsStackPointer}
 use Rattle.pcode_model.specs.Memory.{Bytes}
 use Rattle.pcode_model.specs.World.{Answer}
 use Rattle.pcode_model.specs.Step.{local_word, in_range, in_some, in_option, after_callee, with_result, with_pop, after_call}
-use Rattle.pcode_laws.proofs.Puts.{next_within}
 use Rattle.range_words.specs.Ranges.{IsInside, AreApart}
+use Rattle.range_words.proofs.Same.{same_word}
 use Rattle.range_words.proofs.Variables.{read_written, read_else}
 use Rattle.frame_facts.specs.Facts.{Known, offsets, CanHold, IsKept, OverCall}
 use Rattle.frame_runs.specs.Laws.{HoldsOffset}
 use Rattle.pcode_laws.proofs.SpaceKinds.{same_is}
-use Rattle.frame_facts.proofs.Prototypes.{in_it, kept_meets, offsets_are, some_is, within}
+use Rattle.frame_facts.proofs.Prototypes.{in_it, kept_meets, offsets_are, within}
 use Rattle.frame_facts.proofs.Spaces.{register_is, spaces_differ}
 use Rattle.frame_runs.proofs.Words.{sum_again, apart_from, apart_by}
-
--- ---- bytes
-
--- the same bytes stand in a range that doesn't wrap
-bytes_same : (size : ℕ) (f g : ℕ → ℕ) (o k : ℕ)
-    → o + k ≤ size
-    → ((p : ℕ) → o ≤ p → p < o + k → f p ≡ g p)
-    → bytes_at size f o k ≡ bytes_at size g o k
-bytes_same size f g o zero h same = refl
-bytes_same size f g o (suc zero) h same = ap (λ x. x ∷ []) (same o (omega arith) (omega arith))
-bytes_same size f g o (suc (suc k)) h same =
-    let n : next size o ≡ suc o = next_within size o (omega arith) in
-    let rest : bytes_at size f (suc o) (suc k) ≡ bytes_at size g (suc o) (suc k) =
-    bytes_same size f g (suc o) (suc k) (omega arith) (λ p a b. same p (omega arith) (omega arith)) in
-    ap (λ x. f o ∷ bytes_at size f x (suc k)) n
-    ∙ ap (λ y. y ∷ bytes_at size f (suc o) (suc k)) (same o (omega arith) (omega arith))
-    ∙ ap (λ ys. g o ∷ ys) rest
-    ∙ ap (λ x. g o ∷ bytes_at size g x (suc k)) (sym n)
-
-word_same : (l : Listing) (v : Varnode) (m n : Bytes)
-    → IsInside l v
-    → ((o : ℕ) → v.offset ≤ o → o < v.offset + v.size → m v.space o ≡ n v.space o)
-    → local_word l v m ≡ local_word l v n
-word_same l v m n inside same =
-    ap (word_of (is_big l v.space)) (bytes_same (size_of l v.space) (m v.space) (n v.space) v.offset v.size inside same)
 
 module _
     (l : Listing)
@@ -92,7 +66,7 @@ module _
 
     module _ (a : Answer) (m : Bytes) where
       callee_kept : (v : Varnode) → IsInside l v → Stays v → local_word l v (after_callee l p a m) ≡ local_word l v m
-      callee_kept v inside stays = word_same l v (after_callee l p a m) m inside
+      callee_kept v inside stays = same_word l v (after_callee l p a m) m inside
           (λ o low high. by_test (v.space == register_space l) refl o
           (λ e. ⊎_elim (λ (k : IsKept l p v). k.each o low high)
           (λ (u : v.space ≡ unique_space l). absurd (differ u e)) stays))
@@ -117,7 +91,7 @@ module _
 
       -- the stack pointer's bytes are none of the answer's
       callee_pointer : local_word l sp (after_callee l p a m) ≡ local_word l sp m
-      callee_pointer = word_same l sp (after_callee l p a m) m (register_inside sp pointer.register)
+      callee_pointer = same_word l sp (after_callee l p a m) m (register_inside sp pointer.register)
           (λ o low high. by_test (sp.space == register_space l) (in_some p.keep o) o (in_it sp o low high))
         where
           by_option : (o : ℕ) → in_range sp o ≡ true → in_option l.stack o ≡ true

@@ -11,7 +11,8 @@ use Rattle.frame_known.specs.declared.slots.Slots.{Slots}
 use Rattle.frame_known.specs.Rows.{Row, offset_of}
 use Rattle.frame_known.proofs.Entries.{is_offset_is, offset_is}
 use Rattle.frame_known.specs.Known.{AreRows}
-use Rattle.frames.proofs.Walk.{IsPlaceOf, before_in, has_before, in_places, of_places}
+use Rattle.frames.proofs.Walk.{IsPlaceOf, before_in, has_before, in_places}
+use Rattle.frame_known.proofs.Shaped.{block_of}
 
 module _
     (l : Listing)
@@ -23,7 +24,7 @@ module _
   where
     pub place_of : (p : Place) → Reached l [] p → (r : Row) × IsPlaceOf l s rows blocks p r
     place_of p reached =
-        let at = of_places blocks p ((flow.each p).1 reached) in
+        let at = block_of blocks p ((flow.each p).1 reached) in
         let row = are.all at.0 (slice_get_within blocks at.0 at.1.0 at.1.1.0) in
         let r = has_before l s row.0 (at.1.0).places p at.1.1.1 in (
           r.0,

@@ -1,11 +1,12 @@
 -- Lists of which each thing comes before all that stand behind it, and that what a walk finds is one.
-use Rattle.std.proofs.Common.{◌≡◌, List, [], ◌∷◌, ◌++◌, Option, Some, None, refl, sym, ◌∙◌, subst, inl, inr, ⊎_elim, arith}
+use Rattle.std.proofs.Common.{◌≡◌, List, [], ◌∷◌, ◌++◌, Option, Some, None, refl, sym, subst, inl, inr, ⊎_elim}
 use Rattle.pcode_model.specs.declared.listing.Place.{Place}
 use Rattle.pcode_model.specs.declared.listing.Listing.{Listing}
 use Rattle.pcode_model.specs.declared.flow.Block.{Block}
 use Rattle.pcode_model.specs.Places.{standing}
 use Rattle.pcode_model.specs.Flow.{IsBefore, IsIn, Rising, places_of}
 use Rattle.pcode_model.proofs.Members.{behind, in_either, in_front}
+use Rattle.flow.proofs.Order.{before_trans}
 use Rattle.frame_facts.specs.Listed.{InOrderBy}
 use Rattle.frame_known.specs.declared.slots.Slots.{Slots}
 use Rattle.frame_known.specs.Rows.{Row, over_row}
@@ -48,12 +49,6 @@ module _ {A : Type 0} (before : A → A → Type 0) where
   sorted_across (z ∷ xs) ys h x y (inr p) q = sorted_across xs ys h.1 x y p q
 
 -- ---- places
-
-before_trans : (p q r : Place) → IsBefore p q → IsBefore q r → IsBefore p r
-before_trans p q r (inl a) (inl b) = inl (omega (arith, a, b))
-before_trans p q r (inl a) (inr b) = inl (omega (arith, a, b.0))
-before_trans p q r (inr a) (inl b) = inl (omega (arith, a.0, b))
-before_trans p q r (inr a) (inr b) = inr (a.0 ∙ b.0, omega (arith, a.1, b.1))
 
 first_before : (p q : Place) (ps : List Place)
     → IsBefore p q

@@ -146,13 +146,3 @@ in_places (c ∷ cs) zero b p here h =
     let P : Block → Type 0 = λ y. IsIn p y.places in
     in_front c.places (places_of cs) p (subst P same h)
 in_places (c ∷ cs) (suc n) b p here h = behind c.places (places_of cs) p (in_places cs n b p here h)
-
-pub of_places : (blocks : List Block) (p : Place)
-    → IsIn p (places_of blocks)
-    → (n : ℕ) × ((b : Block) × ((slice_get blocks n ≡ Some b) × IsIn p b.places))
-of_places [] p h = absurd h
-of_places (c ∷ cs) p h = ⊎_elim
-    (λ (here : IsIn p c.places). (0, (c, (refl, here))))
-    (λ (later : IsIn p (places_of cs)).
-    let r = of_places cs p later in (suc r.0, (r.1.0, (r.1.1.0, r.1.1.1))))
-    (in_either c.places (places_of cs) p h)

@@ -20,7 +20,8 @@ use Rattle.blockcode.proofs.Straight.{run_all}
 use Rattle.op_code.specs.Form.{IsCallable}
 use Rattle.op_code.specs.Left.{Leftover, extras, is_left, left_from, spared, takes_left}
 use Rattle.op_code.specs.Made.{Own}
-use Rattle.op_code.proofs.Kept.{replaced, replaced_else, replaced_here, replaced_in, same_bytes, same_word}
+use Rattle.range_words.proofs.Same.{same_bytes, same_word}
+use Rattle.op_code.proofs.Kept.{replaced, replaced_else, replaced_here, replaced_in}
 use Rattle.op_code.proofs.Operands.{run_one}
 use Rattle.op_code.proofs.Sees.{Setting}
 use Rattle.op_code.proofs.Spared.{left_out, left_space, spared_in}

@@ -1,17 +1,16 @@
 -- The bytes of registers after a call, range by range.
-use Rattle.std.proofs.Common.{◌≡◌, ◌≢◌, ℕ, zero, suc, ◌+◌, ◌%◌, ◌<◌, ◌≤◌, Bool, true, false, List, [], ◌∷◌, ◌++◌, length, Option, Some, None, refl, sym, ap, ◌∙◌, ◌⊎◌, inl, inr, ⊎_elim, arith}
+use Rattle.std.proofs.Common.{◌≡◌, ◌≢◌, ℕ, suc, ◌+◌, ◌%◌, ◌<◌, ◌≤◌, Bool, true, false, List, [], ◌∷◌, ◌++◌, length, Option, Some, None, refl, sym, ap, ◌∙◌, ◌⊎◌, inl, inr, ⊎_elim, arith}
 use Rattle.std.specs.Prelude.{◌==◌, ◌&&◌, cond, nat_lt, if◌then◌else◌, IfSome}
 use Rattle.std.proofs.Math.Path.{fun_ext}
 use Rattle.std.proofs.lemmas.Bool.{cases_eq, cases_lt}
 use Rattle.std.proofs.lemmas.Bool.Decides.{nat_tests}
-use Rattle.bits_core.specs.Bytes.{word_of}
 use Rattle.bits_core.specs.Value.{limit}
 use Rattle.laws.proofs.Bytes.{length-word_bytes}
 use Rattle.pcode_model.specs.declared.listing.Varnode.{Varnode}
 use Rattle.pcode_model.specs.declared.listing.Proto.{Proto}
 use Rattle.pcode_model.specs.declared.listing.Listing.{Listing}
 use Rattle.pcode_model.specs.Atoms.{one_range}
-use Rattle.pcode_model.specs.Spaces.{bytes_at, each_at, first_ram, is_big, next, put_in, register_space, size_of}
+use Rattle.pcode_model.specs.Spaces.{each_at, first_ram, is_big, next, put_in, register_space, size_of}
 use Rattle.pcode_model.specs.Memory.{Bytes}
 use Rattle.pcode_model.specs.World.{Answer}
 use Rattle.pcode_model.specs.Step.{after_callee, bytes_in, in_option, in_range, in_some, local_word, with_pop, with_result, with_word}
@@ -20,31 +19,6 @@ use Rattle.range_words.specs.Own.{centred, stack_size, with_own}
 use Rattle.range_words.specs.Ranges.{AreBytes, IsInside}
 use Rattle.range_words.proofs.Own.{word_else, written_else}
 use Rattle.range_words.proofs.Written.{IsOff}
-
--- ---- bytes that are the same in a range
-
--- the same at so many offsets from one on
-pub same_bytes : (size : ℕ) (f g : ℕ → ℕ) (o k : ℕ)
-    → o + k ≤ size
-    → ((p : ℕ) → o ≤ p → p < o + k → f p ≡ g p)
-    → bytes_at size f o k ≡ bytes_at size g o k
-same_bytes size f g o zero within same = refl
-same_bytes size f g o (suc zero) within same = ap (λ b. b ∷ []) (same o (omega arith) (omega arith))
-same_bytes size f g o (suc (suc k)) within same =
-    let n : next size o ≡ suc o = next_within size o (omega (arith, within)) in
-    ap (λ b. b ∷ bytes_at size f (next size o) (suc k)) (same o (omega arith) (omega arith))
-    ∙ ap (λ x. g o ∷ bytes_at size f x (suc k)) n
-    ∙ ap (λ bs. g o ∷ bs) (same_bytes size f g (suc o) (suc k) (omega (arith, within))
-    (λ p from to. same p (omega (arith, from)) (omega (arith, to))))
-    ∙ ap (λ x. g o ∷ bytes_at size g x (suc k)) (sym n)
-
--- the bytes of a range have its word
-pub same_word : (l : Listing) (v : Varnode) (m n : Bytes)
-    → IsInside l v
-    → ((p : ℕ) → v.offset ≤ p → p < v.offset + v.size → m v.space p ≡ n v.space p)
-    → local_word l v m ≡ local_word l v n
-same_word l v m n inside same =
-    ap (word_of (is_big l v.space)) (same_bytes (size_of l v.space) (m v.space) (n v.space) v.offset v.size inside same)
 
 -- Where bytes are the same but in a range, they are the same once it is written.
 module _ (size s : ℕ) where

@@ -15,7 +15,7 @@ use Rattle.pcode_model.specs.Spaces.{first_ram, kind_of}
 use Rattle.pcode_model.specs.WellFormed.{IsStackPointer, IsWellFormed}
 use Rattle.range_words.specs.Own.{centred, half, stack_size}
 use Rattle.frame_facts.specs.Accesses.{frame_limit, stack_width, width_in}
-use Rattle.frame_facts.proofs.Prototypes.{size_by}
+use Rattle.op_code.proofs.Frames.{size_by_bytes}
 use Rattle.plain_form.proofs.Memory.{memory_is}
 use Rattle.plain_form.proofs.Spaces.{differ, kind_of_first, low}
 
@@ -63,7 +63,7 @@ off_frame l read s (inr e) f =
 pub even : (l : Listing) → IsWellFormed l → half (stack_size l) + half (stack_size l) ≡ stack_size l
 even l read =
     let memory = memory_is l read (first_ram l) (first_ram_is l read) in
-    subst (λ n. half n + half n ≡ n) (sym (size_by (slice_get l.spaces (first_ram l)))) (even_power _ memory.some)
+    subst (λ n. half n + half n ≡ n) (sym (size_by_bytes (slice_get l.spaces (first_ram l)))) (even_power _ memory.some)
 
 -- The stack pointer is as wide as its offsets.
 pub pointer_is : (l : Listing) → IsWellFormed l → (sp : Varnode) → l.stack ≡ Some sp → IsStackPointer l.spaces sp
@@ -71,7 +71,7 @@ pointer_is l read sp is = subst (λ o. IfSome o (IsStackPointer l.spaces)) is re
 
 pub pointer_wide : (l : Listing) → IsWellFormed l → (sp : Varnode) → l.stack ≡ Some sp → stack_size l ≡ 256 ^ sp.size
 pointer_wide l read sp is =
-    size_by (slice_get l.spaces (first_ram l)) ∙ ap (λ n. 256 ^ n) (sym (pointer_is l read sp is).wide)
+    size_by_bytes (slice_get l.spaces (first_ram l)) ∙ ap (λ n. 256 ^ n) (sym (pointer_is l read sp is).wide)
 
 -- Each half has room for the frame.
 pub room : (l : Listing)

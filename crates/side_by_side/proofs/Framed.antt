@@ -22,6 +22,7 @@ use Rattle.pcode_model.specs.Spaces.{first_ram, or, size_of}
 use Rattle.pcode_model.specs.WellFormed.{IsStackPointer, IsWellFormed}
 use Rattle.pcode_memory.specs.Frame.{ComesBefore, EndsBefore, IsNear, IsOrdered, Rise}
 use Rattle.pcode_run.specs.Run.{LiesInRam, accesses, by_pointer, lies_in_ram}
+use Rattle.stackvars.proofs.Members.{to_recursion}
 use Rattle.frame_facts.specs.Accesses.{IsFrameAccess, IsFrameVariable, Reach, Same, frame_limit, reaches, stack_width, width_in}
 use Rattle.frame_facts.specs.Escapes.{is_of_memory}
 use Rattle.frame_facts.specs.Listed.{InOrderBy, IsAccessBefore, IsFrame, IsVariableBefore}
@@ -55,10 +56,6 @@ module _
     rises [] all order = tt
     rises (a ∷ []) all order = (tt, tt)
     rises (a ∷ b ∷ xs) all order = (first_rises a b xs all.0 all.1 order.0 order.1, rises (b ∷ xs) all.1 order.1)
-
-all_of : {A : Type 0} (P : A → Type 0) (xs : List A) → ((x : A) → IsIn x xs → P x) → AllByRecursion P xs
-all_of P [] each = tt
-all_of P (x ∷ xs) each = (each x (inl refl), all_of P xs (λ y is. each y (inr is)))
 
 -- ---- how wide the stack is
 
@@ -210,14 +207,14 @@ module _
     pub frame_ordered : IsOrdered l f
     frame_ordered = record {
       accesses = rises (λ (a : FrameAccess). Unit {0}) IsAccessBefore ComesBefore access_on
-          (λ a b x y less. comes_before a b less) f.accesses (all_of (λ (a : FrameAccess). Unit {0}) f.accesses
+          (λ a b x y less. comes_before a b less) f.accesses (to_recursion (λ (a : FrameAccess). Unit {0}) f.accesses
           (λ a is. tt)) frame.accesses.in_order;
       variables = rises IsOne IsVariableBefore EndsBefore variable_on (ends_before l) f.variables
-          (all_of IsOne f.variables one) frame.variables.in_order;
-      near = all_of (IsNear (size_of l (first_ram l))) f.variables
+          (to_recursion IsOne f.variables one) frame.variables.in_order;
+      near = to_recursion (IsNear (size_of l (first_ram l))) f.variables
           (λ v is. near l read few v ((frame.variables.each v).0 is));
     }
 
     pub frame_lies : LiesInRam l f
-    frame_lies = all_of (λ (a : FrameAccess). lies_in_ram l a ≡ true) f.accesses
+    frame_lies = to_recursion (λ (a : FrameAccess). lies_in_ram l a ≡ true) f.accesses
         (λ a is. access_lies l a ((frame.accesses.each a).0 is).1.is_class.access)

@@ -21,7 +21,8 @@ use Rattle.stackvars.specs.Collected.{atom_at, atom_of, atoms_at, atoms_in, atom
 
 -- ---- members of lists
 
-to_recursion : {A : Type 0} (Q : A → Type 0) (xs : List A) → ((a : A) → IsIn a xs → Q a) → AllByRecursion Q xs
+-- What holds of each member holds along the list.
+pub to_recursion : {A : Type 0} (Q : A → Type 0) (xs : List A) → ((a : A) → IsIn a xs → Q a) → AllByRecursion Q xs
 to_recursion Q [] h = tt
 to_recursion Q (x ∷ xs) h = (h x (inl refl), to_recursion Q xs (λ a is. h a (inr is)))
 

@@ -18,6 +18,7 @@ use Rattle.stackvars.specs.declared.sweep.Piece.{Piece}
 use Rattle.stackvars.specs.Cuts.{AreInReach, Fits, IsInReach, atom, atoms_of, begin, mark, storage_at}
 use Rattle.pcode_model.specs.Atoms as model
 use Rattle.stackvars.specs.Sweep.{ArePieces, IsMarked, IsPiece, RiseFrom}
+use Rattle.stackvars.proofs.Members.{to_recursion}
 use Rattle.stackvars.proofs.Swept.{piece}
 use Rattle.stackvars.proofs.Areas.{IsAt, Within, above, between, ends, one_offset, one_place, ordered, stands, stored}
 use Rattle.stackvars.proofs.Marked.{Over, access_marked, cuts_marked, last, line, marked_cut, under_access}
@@ -46,10 +47,6 @@ piece_of : (ps : List Piece) (a : Atom) → IsIn a (atoms_of ps) → (p : Piece)
 piece_of [] a is = absurd is
 piece_of (p ∷ ps) a (inl e) = (p, (inl refl, e))
 piece_of (p ∷ ps) a (inr is) = let r = piece_of ps a is in (r.0, (inr r.1.0, r.1.1))
-
-all_of : (Q : Piece → Type 0) (ps : List Piece) → ((p : Piece) → IsIn p ps → Q p) → AllByRecursion Q ps
-all_of Q [] h = tt
-all_of Q (p ∷ ps) h = (h p (inl refl), all_of Q ps (λ q is. h q (inr is)))
 
 -- ---- a piece that lies in a range in reach
 
@@ -248,7 +245,7 @@ module _
 
   -- the pieces of the line are pieces of storage
   pub all_fit : (ps : List Piece) → ArePieces ms ps → AllByRecursion Fits ps
-  all_fit ps are = all_of Fits ps (λ p is. (placed p ((are.each p).0 is)).0)
+  all_fit ps are = to_recursion Fits ps (λ p is. (placed p ((are.each p).0 is)).0)
 
   -- the pieces of the line are the atoms
   pub are_atoms : (ps : List Piece) → ArePieces ms ps → AreAtoms l [] f (atoms_of ps)
