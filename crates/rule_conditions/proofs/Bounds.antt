@@ -25,11 +25,11 @@ module _ {T : Type 0} (sees : Sight T) where
     pub below_zero_fires : (z : Word) → op ≡ C.Lt → c.value ≡ 0 → z.width.bytes ≡ 1 → z.value ≡ flag false
         → FiredWith (ComparingOf R.C7) sees (P.Compare op) a c (M.Is (A.Const z))
     below_zero_fires z is zero width value = record {
-      fires = λ ws x sized s. record {
+      fires = λ vs x sized s. record {
         x = x;
         r = E.Const z;
         left = s;
-        rule = subst (λ o. ComparingOf R.C7 ws (E.Compare o x (E.Const c)) (E.Const z)) (sym is)
+        rule = subst (λ o. ComparingOf R.C7 vs.widths (E.Compare o x (E.Const c)) (E.Const z)) (sym is)
             (C7_below_zero x c z zero (record { width = width; value = value }), refl);
         makes = refl;
       };
@@ -38,7 +38,7 @@ module _ {T : Type 0} (sees : Sight T) where
     pub below_one_fires : (z : Word) → op ≡ C.Lt → c.value ≡ 1 → z.width ≡ c.width → z.value ≡ 0 % limit c.width.bytes
         → FiredWith (ComparingOf R.C7) sees (P.Compare op) a c (M.Pair (P.Compare C.Eq) (A.Place a) (A.Const z))
     below_one_fires z is one width value = record {
-      fires = λ ws x sized s. (
+      fires = λ vs x sized s. (
           let word : IsWord c.width.bytes 0 z = record {
             width = ap (λ (w : Width). w.bytes) width;
             value = value ∙ zero-mod (limit c.width.bytes);
@@ -48,7 +48,7 @@ module _ {T : Type 0} (sees : Sight T) where
             x = x;
             r = to;
             left = s;
-            rule = subst (λ o. ComparingOf R.C7 ws (E.Compare o x (E.Const c)) to) (sym is)
+            rule = subst (λ o. ComparingOf R.C7 vs.widths (E.Compare o x (E.Const c)) to) (sym is)
                 (C7_below_one x c z one word, refl);
             makes = (x, (E.Const z, (refl, s, refl)));
           });
@@ -57,13 +57,13 @@ module _ {T : Type 0} (sees : Sight T) where
     pub to_zero_fires : op ≡ C.Le → c.value ≡ 0
         → FiredWith (ComparingOf R.C7) sees (P.Compare op) a c (M.Pair (P.Compare C.Eq) (A.Place a) (A.Const c))
     to_zero_fires is zero = record {
-      fires = λ ws x sized s. (
+      fires = λ vs x sized s. (
           let to : Expr = E.Compare C.Eq x (E.Const c) in
           record {
             x = x;
             r = to;
             left = s;
-            rule = subst (λ o. ComparingOf R.C7 ws (E.Compare o x (E.Const c)) to) (sym is)
+            rule = subst (λ o. ComparingOf R.C7 vs.widths (E.Compare o x (E.Const c)) to) (sym is)
                 (C7_to_zero x c zero, refl);
             makes = (x, (E.Const c, (refl, s, refl)));
           });
@@ -74,13 +74,13 @@ module _ {T : Type 0} (sees : Sight T) where
         → o.width.bytes ≡ 1 → o.value ≡ flag true
         → FiredOfPair (ComparingOf R.C7) sees (P.Compare op) a b (M.Is (A.Const o))
     from_zero_fires op c o is k width value = record {
-      fires = λ ws x y sized s t. record {
+      fires = λ vs x y sized s t. record {
         x = E.Const c;
         y = y;
         r = E.Const o;
-        left = k.0.seen ws x s;
+        left = k.0.seen vs x s;
         right = t;
-        rule = subst (λ q. ComparingOf R.C7 ws (E.Compare q (E.Const c) y) (E.Const o)) (sym is)
+        rule = subst (λ q. ComparingOf R.C7 vs.widths (E.Compare q (E.Const c) y) (E.Const o)) (sym is)
             (C7_from_zero y c o k.1 (record { width = width; value = value }), refl);
         makes = refl;
       };
@@ -90,8 +90,8 @@ module _ {T : Type 0} (sees : Sight T) where
         → o.width.bytes ≡ 1 → o.value ≡ flag is
         → FiredOfPair (ComparingOf R.C8) sees (P.Compare op) a b (M.Is (A.Const o))
     itself_fires op is o same gives width value = record {
-      fires = λ ws x y sized s t. (
-          let h = same.1.1 ws x y s t in
+      fires = λ vs x y sized s t. (
+          let h = same.1.1 vs x y s t in
           record {
             x = same.0;
             y = same.0;
@@ -107,8 +107,8 @@ module _ {T : Type 0} (sees : Sight T) where
         → flag is ≡ of_signed_self op → o.width.bytes ≡ 1 → o.value ≡ flag is
         → FiredOfPair (ComparingOf R.C8) sees (P.SignedCompare op) a b (M.Is (A.Const o))
     signed_itself_fires op is o same gives width value = record {
-      fires = λ ws x y sized s t. (
-          let h = same.1.1 ws x y s t in
+      fires = λ vs x y sized s t. (
+          let h = same.1.1 vs x y s t in
           record {
             x = same.0;
             y = same.0;
@@ -123,12 +123,12 @@ module _ {T : Type 0} (sees : Sight T) where
     pub carried_fires : (op : OverflowOp) (c z : Word) → IsConstant sees b c × (c.value ≡ 0) → z.width.bytes ≡ 1
         → z.value ≡ flag false → FiredOfPair (ComparingOf R.C6) sees (P.Overflow op) a b (M.Is (A.Const z))
     carried_fires op c z k width value = record {
-      fires = λ ws x y sized s t. record {
+      fires = λ vs x y sized s t. record {
         x = x;
         y = E.Const c;
         r = E.Const z;
         left = s;
-        right = k.0.seen ws y t;
+        right = k.0.seen vs y t;
         rule = (C6 op x c z k.1 (record { width = width; value = value }), refl);
         makes = refl;
       };

@@ -26,6 +26,7 @@ use Rattle.rule_views.specs.Rows.{ComparingOf}
 use Rattle.rule_views.specs.Beside.{ConstOn, OnRight, OnLeft, IsBeside, NoArithmetic, IsSum}
 use Rattle.rule_views.specs.Sees.{Sight, IsSized, IsPair, IsConstant, NoConstant, NoAtom, NoZero}
 use Rattle.rule_views.specs.Fires.{FiredWith, FiredOfPair, NoneOfPair}
+use Rattle.rule_views.specs.Variables.{Variables}
 use Rattle.rule_views.proofs.Seen.{pair_only, constant_only}
 use Rattle.rule_views.proofs.Fire as F
 use Rattle.rule_conditions.specs.Twice.{NoneJoined, NoneOfTwo}
@@ -73,35 +74,35 @@ module _ {T : Type 0} (sees : Sight T) where
         → IsPair sees a (P.Arithmetic inner) x y
         → FiredWith (ComparingOf R.C1) sees (P.Compare op) a d (M.Pair (P.Compare op) (A.Place x) (A.Place y))
     difference_fires inner x y q z k i = record {
-      fires = λ ws e sized s. (
-          let o = i.operands ws e s in
+      fires = λ vs e sized s. (
+          let o = i.operands vs e s in
           record {
             x = E.Arithmetic inner o.0 o.1.0;
             r = E.Compare op o.0 o.1.0;
-            left = i.joins ws e o.0 o.1.0 s o.1.1.0 o.1.1.1;
-            rule = difference_rule ws op inner o.0 o.1.0 d q k z;
+            left = i.joins vs e o.0 o.1.0 s o.1.1.0 o.1.1.1;
+            rule = difference_rule vs.widths op inner o.0 o.1.0 d q k z;
             makes = (o.0, (o.1.0, (refl, o.1.1.0, o.1.1.1)));
           });
     }
 
-    alike : (inner : ArithmeticOp) (ws : ℕ → ℕ) (x l : Expr) (c : Word) → ConstOn inner x c l
-        → IsSized ws (E.Compare op l (E.Const d)) → c.width.bytes ≡ d.width.bytes
-    alike inner ws x l c on sized =
-        let w = F.alike_tested ws op l (E.Const d) sized in
-        F.beside_wide ws inner x c l w.0 on w.1.0 ∙ sym (F.const_wide ws d w.0 w.1.1)
+    alike : (inner : ArithmeticOp) (vs : Variables) (x l : Expr) (c : Word) → ConstOn inner x c l
+        → IsSized vs.widths (E.Compare op l (E.Const d)) → c.width.bytes ≡ d.width.bytes
+    alike inner vs x l c on sized =
+        let w = F.alike_tested vs.widths op l (E.Const d) sized in
+        F.beside_wide vs.widths inner x c l w.0 on w.1.0 ∙ sym (F.const_wide vs.widths d w.0 w.1.1)
 
     pub moved_fires : (inner : ArithmeticOp) (x : T) (c e : Word) → IsEquality op → IsSum inner
         → IsBeside sees a inner x c → (c.width.bytes ≡ d.width.bytes → Moves inner c d e)
         → FiredWith (ComparingOf R.C2) sees (P.Compare op) a d (M.Pair (P.Compare op) (A.Place x) (A.Const e))
     moved_fires inner x c e q k beside m = record {
-      fires = λ ws u sized s. (
-          let h = beside.seen ws u s in
-          let wide = alike inner ws h.x h.l c h.on (sized h.l h.seen) in
+      fires = λ vs u sized s. (
+          let h = beside.seen vs u s in
+          let wide = alike inner vs h.x h.l c h.on (sized h.l h.seen) in
           record {
             x = h.l;
             r = E.Compare op h.x (E.Const e);
             left = h.seen;
-            rule = moved_rule ws op inner h.x c d e h.l q k h.on (m wide);
+            rule = moved_rule vs.widths op inner h.x c d e h.l q k h.on (m wide);
             makes = (h.x, (E.Const e, (refl, h.letter, refl)));
           });
     }
@@ -109,12 +110,12 @@ module _ {T : Type 0} (sees : Sight T) where
   -- ---- none matches
 
   pub not_arithmetic : (at : T) → NoArithmetic sees at → NoDifference sees at
-  not_arithmetic at n ws op x y k s = n ws op x y s
+  not_arithmetic at n vs op x y k s = n vs op x y s
 
   pub no_difference : (at x y : T) (inner : ArithmeticOp) → IsPair sees at (P.Arithmetic inner) x y
       → (Cancels inner → ⊥) → NoDifference sees at
-  no_difference at x y inner i n ws op s t k h =
-      let e = pair_only sees at x y (P.Arithmetic inner) i ws (P.Arithmetic op) s t h in
+  no_difference at x y inner i n vs op s t k h =
+      let e = pair_only sees at x y (P.Arithmetic inner) i vs (P.Arithmetic op) s t h in
       let node : P.Arithmetic op ≡ P.Arithmetic inner = e.0 in
       let same : op ≡ inner = cc in
       n (subst Cancels same k)
@@ -122,11 +123,11 @@ module _ {T : Type 0} (sees : Sight T) where
   module _ (op : CompareOp) (a b : T) where
     pub none_at_constant : (c : Word) → IsConstant sees b c → NoneComparedBy sees op a c → NoneComparedWith sees op a b
     none_at_constant c k n = record {
-      none = λ ws d s. subst (NoneComparedBy sees op a) (sym (constant_only sees b c k ws d s)) n;
+      none = λ vs d s. subst (NoneComparedBy sees op a) (sym (constant_only sees b c k vs d s)) n;
     }
 
     pub none_at_other : NoConstant sees b → NoneComparedWith sees op a b
-    none_at_other n = record { none = λ ws c s. absurd (n ws c s) }
+    none_at_other n = record { none = λ vs c s. absurd (n vs c s) }
 
     pub constant_fires : (c : Word) (row : Row) (made : Made T) → IsConstant sees b c
         → FiredWith (ComparingOf row) sees (P.Compare op) a c made
@@ -140,33 +141,33 @@ module _ {T : Type 0} (sees : Sight T) where
     carried : (op : OverflowOp) → p ≡ P.Overflow op → NoZero sees b
     joined : (op : ArithmeticOp) → p ≡ P.Arithmetic op → NoneOfTwo sees op a b
 
-  module _ (p : Pair) (a b : T) (n : NoneAtAll p a b) (ws : ℕ → ℕ) (x y : Expr) (s : sees ws a x) (t : sees ws b y) where
-    at : (q : Pair) (u v : Expr) → pair_node q u v ≡ pair_node p x y → (q ≡ p) × (sees ws a u × sees ws b v)
-    at = F.two_seen sees p a b ws x y s t
+  module _ (p : Pair) (a b : T) (n : NoneAtAll p a b) (vs : Variables) (x y : Expr) (s : sees vs a x) (t : sees vs b y) where
+    at : (q : Pair) (u v : Expr) → pair_node q u v ≡ pair_node p x y → (q ≡ p) × (sees vs a u × sees vs b v)
+    at = F.two_seen sees p a b vs x y s t
 
     by : (op : CompareOp) (u : Expr) (c : Word) → E.Compare op u (E.Const c) ≡ pair_node p x y
-        → NoneComparedBy sees op a c × sees ws a u
+        → NoneComparedBy sees op a c × sees vs a u
     by op u c is =
         let e = at (P.Compare op) u (E.Const c) is in
-        ((n.compared op (sym e.0)).constant.none ws c e.1.1, e.1.0)
+        ((n.compared op (sym e.0)).constant.none vs c e.1.1, e.1.0)
 
     moved : (op : CompareOp) (inner : ArithmeticOp) (u l : Expr) (c d : Word) → IsEquality op → IsSum inner
         → ConstOn inner u c l → E.Compare op l (E.Const d) ≡ pair_node p x y → ⊥
-    moved op inner u l c d q k on is = let e = by op l d is in e.0.sums q ws inner u c l k on e.1
+    moved op inner u l c d q k on is = let e = by op l d is in e.0.sums q vs inner u c l k on e.1
 
     less : (order to : Pair) (l u v : Expr) → E.Arithmetic O.Or l (pair_node order u v) ≡ pair_node p x y
-        → (sees ws a l → sees ws b (pair_node order u v) → NoneJoined sees C.Eq a b → ⊥) → ⊥
+        → (sees vs a l → sees vs b (pair_node order u v) → NoneJoined sees C.Eq a b → ⊥) → ⊥
     less order to l u v is f =
         let e = at (P.Arithmetic O.Or) l (pair_node order u v) is in
         f e.1.0 e.1.1 ((n.joined O.Or (sym e.0)).less refl)
 
     at_most : (order to : Pair) (l u v : Expr) → E.Arithmetic O.And l (pair_node order u v) ≡ pair_node p x y
-        → (sees ws a l → sees ws b (pair_node order u v) → NoneJoined sees C.Ne a b → ⊥) → ⊥
+        → (sees vs a l → sees vs b (pair_node order u v) → NoneJoined sees C.Ne a b → ⊥) → ⊥
     at_most order to l u v is f =
         let e = at (P.Arithmetic O.And) l (pair_node order u v) is in
         f e.1.0 e.1.1 ((n.joined O.And (sym e.0)).at_most refl)
 
-    same : (q : Pair) (u : Expr) → pair_node q u u ≡ pair_node p x y → (q ≡ p) × (sees ws a u × sees ws b u)
+    same : (q : Pair) (u : Expr) → pair_node q u u ≡ pair_node p x y → (q ≡ p) × (sees vs a u × sees vs b u)
     same q u is = at q u u is
 
     abbrev lt : Pair
@@ -183,51 +184,51 @@ module _ {T : Type 0} (sees : Sight T) where
 
     no_comparing : (l r : Expr) → Comparing l r → l ≡ pair_node p x y → ⊥
     no_comparing l r (C1_sub op u v c q z) is =
-        let e = by op (E.Arithmetic O.Sub u v) c is in e.0.differs q z ws O.Sub u v tt e.1
+        let e = by op (E.Arithmetic O.Sub u v) c is in e.0.differs q z vs O.Sub u v tt e.1
     no_comparing l r (C1_xor op u v c q z) is =
-        let e = by op (E.Arithmetic O.Xor u v) c is in e.0.differs q z ws O.Xor u v tt e.1
+        let e = by op (E.Arithmetic O.Xor u v) c is in e.0.differs q z vs O.Xor u v tt e.1
     no_comparing l r (C2_add op u c d e q f) is = moved op O.Add u _ c d q tt (OnRight O.Add u c) is
     no_comparing l r (C2_add_over op u c d e q f) is = moved op O.Add u _ c d q tt (OnLeft O.Add u c tt) is
     no_comparing l r (C2_sub op u c d e q f) is = moved op O.Sub u _ c d q tt (OnRight O.Sub u c) is
     no_comparing l r (C3_ne u v c g h z) is =
         let e = at (P.Compare C.Ne) _ (E.Overflow V.SBorrow u v) is in
-        (n.compared C.Ne (sym e.0)).borrow tt ws u v c g h z e.1.0 e.1.1
+        (n.compared C.Ne (sym e.0)).borrow tt vs u v c g h z e.1.0 e.1.1
     no_comparing l r (C3_eq u v c g h z) is =
         let e = at (P.Compare C.Eq) _ (E.Overflow V.SBorrow u v) is in
-        (n.compared C.Eq (sym e.0)).borrow tt ws u v c g h z e.1.0 e.1.1
+        (n.compared C.Eq (sym e.0)).borrow tt vs u v c g h z e.1.0 e.1.1
     no_comparing l r (C4_signed u v g h) is =
-        less slt sle (E.Compare C.Eq u v) u v is (λ i j k. k ws slt sle u v refl g h (inl i) j)
+        less slt sle (E.Compare C.Eq u v) u v is (λ i j k. k vs slt sle u v refl g h (inl i) j)
     no_comparing l r (C4_signed_over u v g h) is =
-        less slt sle (E.Compare C.Eq v u) u v is (λ i j k. k ws slt sle u v refl g h (inr i) j)
+        less slt sle (E.Compare C.Eq v u) u v is (λ i j k. k vs slt sle u v refl g h (inr i) j)
     no_comparing l r (C4 u v g h) is =
-        less lt le (E.Compare C.Eq u v) u v is (λ i j k. k ws lt le u v refl g h (inl i) j)
+        less lt le (E.Compare C.Eq u v) u v is (λ i j k. k vs lt le u v refl g h (inl i) j)
     no_comparing l r (C4_over u v g h) is =
-        less lt le (E.Compare C.Eq v u) u v is (λ i j k. k ws lt le u v refl g h (inr i) j)
+        less lt le (E.Compare C.Eq v u) u v is (λ i j k. k vs lt le u v refl g h (inr i) j)
     no_comparing l r (C5_signed u v g h) is =
-        at_most sle slt (E.Compare C.Ne u v) u v is (λ i j k. k ws sle slt u v refl g h (inl i) j)
+        at_most sle slt (E.Compare C.Ne u v) u v is (λ i j k. k vs sle slt u v refl g h (inl i) j)
     no_comparing l r (C5_signed_over u v g h) is =
-        at_most sle slt (E.Compare C.Ne v u) u v is (λ i j k. k ws sle slt u v refl g h (inr i) j)
+        at_most sle slt (E.Compare C.Ne v u) u v is (λ i j k. k vs sle slt u v refl g h (inr i) j)
     no_comparing l r (C5 u v g h) is =
-        at_most le lt (E.Compare C.Ne u v) u v is (λ i j k. k ws le lt u v refl g h (inl i) j)
+        at_most le lt (E.Compare C.Ne u v) u v is (λ i j k. k vs le lt u v refl g h (inl i) j)
     no_comparing l r (C5_over u v g h) is =
-        at_most le lt (E.Compare C.Ne v u) u v is (λ i j k. k ws le lt u v refl g h (inr i) j)
+        at_most le lt (E.Compare C.Ne v u) u v is (λ i j k. k vs le lt u v refl g h (inr i) j)
     no_comparing l r (C6 op u c z v w) is =
-        let e = at (P.Overflow op) u (E.Const c) is in n.carried op (sym e.0) ws c v e.1.1
+        let e = at (P.Overflow op) u (E.Const c) is in n.carried op (sym e.0) vs c v e.1.1
     no_comparing l r (C7_below_zero u c z v w) is = (by C.Lt u c is).0.below_zero refl v
     no_comparing l r (C7_from_zero u c o v w) is =
         let e = at (P.Compare C.Le) (E.Const c) u is in
-        (n.compared C.Le (sym e.0)).from_zero refl ws c v e.1.0
+        (n.compared C.Le (sym e.0)).from_zero refl vs c v e.1.0
     no_comparing l r (C7_below_one u c z v w) is = (by C.Lt u c is).0.below_one refl v
     no_comparing l r (C7_to_zero u c v) is = (by C.Le u c is).0.to_zero refl v
     no_comparing l r (C8 op u o g w) is =
-        let e = at (P.Compare op) u u is in (n.compared op (sym e.0)).same ws u g e.1.0 e.1.1
+        let e = at (P.Compare op) u u is in (n.compared op (sym e.0)).same vs u g e.1.0 e.1.1
     no_comparing l r (C8_signed op u o g w) is =
-        let e = at (P.SignedCompare op) u u is in n.signed op (sym e.0) ws u g e.1.0 e.1.1
+        let e = at (P.SignedCompare op) u u is in n.signed op (sym e.0) vs u g e.1.0 e.1.1
 
   module _ (p : Pair) (a b : T) where
     none : NoneAtAll p a b → NoneOfPair (λ ws. Comparing) sees p a b
     none n = record {
-      none = λ ws x y r sized rule s t. no_comparing p a b n ws x y s t (pair_node p x y) r rule refl;
+      none = λ vs x y r sized rule s t. no_comparing p a b n vs x y s t (pair_node p x y) r rule refl;
     }
 
     pub none_compared : (op : CompareOp) → p ≡ P.Compare op → NoneCompared sees op a b

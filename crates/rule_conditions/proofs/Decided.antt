@@ -24,6 +24,7 @@ use Rattle.rule_views.specs.Rows.{DecidingOf}
 use Rattle.rule_views.specs.Makes.{Makes}
 use Rattle.rule_views.specs.Sees.{Sight, IsPair, NoPair, IsConstant, NoConstant}
 use Rattle.rule_views.specs.Fires.{FiredWith, FiredOfPair, NoneOfPair}
+use Rattle.rule_views.specs.Variables.{Variables}
 use Rattle.rule_views.proofs.Seen.{pair_only}
 use Rattle.rule_views.proofs.Fire.{two_seen, with_seen, with_constant}
 use Rattle.rule_conditions.specs.Tests.{Turns, Repeats, compare_negated, signed_negated, NoComparison, IsNegation, NoTest, IsTestAt, NoneDecided}
@@ -79,30 +80,30 @@ module _ {T : Type 0} (sees : Sight T) where
   -- ---- negations
 
   abbrev Turning : Pair → T → T → Made T → Type 0
-  Turning p x y made = (ws : ℕ → ℕ) (s t : Expr) → sees ws x s → sees ws y t
-      → (n : Expr) × (Negated (pair_node p s t) n × Makes (sees ws) made n)
+  Turning p x y made = (vs : Variables) (s t : Expr) → sees vs x s → sees vs y t
+      → (n : Expr) × (Negated (pair_node p s t) n × Makes (sees vs) made n)
 
   compare_turns : (op : CompareOp) (x y : T) → Turning (P.Compare op) x y (compare_negated op x y)
-  compare_turns C.Eq x y ws s t p q = (E.Compare C.Ne s t, (L.Eq s t, (s, (t, (refl, p, q)))))
-  compare_turns C.Ne x y ws s t p q = (E.Compare C.Eq s t, (L.Ne s t, (s, (t, (refl, p, q)))))
-  compare_turns C.Lt x y ws s t p q = (E.Compare C.Le t s, (L.Lt s t, (t, (s, (refl, q, p)))))
-  compare_turns C.Le x y ws s t p q = (E.Compare C.Lt t s, (L.Le s t, (t, (s, (refl, q, p)))))
+  compare_turns C.Eq x y vs s t p q = (E.Compare C.Ne s t, (L.Eq s t, (s, (t, (refl, p, q)))))
+  compare_turns C.Ne x y vs s t p q = (E.Compare C.Eq s t, (L.Ne s t, (s, (t, (refl, p, q)))))
+  compare_turns C.Lt x y vs s t p q = (E.Compare C.Le t s, (L.Lt s t, (t, (s, (refl, q, p)))))
+  compare_turns C.Le x y vs s t p q = (E.Compare C.Lt t s, (L.Le s t, (t, (s, (refl, q, p)))))
 
   signed_turns : (op : SignedCompareOp) (x y : T) → Turning (P.SignedCompare op) x y (signed_negated op x y)
-  signed_turns I.SLt x y ws s t p q = (E.SignedCompare I.SLe t s, (L.SLt s t, (t, (s, (refl, q, p)))))
-  signed_turns I.SLe x y ws s t p q = (E.SignedCompare I.SLt t s, (L.SLe s t, (t, (s, (refl, q, p)))))
+  signed_turns I.SLt x y vs s t p q = (E.SignedCompare I.SLe t s, (L.SLt s t, (t, (s, (refl, q, p)))))
+  signed_turns I.SLe x y vs s t p q = (E.SignedCompare I.SLt t s, (L.SLe s t, (t, (s, (refl, q, p)))))
 
   module _ (at x y : T) (node : Pair) (i : IsPair sees at node x y) where
     is_negation : (made : Made T) → Turning node x y made → IsNegation sees at made
     is_negation made turns = record {
-      seen = λ ws e s. (
-          let o = i.operands ws e s in
-          let n = turns ws o.0 o.1.0 o.1.1.0 o.1.1.1 in
+      seen = λ vs e s. (
+          let o = i.operands vs e s in
+          let n = turns vs o.0 o.1.0 o.1.1.0 o.1.1.1 in
           record {
             k = pair_node node o.0 o.1.0;
             n = n.0;
             negated = n.1.0;
-            seen = i.joins ws e o.0 o.1.0 s o.1.1.0 o.1.1.1;
+            seen = i.joins vs e o.0 o.1.0 s o.1.1.0 o.1.1.1;
             makes = n.1.1;
           });
     }
@@ -120,25 +121,25 @@ module _ {T : Type 0} (sees : Sight T) where
         (subst (λ p. Turning p x y made) (sym is)
         (subst (Turning (P.SignedCompare op) x y) (sym same) (signed_turns op x y)))
 
-    node_is : (ws : ℕ → ℕ) (p : Pair) (u v : Expr) → sees ws at (pair_node p u v) → node ≡ p
-    node_is ws p u v s = sym (pair_only sees at x y node i ws p u v s).0
+    node_is : (vs : Variables) (p : Pair) (u v : Expr) → sees vs at (pair_node p u v) → node ≡ p
+    node_is vs p u v s = sym (pair_only sees at x y node i vs p u v s).0
 
     pub no_comparison : ((op : CompareOp) → node ≡ P.Compare op → ⊥)
         → ((op : SignedCompareOp) → node ≡ P.SignedCompare op → ⊥) → NoComparison sees at
-    no_comparison n m ws k r (L.Eq u v) s = n C.Eq (node_is ws (P.Compare C.Eq) u v s)
-    no_comparison n m ws k r (L.Ne u v) s = n C.Ne (node_is ws (P.Compare C.Ne) u v s)
-    no_comparison n m ws k r (L.Lt u v) s = n C.Lt (node_is ws (P.Compare C.Lt) u v s)
-    no_comparison n m ws k r (L.Le u v) s = n C.Le (node_is ws (P.Compare C.Le) u v s)
-    no_comparison n m ws k r (L.SLt u v) s = m I.SLt (node_is ws (P.SignedCompare I.SLt) u v s)
-    no_comparison n m ws k r (L.SLe u v) s = m I.SLe (node_is ws (P.SignedCompare I.SLe) u v s)
+    no_comparison n m vs k r (L.Eq u v) s = n C.Eq (node_is vs (P.Compare C.Eq) u v s)
+    no_comparison n m vs k r (L.Ne u v) s = n C.Ne (node_is vs (P.Compare C.Ne) u v s)
+    no_comparison n m vs k r (L.Lt u v) s = n C.Lt (node_is vs (P.Compare C.Lt) u v s)
+    no_comparison n m vs k r (L.Le u v) s = n C.Le (node_is vs (P.Compare C.Le) u v s)
+    no_comparison n m vs k r (L.SLt u v) s = m I.SLt (node_is vs (P.SignedCompare I.SLt) u v s)
+    no_comparison n m vs k r (L.SLe u v) s = m I.SLe (node_is vs (P.SignedCompare I.SLe) u v s)
 
     -- ---- tests
 
     is_test_at : ((u v : Expr) → IsTest (pair_node node u v)) → IsTestAt sees at
     is_test_at test = record {
-      seen = λ ws e s. (
-          let o = i.operands ws e s in
-          (pair_node node o.0 o.1.0, (test o.0 o.1.0, i.joins ws e o.0 o.1.0 s o.1.1.0 o.1.1.1)));
+      seen = λ vs e s. (
+          let o = i.operands vs e s in
+          (pair_node node o.0 o.1.0, (test o.0 o.1.0, i.joins vs e o.0 o.1.0 s o.1.1.0 o.1.1.1)));
     }
 
     pub compare_test : (op : CompareOp) → node ≡ P.Compare op → IsTestAt sees at
@@ -153,63 +154,63 @@ module _ {T : Type 0} (sees : Sight T) where
     pub no_test : ((op : CompareOp) → node ≡ P.Compare op → ⊥)
         → ((op : SignedCompareOp) → node ≡ P.SignedCompare op → ⊥)
         → ((op : OverflowOp) → node ≡ P.Overflow op → ⊥) → NoTest sees at
-    no_test n m k ws b (L.Compare op u v) s = n op (node_is ws (P.Compare op) u v s)
-    no_test n m k ws b (L.SignedCompare op u v) s = m op (node_is ws (P.SignedCompare op) u v s)
-    no_test n m k ws b (L.Overflow op u v) s = k op (node_is ws (P.Overflow op) u v s)
+    no_test n m k vs b (L.Compare op u v) s = n op (node_is vs (P.Compare op) u v s)
+    no_test n m k vs b (L.SignedCompare op u v) s = m op (node_is vs (P.SignedCompare op) u v s)
+    no_test n m k vs b (L.Overflow op u v) s = k op (node_is vs (P.Overflow op) u v s)
 
   pub no_pair_compared : (at : T) → NoPair sees at → NoComparison sees at
-  no_pair_compared at n ws k r (L.Eq u v) s = n ws (P.Compare C.Eq) u v s
-  no_pair_compared at n ws k r (L.Ne u v) s = n ws (P.Compare C.Ne) u v s
-  no_pair_compared at n ws k r (L.Lt u v) s = n ws (P.Compare C.Lt) u v s
-  no_pair_compared at n ws k r (L.Le u v) s = n ws (P.Compare C.Le) u v s
-  no_pair_compared at n ws k r (L.SLt u v) s = n ws (P.SignedCompare I.SLt) u v s
-  no_pair_compared at n ws k r (L.SLe u v) s = n ws (P.SignedCompare I.SLe) u v s
+  no_pair_compared at n vs k r (L.Eq u v) s = n vs (P.Compare C.Eq) u v s
+  no_pair_compared at n vs k r (L.Ne u v) s = n vs (P.Compare C.Ne) u v s
+  no_pair_compared at n vs k r (L.Lt u v) s = n vs (P.Compare C.Lt) u v s
+  no_pair_compared at n vs k r (L.Le u v) s = n vs (P.Compare C.Le) u v s
+  no_pair_compared at n vs k r (L.SLt u v) s = n vs (P.SignedCompare I.SLt) u v s
+  no_pair_compared at n vs k r (L.SLe u v) s = n vs (P.SignedCompare I.SLe) u v s
 
   pub no_pair_tested : (at : T) → NoPair sees at → NoTest sees at
-  no_pair_tested at n ws b (L.Compare op u v) s = n ws (P.Compare op) u v s
-  no_pair_tested at n ws b (L.SignedCompare op u v) s = n ws (P.SignedCompare op) u v s
-  no_pair_tested at n ws b (L.Overflow op u v) s = n ws (P.Overflow op) u v s
+  no_pair_tested at n vs b (L.Compare op u v) s = n vs (P.Compare op) u v s
+  no_pair_tested at n vs b (L.SignedCompare op u v) s = n vs (P.SignedCompare op) u v s
+  no_pair_tested at n vs b (L.Overflow op u v) s = n vs (P.Overflow op) u v s
 
   -- ---- what functions answer
 
   module _ (p : Pair) (a : T) (c : Word) where
     pub turned_fires : (made : Made T) → Turns p c → IsNegation sees a made → FiredWith (DecidingOf R.B1) sees p a c made
     turned_fires made h negation = record {
-      fires = λ ws x sized s. (
-          let n = negation.seen ws x s in
-          record { x = n.k; r = n.n; left = n.seen; rule = turned_rule ws p n.k n.n c h n.negated; makes = n.makes });
+      fires = λ vs x sized s. (
+          let n = negation.seen vs x s in
+          record { x = n.k; r = n.n; left = n.seen; rule = turned_rule vs.widths p n.k n.n c h n.negated; makes = n.makes });
     }
 
     pub repeated_fires : Repeats p c → IsTestAt sees a → FiredWith (DecidingOf R.B2) sees p a c (M.Is (A.Place a))
     repeated_fires h test = record {
-      fires = λ ws x sized s. (
-          let b = test.seen ws x s in
-          record { x = b.0; r = b.0; left = b.1.1; rule = repeated_rule ws p b.0 c h b.1.0; makes = b.1.1 });
+      fires = λ vs x sized s. (
+          let b = test.seen vs x s in
+          record { x = b.0; r = b.0; left = b.1.1; rule = repeated_rule vs.widths p b.0 c h b.1.0; makes = b.1.1 });
     }
 
   module _ (p : Pair) (a b : T) where
     pub no_constant : NoConstant sees b → NoneOfPair (λ ws. Deciding) sees p a b
     no_constant n = record {
-      none = λ ws x y r sized rule s t. (
+      none = λ vs x y r sized rule s t. (
           elim (decision (pair_node p x y) r rule) [
-            | Turned q k m d h g is ↦ n ws d (two_seen sees p a b ws x y s t q k (E.Const d) is).1.1
-            | Repeated q k d h g is ↦ n ws d (two_seen sees p a b ws x y s t q k (E.Const d) is).1.1
+            | Turned q k m d h g is ↦ n vs d (two_seen sees p a b vs x y s t q k (E.Const d) is).1.1
+            | Repeated q k d h g is ↦ n vs d (two_seen sees p a b vs x y s t q k (E.Const d) is).1.1
           ]);
     }
 
     module _ (c : Word) (k : IsConstant sees b c) where
       pub none_decided : NoneDecided sees p a c → NoneOfPair (λ ws. Deciding) sees p a b
       none_decided n = record {
-        none = λ ws x y r sized rule s t. (
+        none = λ vs x y r sized rule s t. (
             elim (decision (pair_node p x y) r rule) [
               | Turned q u m d h g is ↦ (
-                  let e = with_seen sees p a b c k ws x y s t q u d is in
+                  let e = with_seen sees p a b c k vs x y s t q u d is in
                   let turns : Turns p c = subst (Turns p) e.word (subst (λ o. Turns o d) e.node h) in
-                  n.turns turns ws u m g e.letter)
+                  n.turns turns vs u m g e.letter)
               | Repeated q u d h g is ↦ (
-                  let e = with_seen sees p a b c k ws x y s t q u d is in
+                  let e = with_seen sees p a b c k vs x y s t q u d is in
                   let repeats : Repeats p c = subst (Repeats p) e.word (subst (λ o. Repeats o d) e.node h) in
-                  n.repeats repeats ws u g e.letter)
+                  n.repeats repeats vs u g e.letter)
             ]);
       }
 

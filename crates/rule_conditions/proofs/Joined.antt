@@ -20,6 +20,7 @@ use Rattle.rule_views.specs.Nodes.{pair_node}
 use Rattle.rule_views.specs.Rows.{ComparingOf}
 use Rattle.rule_views.specs.Sees.{Sight, IsPair, NoPair, NoNode, IsSame}
 use Rattle.rule_views.specs.Fires.{FiredOfPair}
+use Rattle.rule_views.specs.Variables.{Variables}
 use Rattle.rule_views.proofs.Seen.{pair_only}
 use Rattle.rule_conditions.specs.Twice.{Joins, AreTwo, NoneTwo, AreSame, NoneSame, NoneJoined, IsJoined}
 
@@ -76,54 +77,54 @@ module _ {T : Type 0} (sees : Sight T) (x y u v : T) where
 
   pub crossed_only : (p q : Bool) → NoneTwo sees x y u v (IsTrue p) → p ≡ false → NoneTwo sees x y v u (IsTrue q)
       → NoneSame sees x y u v (IsTrue q)
-  crossed_only p q first differ second ws s t one two left right same =
-      ⊎_elim (λ (h : sees ws x s × sees ws y t).
-      let shown : p ≡ true = first ws s t one two left right h.0 h.1 in absurd cc)
-      (λ (h : sees ws x t × sees ws y s). second ws t s two one right left h.0 h.1) same
+  crossed_only p q first differ second vs s t one two left right same =
+      ⊎_elim (λ (h : sees vs x s × sees vs y t).
+      let shown : p ≡ true = first vs s t one two left right h.0 h.1 in absurd cc)
+      (λ (h : sees vs x t × sees vs y s). second vs t s two one right left h.0 h.1) same
 
 module _ {T : Type 0} (sees : Sight T) (equality : CompareOp) (a b : T) where
   -- ---- none matches
 
   pub no_equality : NoNode sees a (P.Compare equality) → NoneJoined sees equality a b
-  no_equality n ws order to x y j one two left right =
-      ⊎_elim (λ (l : sees ws a (E.Compare equality x y)). n ws x y l)
-      (λ (l : sees ws a (E.Compare equality y x)). n ws y x l) left
+  no_equality n vs order to x y j one two left right =
+      ⊎_elim (λ (l : sees vs a (E.Compare equality x y)). n vs x y l)
+      (λ (l : sees vs a (E.Compare equality y x)). n vs y x l) left
 
   pub no_order : NoPair sees b → NoneJoined sees equality a b
-  no_order n ws order to x y j one two left right = n ws order x y right
+  no_order n vs order to x y j one two left right = n vs order x y right
 
   pub other_order : (u v : T) (order : Pair) → IsPair sees b order u v → ((to : Pair) → Joins equality order to → ⊥)
       → NoneJoined sees equality a b
-  other_order u v order i n ws o to x y j one two left right =
-      let e = pair_only sees b u v order i ws o x y right in
+  other_order u v order i n vs o to x y j one two left right =
+      let e = pair_only sees b u v order i vs o x y right in
       n to (subst (λ k. Joins equality k to) e.0 j)
 
   module _ (x y u v : T)
       (order : Pair)
       (i : IsPair sees a (P.Compare equality) x y)
       (j : IsPair sees b order u v) where
-    equal_seen : (ws : ℕ → ℕ) (s t : Expr) → sees ws a (E.Compare equality s t) → sees ws x s × sees ws y t
-    equal_seen ws s t h = (pair_only sees a x y (P.Compare equality) i ws (P.Compare equality) s t h).1
+    equal_seen : (vs : Variables) (s t : Expr) → sees vs a (E.Compare equality s t) → sees vs x s × sees vs y t
+    equal_seen vs s t h = (pair_only sees a x y (P.Compare equality) i vs (P.Compare equality) s t h).1
 
     pub other_letters : (is : Bool) → NoneSame sees x y u v (IsTrue is) → is ≡ false → NoneJoined sees equality a b
-    other_letters is n differ ws o to s t k one two left right =
-        let e = pair_only sees b u v order j ws o s t right in
-        let same : (sees ws x s × sees ws y t) ⊎ (sees ws x t × sees ws y s) =
-        ⊎_elim (λ (l : sees ws a (E.Compare equality s t)). inl (equal_seen ws s t l))
-        (λ (l : sees ws a (E.Compare equality t s)). inr (equal_seen ws t s l)) left in
-        let shown : is ≡ true = n ws s t one two e.1.0 e.1.1 same in absurd cc
+    other_letters is n differ vs o to s t k one two left right =
+        let e = pair_only sees b u v order j vs o s t right in
+        let same : (sees vs x s × sees vs y t) ⊎ (sees vs x t × sees vs y s) =
+        ⊎_elim (λ (l : sees vs a (E.Compare equality s t)). inl (equal_seen vs s t l))
+        (λ (l : sees vs a (E.Compare equality t s)). inr (equal_seen vs t s l)) left in
+        let shown : is ≡ true = n vs s t one two e.1.0 e.1.1 same in absurd cc
 
     -- ---- an answer
 
     pub is_joined : (to : Pair) → Joins equality order to → AreSame sees x y u v
         → IsJoined sees equality a b (M.Pair to (A.Place u) (A.Place v))
     is_joined to k same = record {
-      seen = λ ws e f s t. (
-          let m = i.operands ws e s in
-          let n = j.operands ws f t in
+      seen = λ vs e f s t. (
+          let m = i.operands vs e s in
+          let n = j.operands vs f t in
           ⊎_elim (λ (p : IsSame sees x u × IsSame sees y v).
-          let g = p.0.1.1 ws m.0 n.0 m.1.1.0 n.1.1.0 in
-          let h = p.1.1.1 ws m.1.0 n.1.0 m.1.1.1 n.1.1.1 in
+          let g = p.0.1.1 vs m.0 n.0 m.1.1.0 n.1.1.0 in
+          let h = p.1.1.1 vs m.1.0 n.1.0 m.1.1.1 n.1.1.1 in
           record {
             order = order;
             to = to;
@@ -132,13 +133,13 @@ module _ {T : Type 0} (sees : Sight T) (equality : CompareOp) (a b : T) where
             joins = k;
             one = p.0.1.0;
             two = p.1.1.0;
-            left = inl (i.joins ws e p.0.0 p.1.0 s g.0 h.0);
-            right = j.joins ws f p.0.0 p.1.0 t g.1 h.1;
+            left = inl (i.joins vs e p.0.0 p.1.0 s g.0 h.0);
+            right = j.joins vs f p.0.0 p.1.0 t g.1 h.1;
             makes = (p.0.0, (p.1.0, (refl, g.1, h.1)));
           })
           (λ (p : IsSame sees x v × IsSame sees y u).
-          let g = p.0.1.1 ws m.0 n.1.0 m.1.1.0 n.1.1.1 in
-          let h = p.1.1.1 ws m.1.0 n.0 m.1.1.1 n.1.1.0 in
+          let g = p.0.1.1 vs m.0 n.1.0 m.1.1.0 n.1.1.1 in
+          let h = p.1.1.1 vs m.1.0 n.0 m.1.1.1 n.1.1.0 in
           record {
             order = order;
             to = to;
@@ -147,8 +148,8 @@ module _ {T : Type 0} (sees : Sight T) (equality : CompareOp) (a b : T) where
             joins = k;
             one = p.1.1.0;
             two = p.0.1.0;
-            left = inr (i.joins ws e p.0.0 p.1.0 s g.0 h.0);
-            right = j.joins ws f p.1.0 p.0.0 t h.1 g.1;
+            left = inr (i.joins vs e p.0.0 p.1.0 s g.0 h.0);
+            right = j.joins vs f p.1.0 p.0.0 t h.1 g.1;
             makes = (p.1.0, (p.0.0, (refl, h.1, g.1)));
           })
           same);
@@ -162,15 +163,15 @@ module _ {T : Type 0} (sees : Sight T) (op : ArithmeticOp) (a b : T) (made : Mad
       × ComparingOf row ws (E.Arithmetic outer (E.Compare equality y x) (pair_node order x y)) (pair_node to x y))
       → IsJoined sees equality a b made → FiredOfPair (ComparingOf row) sees (P.Arithmetic op) a b made
   fires_by row outer equality is rule joined = record {
-    fires = λ ws e f sized s t. (
-        let n = joined.seen ws e f s t in
-        let r = rule ws n.x n.y n.one n.two n.order n.to n.joins in
+    fires = λ vs e f sized s t. (
+        let n = joined.seen vs e f s t in
+        let r = rule vs.widths n.x n.y n.one n.two n.order n.to n.joins in
         let right : Expr = pair_node n.order n.x n.y in
         let to : Expr = pair_node n.to n.x n.y in
-        let at : (l : Expr) → ComparingOf row ws (E.Arithmetic outer l right) to
-        → ComparingOf row ws (E.Arithmetic op l right) to =
-        λ l h. subst (λ o. ComparingOf row ws (E.Arithmetic o l right) to) (sym is) h in
-        ⊎_elim (λ (l : sees ws a (E.Compare equality n.x n.y)). record {
+        let at : (l : Expr) → ComparingOf row vs.widths (E.Arithmetic outer l right) to
+        → ComparingOf row vs.widths (E.Arithmetic op l right) to =
+        λ l h. subst (λ o. ComparingOf row vs.widths (E.Arithmetic o l right) to) (sym is) h in
+        ⊎_elim (λ (l : sees vs a (E.Compare equality n.x n.y)). record {
           x = E.Compare equality n.x n.y;
           y = right;
           r = to;
@@ -179,7 +180,7 @@ module _ {T : Type 0} (sees : Sight T) (op : ArithmeticOp) (a b : T) (made : Mad
           rule = at (E.Compare equality n.x n.y) r.0;
           makes = n.makes;
         })
-        (λ (l : sees ws a (E.Compare equality n.y n.x)). record {
+        (λ (l : sees vs a (E.Compare equality n.y n.x)). record {
           x = E.Compare equality n.y n.x;
           y = right;
           r = to;

@@ -1,5 +1,5 @@
 -- Comparisons: no left side of a rule is seen.
-use Rattle.std.specs.Prelude.{◌≡◌, ℕ}
+use Rattle.std.specs.Prelude.{◌≡◌}
 use Rattle.bits_core.specs.declared.word.Word.{Word}
 use Rattle.cmeaning.specs.declared.tree.ArithmeticOp.{ArithmeticOp}
 use Rattle.cmeaning.specs.declared.tree.ArithmeticOp.TheVariants as O
@@ -10,11 +10,12 @@ use Rattle.cmeaning.specs.declared.tree.Expr.TheVariants as E
 use Rattle.rules.specs.Letters.{Cancels, Folds, IsEquality}
 use Rattle.rule_views.specs.Sees.{Sight, NoAtom, NoZero}
 use Rattle.rule_views.specs.Beside.{IsSum, NoneBeside}
+use Rattle.rule_views.specs.Variables.{Variables}
 use Rattle.rule_conditions.specs.Twice.{NoBorrow}
 
 -- no x - y and no x ^ y
 abbrev pub NoDifference : {S : Type 0} → Sight S → S → Type 0
-NoDifference sees at = (ws : ℕ → ℕ) (op : ArithmeticOp) (x y : Expr) → Cancels op → sees ws at (E.Arithmetic op x y) → ⊥
+NoDifference sees at = (vs : Variables) (op : ArithmeticOp) (x y : Expr) → Cancels op → sees vs at (E.Arithmetic op x y) → ⊥
 
 -- x inner c is d where x is e
 abbrev pub Moves : ArithmeticOp → Word → Word → Word → Type 0
@@ -33,7 +34,7 @@ pub record NoneComparedBy {S : Type 0} (sees : Sight S) (op : CompareOp) (a : S)
 
 -- wherever the right operand is seen as a constant
 pub record NoneComparedWith {S : Type 0} (sees : Sight S) (op : CompareOp) (a b : S) : Type 0 where
-  pub none : (ws : ℕ → ℕ) (c : Word) → sees ws b (E.Const c) → NoneComparedBy sees op a c
+  pub none : (vs : Variables) (c : Word) → sees vs b (E.Const c) → NoneComparedBy sees op a c
 
 pub record NoneCompared {S : Type 0} (sees : Sight S) (op : CompareOp) (a b : S) : Type 0 where
   pub constant : NoneComparedWith sees op a b

@@ -1,5 +1,5 @@
 -- What is 0 or 1, compared with 0 or 1: no left side of a rule is seen, and what a negation is.
-use Rattle.std.specs.Prelude.{◌≡◌, ℕ}
+use Rattle.std.specs.Prelude.{◌≡◌}
 use Rattle.bits_core.specs.declared.word.Word.{Word}
 use Rattle.cmeaning.specs.declared.tree.ArithmeticOp.TheVariants as O
 use Rattle.cmeaning.specs.declared.tree.CompareOp.{CompareOp}
@@ -15,6 +15,7 @@ use Rattle.rule_views.specs.declared.view.Made.{Made}
 use Rattle.rule_views.specs.declared.view.Made.TheVariants as M
 use Rattle.rule_views.specs.Sees.{Sight}
 use Rattle.rule_views.specs.Makes.{Makes}
+use Rattle.rule_views.specs.Variables.{Variables}
 
 -- comparison ^ 1, comparison == 0, comparison != 1
 abbrev pub Turns : Pair → Word → Type 0
@@ -41,25 +42,25 @@ signed_negated I.SLt x y = M.Pair (P.SignedCompare I.SLe) (A.Place y) (A.Place x
 signed_negated I.SLe x y = M.Pair (P.SignedCompare I.SLt) (A.Place y) (A.Place x)
 
 abbrev pub NoComparison : {S : Type 0} → Sight S → S → Type 0
-NoComparison sees at = (ws : ℕ → ℕ) (k n : Expr) → Negated k n → sees ws at k → ⊥
+NoComparison sees at = (vs : Variables) (k n : Expr) → Negated k n → sees vs at k → ⊥
 
 -- a comparison is seen, and its negation made
-pub record NegationSeen {S : Type 0} (sees : Sight S) (at : S) (made : Made S) (ws : ℕ → ℕ) : Type 0 where
+pub record NegationSeen {S : Type 0} (sees : Sight S) (at : S) (made : Made S) (vs : Variables) : Type 0 where
   pub k : Expr
   pub n : Expr
   pub negated : Negated k n
-  pub seen : sees ws at k
-  pub makes : Makes (sees ws) made n
+  pub seen : sees vs at k
+  pub makes : Makes (sees vs) made n
 
 pub record IsNegation {S : Type 0} (sees : Sight S) (at : S) (made : Made S) : Type 0 where
-  pub seen : (ws : ℕ → ℕ) (e : Expr) → sees ws at e → NegationSeen sees at made ws
+  pub seen : (vs : Variables) (e : Expr) → sees vs at e → NegationSeen sees at made vs
 
 abbrev pub NoTest : {S : Type 0} → Sight S → S → Type 0
-NoTest sees at = (ws : ℕ → ℕ) (b : Expr) → IsTest b → sees ws at b → ⊥
+NoTest sees at = (vs : Variables) (b : Expr) → IsTest b → sees vs at b → ⊥
 
 -- a test is seen
 pub record IsTestAt {S : Type 0} (sees : Sight S) (at : S) : Type 0 where
-  pub seen : (ws : ℕ → ℕ) (e : Expr) → sees ws at e → (b : Expr) × (IsTest b × sees ws at b)
+  pub seen : (vs : Variables) (e : Expr) → sees vs at e → (b : Expr) × (IsTest b × sees vs at b)
 
 pub record NoneDecided {S : Type 0} (sees : Sight S) (p : Pair) (a : S) (c : Word) : Type 0 where
   pub turns : Turns p c → NoComparison sees a

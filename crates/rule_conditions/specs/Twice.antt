@@ -1,5 +1,5 @@
 -- Two letters named twice: no left side of a rule is seen, and what is seen where one is.
-use Rattle.std.specs.Prelude.{◌≡◌, ◌⊎◌, ℕ}
+use Rattle.std.specs.Prelude.{◌≡◌, ◌⊎◌}
 use Rattle.bits_core.specs.declared.word.Word.{Word}
 use Rattle.cmeaning.specs.declared.tree.ArithmeticOp.{ArithmeticOp}
 use Rattle.cmeaning.specs.declared.tree.ArithmeticOp.TheVariants as O
@@ -16,6 +16,7 @@ use Rattle.rule_views.specs.declared.view.Made.{Made}
 use Rattle.rule_views.specs.Nodes.{pair_node}
 use Rattle.rule_views.specs.Makes.{Makes}
 use Rattle.rule_views.specs.Sees.{Sight, IsSame}
+use Rattle.rule_views.specs.Variables.{Variables}
 
 -- ---- the sign of a difference
 
@@ -24,19 +25,19 @@ abbrev pub sign : Expr → Expr → Word → Expr
 sign x y c = E.SignedCompare I.SLt (E.Arithmetic O.Sub x y) (E.Const c)
 
 abbrev pub NoSign : {S : Type 0} → Sight S → S → Type 0
-NoSign sees at = (ws : ℕ → ℕ) (x y : Expr) (c : Word) → c.value ≡ 0 → sees ws at (sign x y c) → ⊥
+NoSign sees at = (vs : Variables) (x y : Expr) (c : Word) → c.value ≡ 0 → sees vs at (sign x y c) → ⊥
 
 -- SLt(x - y, c) is seen, with a c of 0
 pub record IsSign {S : Type 0} (sees : Sight S) (at x y : S) (c : Word) : Type 0 where
   pub nothing : c.value ≡ 0
-  pub only : (ws : ℕ → ℕ) (s t : Expr) (d : Word) → sees ws at (sign s t d) → sees ws x s × sees ws y t
-  pub joins : (ws : ℕ → ℕ) (e s t : Expr) → sees ws at e → sees ws x s → sees ws y t → sees ws at (sign s t c)
-  pub operands : (ws : ℕ → ℕ) (e : Expr) → sees ws at e → (s : Expr) × ((t : Expr) × (sees ws x s × sees ws y t))
+  pub only : (vs : Variables) (s t : Expr) (d : Word) → sees vs at (sign s t d) → sees vs x s × sees vs y t
+  pub joins : (vs : Variables) (e s t : Expr) → sees vs at e → sees vs x s → sees vs y t → sees vs at (sign s t c)
+  pub operands : (vs : Variables) (e : Expr) → sees vs at e → (s : Expr) × ((t : Expr) × (sees vs x s × sees vs y t))
 
 -- no sign of a difference beside the borrow of it
 abbrev pub NoBorrow : {S : Type 0} → Sight S → S → S → Type 0
-NoBorrow sees a b = (ws : ℕ → ℕ) (x y : Expr) (c : Word) → IsAtom x → IsAtom y → c.value ≡ 0
-    → sees ws a (sign x y c) → sees ws b (E.Overflow V.SBorrow x y) → ⊥
+NoBorrow sees a b = (vs : Variables) (x y : Expr) (c : Word) → IsAtom x → IsAtom y → c.value ≡ 0
+    → sees vs a (sign x y c) → sees vs b (E.Overflow V.SBorrow x y) → ⊥
 
 -- ---- an equality beside an order
 
@@ -60,8 +61,8 @@ AreTwo sees x y u v = IsSame sees x u × IsSame sees y v
 
 -- wherever they are seen so, P
 abbrev pub NoneTwo : {S : Type 0} → Sight S → S → S → S → S → Type 0 → Type 0
-NoneTwo sees x y u v P = (ws : ℕ → ℕ) (s t : Expr) → IsAtom s → IsAtom t → sees ws u s → sees ws v t
-    → sees ws x s → sees ws y t → P
+NoneTwo sees x y u v P = (vs : Variables) (s t : Expr) → IsAtom s → IsAtom t → sees vs u s → sees vs v t
+    → sees vs x s → sees vs y t → P
 
 -- the same two letters at x and y and at u and v
 abbrev pub AreSame : {S : Type 0} → Sight S → S → S → S → S → Type 0
@@ -69,18 +70,18 @@ AreSame sees x y u v = AreTwo sees x y u v ⊎ AreTwo sees x y v u
 
 -- wherever they are seen so, P
 abbrev pub NoneSame : {S : Type 0} → Sight S → S → S → S → S → Type 0 → Type 0
-NoneSame sees x y u v P = (ws : ℕ → ℕ) (s t : Expr) → IsAtom s → IsAtom t → sees ws u s → sees ws v t
-    → (sees ws x s × sees ws y t) ⊎ (sees ws x t × sees ws y s) → P
+NoneSame sees x y u v P = (vs : Variables) (s t : Expr) → IsAtom s → IsAtom t → sees vs u s → sees vs v t
+    → (sees vs x s × sees vs y t) ⊎ (sees vs x t × sees vs y s) → P
 
 -- an equality of x and y in either order
 abbrev pub Either : CompareOp → Expr → Expr → (Expr → Type 0) → Type 0
 Either equality x y is = is (E.Compare equality x y) ⊎ is (E.Compare equality y x)
 
 abbrev pub NoneJoined : {S : Type 0} → Sight S → CompareOp → S → S → Type 0
-NoneJoined sees equality a b = (ws : ℕ → ℕ) (order to : Pair) (x y : Expr) → Joins equality order to
-    → IsAtom x → IsAtom y → Either equality x y (sees ws a) → sees ws b (pair_node order x y) → ⊥
+NoneJoined sees equality a b = (vs : Variables) (order to : Pair) (x y : Expr) → Joins equality order to
+    → IsAtom x → IsAtom y → Either equality x y (sees vs a) → sees vs b (pair_node order x y) → ⊥
 
-pub record JoinedSeen {S : Type 0} (sees : Sight S) (equality : CompareOp) (a b : S) (made : Made S) (ws : ℕ → ℕ) : Type 0 where
+pub record JoinedSeen {S : Type 0} (sees : Sight S) (equality : CompareOp) (a b : S) (made : Made S) (vs : Variables) : Type 0 where
   pub order : Pair
   pub to : Pair
   pub x : Expr
@@ -88,12 +89,12 @@ pub record JoinedSeen {S : Type 0} (sees : Sight S) (equality : CompareOp) (a b 
   pub joins : Joins equality order to
   pub one : IsAtom x
   pub two : IsAtom y
-  pub left : Either equality x y (sees ws a)
-  pub right : sees ws b (pair_node order x y)
-  pub makes : Makes (sees ws) made (pair_node to x y)
+  pub left : Either equality x y (sees vs a)
+  pub right : sees vs b (pair_node order x y)
+  pub makes : Makes (sees vs) made (pair_node to x y)
 
 pub record IsJoined {S : Type 0} (sees : Sight S) (equality : CompareOp) (a b : S) (made : Made S) : Type 0 where
-  pub seen : (ws : ℕ → ℕ) (e f : Expr) → sees ws a e → sees ws b f → JoinedSeen sees equality a b made ws
+  pub seen : (vs : Variables) (e f : Expr) → sees vs a e → sees vs b f → JoinedSeen sees equality a b made vs
 
 pub record NoneOfTwo {S : Type 0} (sees : Sight S) (op : ArithmeticOp) (a b : S) : Type 0 where
   pub less : op ≡ O.Or → NoneJoined sees equal a b

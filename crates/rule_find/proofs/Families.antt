@@ -17,6 +17,7 @@ use Rattle.rule_views.specs.Nodes.{single_node, pair_node}
 use Rattle.rule_views.specs.Rows.{SummingOf, ShiftingOf, PartingOf, DecidingOf, ComparingOf, FormOf}
 use Rattle.rule_views.specs.Sees.{Sight, IsSized}
 use Rattle.rule_views.specs.Fires.{Family, FiredOfPair, NoneOfPair, FiredOfSingle, NoneOfSingle}
+use Rattle.rule_views.specs.Variables.{Variables}
 use Rattle.rule_views.proofs.Layers.{pair_no_single}
 use Rattle.rule_find.proofs.Lefts.{IsPairNode, Two, shift_pair, boolean_pair, comparison_pair}
 
@@ -25,15 +26,15 @@ module _ {T : Type 0} (sees : Sight T) where
   pub as_other : (f g : Family) → ((ws : ℕ → ℕ) (l r : Expr) → f ws l r → g ws l r) → (p : Pair) (a b : T) (made : Made T)
       → FiredOfPair f sees p a b made → FiredOfPair g sees p a b made
   as_other f g to p a b made h = record {
-    fires = λ ws x y sized s t. (
-        let w = h.fires ws x y sized s t in
+    fires = λ vs x y sized s t. (
+        let w = h.fires vs x y sized s t in
         record {
           x = w.x;
           y = w.y;
           r = w.r;
           left = w.left;
           right = w.right;
-          rule = to ws (pair_node p w.x w.y) w.r w.rule;
+          rule = to vs.widths (pair_node p w.x w.y) w.r w.rule;
           makes = w.makes;
         });
   }
@@ -41,13 +42,13 @@ module _ {T : Type 0} (sees : Sight T) where
   pub as_other_single : (f g : Family) → ((ws : ℕ → ℕ) (l r : Expr) → f ws l r → g ws l r)
       → (q : Single) (a : T) (made : Made T) → FiredOfSingle f sees q a made → FiredOfSingle g sees q a made
   as_other_single f g to q a made h = record {
-    fires = λ ws x sized s. (
-        let w = h.fires ws x sized s in
+    fires = λ vs x sized s. (
+        let w = h.fires vs x sized s in
         record {
           x = w.x;
           r = w.r;
           operand = w.operand;
-          rule = to ws (single_node q w.x) w.r w.rule;
+          rule = to vs.widths (single_node q w.x) w.r w.rule;
           makes = w.makes;
         });
   }
@@ -80,25 +81,25 @@ module _ {T : Type 0} (sees : Sight T) where
         (q : NoneOfPair Parting sees p a b)
         (d : NoneOfPair (λ ws. Deciding) sees p a b)
         (c : NoneOfPair (λ ws. Comparing) sees p a b)
-        (ws : ℕ → ℕ)
+        (vs : Variables)
         (x y : Expr)
-        (sized : IsSized ws (pair_node p x y))
-        (left : sees ws a x)
-        (right : sees ws b y) where
-      no_form : (l r : Expr) → Form ws l r → l ≡ pair_node p x y → ⊥
-      no_form l r (OfFolds m n g) is = f.none ws x y r sized (subst (λ e. Folding ws e r) is g) left right
-      no_form l r (OfArithmetic m n g) is = s.none ws x y r sized (subst (λ e. Summing ws e r) is g) left right
-      no_form l r (OfShifts m n g) is = h.none ws x y r sized (subst (λ e. Shifting ws e r) is g) left right
-      no_form l r (OfParts m n g) is = q.none ws x y r sized (subst (λ e. Parting ws e r) is g) left right
-      no_form l r (OfBooleans m n g) is = d.none ws x y r sized (subst (λ e. Deciding e r) is g) left right
-      no_form l r (OfComparisons m n g) is = c.none ws x y r sized (subst (λ e. Comparing e r) is g) left right
+        (sized : IsSized vs.widths (pair_node p x y))
+        (left : sees vs a x)
+        (right : sees vs b y) where
+      no_form : (l r : Expr) → Form vs.widths l r → l ≡ pair_node p x y → ⊥
+      no_form l r (OfFolds m n g) is = f.none vs x y r sized (subst (λ e. Folding vs.widths e r) is g) left right
+      no_form l r (OfArithmetic m n g) is = s.none vs x y r sized (subst (λ e. Summing vs.widths e r) is g) left right
+      no_form l r (OfShifts m n g) is = h.none vs x y r sized (subst (λ e. Shifting vs.widths e r) is g) left right
+      no_form l r (OfParts m n g) is = q.none vs x y r sized (subst (λ e. Parting vs.widths e r) is g) left right
+      no_form l r (OfBooleans m n g) is = d.none vs x y r sized (subst (λ e. Deciding e r) is g) left right
+      no_form l r (OfComparisons m n g) is = c.none vs x y r sized (subst (λ e. Comparing e r) is g) left right
 
     pub none_of_pair : NoneOfPair Folding sees p a b → NoneOfPair Summing sees p a b → NoneOfPair Shifting sees p a b
         → NoneOfPair Parting sees p a b → NoneOfPair (λ ws. Deciding) sees p a b
         → NoneOfPair (λ ws. Comparing) sees p a b → NoneOfPair Form sees p a b
     none_of_pair f s h q d c = record {
-      none = λ ws x y r sized rule left right. (
-          no_form f s h q d c ws x y sized left right (pair_node p x y) r rule refl);
+      none = λ vs x y r sized rule left right. (
+          no_form f s h q d c vs x y sized left right (pair_node p x y) r rule refl);
     }
 
   -- ---- one operand
@@ -120,20 +121,20 @@ module _ {T : Type 0} (sees : Sight T) where
     module _ (f : NoneOfSingle Folding sees o a)
         (s : NoneOfSingle Summing sees o a)
         (q : NoneOfSingle Parting sees o a)
-        (ws : ℕ → ℕ)
+        (vs : Variables)
         (x : Expr)
-        (sized : IsSized ws (single_node o x))
-        (seen : sees ws a x) where
-      no_form_of_one : (l r : Expr) → Form ws l r → l ≡ single_node o x → ⊥
-      no_form_of_one l r (OfFolds m n g) is = f.none ws x r sized (subst (λ e. Folding ws e r) is g) seen
-      no_form_of_one l r (OfArithmetic m n g) is = s.none ws x r sized (subst (λ e. Summing ws e r) is g) seen
-      no_form_of_one l r (OfShifts m n g) is = pair_no l x (shift_pair ws l r g) is
-      no_form_of_one l r (OfParts m n g) is = q.none ws x r sized (subst (λ e. Parting ws e r) is g) seen
+        (sized : IsSized vs.widths (single_node o x))
+        (seen : sees vs a x) where
+      no_form_of_one : (l r : Expr) → Form vs.widths l r → l ≡ single_node o x → ⊥
+      no_form_of_one l r (OfFolds m n g) is = f.none vs x r sized (subst (λ e. Folding vs.widths e r) is g) seen
+      no_form_of_one l r (OfArithmetic m n g) is = s.none vs x r sized (subst (λ e. Summing vs.widths e r) is g) seen
+      no_form_of_one l r (OfShifts m n g) is = pair_no l x (shift_pair vs.widths l r g) is
+      no_form_of_one l r (OfParts m n g) is = q.none vs x r sized (subst (λ e. Parting vs.widths e r) is g) seen
       no_form_of_one l r (OfBooleans m n g) is = pair_no l x (boolean_pair l r g) is
       no_form_of_one l r (OfComparisons m n g) is = pair_no l x (comparison_pair l r g) is
 
     pub none_of_single : NoneOfSingle Folding sees o a → NoneOfSingle Summing sees o a → NoneOfSingle Parting sees o a
         → NoneOfSingle Form sees o a
     none_of_single f s q = record {
-      none = λ ws x r sized rule seen. no_form_of_one f s q ws x sized seen (single_node o x) r rule refl;
+      none = λ vs x r sized rule seen. no_form_of_one f s q vs x sized seen (single_node o x) r rule refl;
     }

@@ -70,15 +70,15 @@ module _ {T : Type 0} (sees : Sight T) (a b : T) where
   pub over_fires : (p : Pair) (c : Word) → ChangesOver p → IsConstant sees a c → NoConstant sees b
       → FiredOfPair (RuleOf R.F2) sees p a b (M.Pair p (A.Place b) (A.Const c))
   over_fires p c k m n = record {
-    fires = λ ws x y sized s t. (
-        let other : IsNoConstant y = λ d is. n ws d (subst (sees ws b) is t) in
+    fires = λ vs x y sized s t. (
+        let other : IsNoConstant y = λ d is. n vs d (subst (sees vs b) is t) in
         record {
           x = E.Const c;
           y = y;
           r = pair_node p y (E.Const c);
-          left = m.seen ws x s;
+          left = m.seen vs x s;
           right = t;
-          rule = over_rule ws p c y k other;
+          rule = over_rule vs.widths p c y k other;
           makes = (y, (E.Const c, (refl, t, refl)));
         });
   }

@@ -1,5 +1,5 @@
 -- What is found at a place: a rule of the table, or that none matches.
-use Rattle.std.specs.Prelude.{◌⊎◌, ℕ}
+use Rattle.std.specs.Prelude.{◌⊎◌}
 use Rattle.bits_core.specs.declared.word.Word.{Word}
 use Rattle.cmeaning.specs.declared.tree.Expr.{Expr}
 use Rattle.rules.specs.Letters as L
@@ -10,6 +10,7 @@ use Rattle.rule_views.specs.declared.view.Found.{Found}
 use Rattle.rule_views.specs.Sees.{Sight, IsSized, IsConstant, NoConstant}
 use Rattle.rule_views.specs.Makes.{Makes}
 use Rattle.rule_views.specs.Rows.{RuleOf}
+use Rattle.rule_views.specs.Variables.{Variables}
 
 -- the operands may stand in either order
 abbrev pub Commutes : Pair → Type 0
@@ -32,17 +33,17 @@ NoneOver sees a b = NoConstant sees a ⊎ ((d : Word) × IsConstant sees b d)
 
 -- no rule of the table has a left side that is seen here
 abbrev pub NoRule : {S : Type 0} → Sight S → S → Type 0
-NoRule sees at = (ws : ℕ → ℕ) (l r : Expr) → IsSized ws l → Rule ws l r → sees ws at l → ⊥
+NoRule sees at = (vs : Variables) (l r : Expr) → IsSized vs.widths l → Rule vs.widths l r → sees vs at l → ⊥
 
 -- a rule of this row has a left side that is seen here, and its right side is made
-pub record Fires {S : Type 0} (sees : Sight S) (at : S) (f : Found S) (ws : ℕ → ℕ) : Type 0 where
+pub record Fires {S : Type 0} (sees : Sight S) (at : S) (f : Found S) (vs : Variables) : Type 0 where
   pub l : Expr
   pub r : Expr
-  pub seen : sees ws at l
-  pub rule : RuleOf f.row ws l r
-  pub makes : Makes (sees ws) f.made r
+  pub seen : sees vs at l
+  pub rule : RuleOf f.row vs.widths l r
+  pub makes : Makes (sees vs) f.made r
 
 -- so wherever something is seen here, all of it with operands that agree
 pub record Fired {S : Type 0} (sees : Sight S) (at : S) (f : Found S) : Type 0 where
-  pub fires : (ws : ℕ → ℕ) (e : Expr) → ((x : Expr) → sees ws at x → IsSized ws x) → sees ws at e
-      → Fires sees at f ws
+  pub fires : (vs : Variables) (e : Expr) → ((x : Expr) → sees vs at x → IsSized vs.widths x) → sees vs at e
+      → Fires sees at f vs

@@ -6,6 +6,7 @@ ghost use Rattle.cmeaning.specs.declared.tree.Expr.TheVariants as E;
 ghost use Rattle.rules.specs.Table.{Form};
 ghost use Rattle.rule_views.specs.Rows.{FormOf};
 ghost use Rattle.rule_views.specs.Fires.{NoneOfPair, FiredOfPair, NoneOfSingle, FiredOfSingle};
+ghost use Rattle.rule_views.specs.Variables.{Variables};
 ghost use Rattle.rule_folds.specs.Values.{Divides};
 
 use rule_conditions::{boolean_rule, comparison_rule};
@@ -19,7 +20,7 @@ use rule_views::{Found, Pair, Row, Single, View};
 pub fn form_of_pair<V: View>(p: Pair, a: V, b: V) -> Option<Found<V>>
     ensures found { MatchOption result (NoneOfPair Form V.Sees p a b)
         (λ f. FiredOfPair (FormOf f.row) V.Sees p a b f.made) }
-    ensures folds { (ws : ℕ → ℕ) (c d : Word) → V.Sees ws a (E.Const c) → V.Sees ws b (E.Const d) → (Divides p → ⊥)
+    ensures folds { (vs : Variables) (c d : Word) → V.Sees vs a (E.Const c) → V.Sees vs b (E.Const d) → (Divides p → ⊥)
         → IsSome result }
 {
     if let Some(made) = fold_pair(p, a, b) {

@@ -102,48 +102,48 @@ module _ {T : Type 0} (sees : Sight T) where
   module _ (p : Pair) (a b : T) where
     pub no_left : NoConstant sees a → NoneOfPair Folding sees p a b
     no_left n = record {
-      none = λ ws x y r sized rule s t. (
-          let f = folded ws (pair_node p x y) r rule in
+      none = λ vs x y r sized rule s t. (
+          let f = folded vs.widths (pair_node p x y) r rule in
           let o = two p x y (pair_node p x y) f.closed refl in
-          n ws o.0 (subst (sees ws a) o.1.1.0 s));
+          n vs o.0 (subst (sees vs a) o.1.1.0 s));
     }
 
     pub no_right : NoConstant sees b → NoneOfPair Folding sees p a b
     no_right n = record {
-      none = λ ws x y r sized rule s t. (
-          let f = folded ws (pair_node p x y) r rule in
+      none = λ vs x y r sized rule s t. (
+          let f = folded vs.widths (pair_node p x y) r rule in
           let o = two p x y (pair_node p x y) f.closed refl in
-          n ws o.1.0 (subst (sees ws b) o.1.1.1 t));
+          n vs o.1.0 (subst (sees vs b) o.1.1.1 t));
     }
 
     module _ (c d : Word) (k : IsConstant sees a c) (m : IsConstant sees b d) where
       pub no_value : (Agree p c.width.bytes d.width.bytes → NoPairValue p d) → NoneOfPair Folding sees p a b
       no_value n = record {
-        none = λ ws x y r sized rule s t. (
-            let f = folded ws (pair_node p x y) r rule in
+        none = λ vs x y r sized rule s t. (
+            let f = folded vs.widths (pair_node p x y) r rule in
             let o = two p x y (pair_node p x y) f.closed refl in
             let left : x ≡ E.Const c =
-            o.1.1.0 ∙ ap E.Const (constant_only sees a c k ws o.0 (subst (sees ws a) o.1.1.0 s)) in
+            o.1.1.0 ∙ ap E.Const (constant_only sees a c k vs o.0 (subst (sees vs a) o.1.1.0 s)) in
             let right : y ≡ E.Const d =
-            o.1.1.1 ∙ ap E.Const (constant_only sees b d m ws o.1.0 (subst (sees ws b) o.1.1.1 t)) in
+            o.1.1.1 ∙ ap E.Const (constant_only sees b d m vs o.1.0 (subst (sees vs b) o.1.1.1 t)) in
             let is : pair_node p x y ≡ pair_node p (E.Const c) (E.Const d) =
             ap (λ u. pair_node p u y) left ∙ ap (pair_node p (E.Const c)) right in
-            let agree = (pair_sized ws c d p (subst (IsSized ws) is sized)).0 in
+            let agree = (pair_sized vs.widths c d p (subst (IsSized vs.widths) is sized)).0 in
             let zero = n agree in
-            let value : IsValue ws (pair_node p (E.Const c) (E.Const d)) f.word =
-            subst (λ l. IsValue ws l f.word) is f.value in
-            let none : None ≡ Some f.word.value = sym (no_meaning ws c d p zero.0 zero.1) ∙ value.value in
+            let value : IsValue vs.widths (pair_node p (E.Const c) (E.Const d)) f.word =
+            subst (λ l. IsValue vs.widths l f.word) is f.value in
+            let none : None ≡ Some f.word.value = sym (no_meaning vs.widths c d p zero.0 zero.1) ∙ value.value in
             absurd cc);
       }
 
       pub pair_fires : (e : Word) → (Agree p c.width.bytes d.width.bytes → IsPairValue p c d e)
           → FiredOfPair Folding sees p a b (M.Is (A.Const e))
       pair_fires e v = record {
-        fires = λ ws x y sized s t. (
+        fires = λ vs x y sized s t. (
             let l : Expr = pair_node p (E.Const c) (E.Const d) in
-            let left : sees ws a (E.Const c) = k.seen ws x s in
-            let right : sees ws b (E.Const d) = m.seen ws y t in
-            let w = pair_sized ws c d p (sized (E.Const c) (E.Const d) left right) in
+            let left : sees vs a (E.Const c) = k.seen vs x s in
+            let right : sees vs b (E.Const d) = m.seen vs y t in
+            let w = pair_sized vs.widths c d p (sized (E.Const c) (E.Const d) left right) in
             let value = v w.0 in
             record {
               x = E.Const c;
@@ -152,8 +152,8 @@ module _ {T : Type 0} (sees : Sight T) where
               left = left;
               right = right;
               rule = F1 l e (closed_pair p c d) (record {
-                width = subst (IsWide ws l) (sym value.word.width) w.1;
-                value = pair_meaning ws c d p w.0 value.divides ∙ ap Some (sym value.word.value);
+                width = subst (IsWide vs.widths l) (sym value.word.width) w.1;
+                value = pair_meaning vs.widths c d p w.0 value.divides ∙ ap Some (sym value.word.value);
               });
               makes = refl;
             });
@@ -164,27 +164,27 @@ module _ {T : Type 0} (sees : Sight T) where
   module _ (q : Single) (a : T) where
     pub no_operand : NoConstant sees a → NoneOfSingle Folding sees q a
     no_operand n = record {
-      none = λ ws x r sized rule s. (
-          let f = folded ws (single_node q x) r rule in
+      none = λ vs x r sized rule s. (
+          let f = folded vs.widths (single_node q x) r rule in
           let o = one q x (single_node q x) f.closed refl in
-          n ws o.0 (subst (sees ws a) o.1 s));
+          n vs o.0 (subst (sees vs a) o.1 s));
     }
 
     pub single_fires : (c e : Word) → IsConstant sees a c → (SingleAgrees q c.width.bytes → IsSingleValue q c e)
         → FiredOfSingle Folding sees q a (M.Is (A.Const e))
     single_fires c e k v = record {
-      fires = λ ws x sized s. (
+      fires = λ vs x sized s. (
           let l : Expr = single_node q (E.Const c) in
-          let operand : sees ws a (E.Const c) = k.seen ws x s in
-          let w = single_sized ws c q (sized (E.Const c) operand) in
+          let operand : sees vs a (E.Const c) = k.seen vs x s in
+          let w = single_sized vs.widths c q (sized (E.Const c) operand) in
           let value = v w.0 in
           record {
             x = E.Const c;
             r = E.Const e;
             operand = operand;
             rule = F1 l e (closed_single q c) (record {
-              width = subst (IsWide ws l) (sym value.width) w.1;
-              value = single_meaning ws c q ∙ ap Some (sym value.value);
+              width = subst (IsWide vs.widths l) (sym value.width) w.1;
+              value = single_meaning vs.widths c q ∙ ap Some (sym value.value);
             });
             makes = refl;
           });

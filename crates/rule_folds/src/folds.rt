@@ -6,6 +6,7 @@ ghost use Rattle.cmeaning.specs.declared.tree.Expr.TheVariants as E;
 ghost use Rattle.rules.specs.Folds.{Folding};
 ghost use Rattle.rule_folds.specs.Values.{Divides};
 ghost use Rattle.rule_views.specs.Fires.{NoneOfPair, FiredOfPair, NoneOfSingle, FiredOfSingle};
+ghost use Rattle.rule_views.specs.Variables.{Variables};
 
 use crate::values::{pair_value, single_value};
 use rule_views::{Arg, Made, Pair, Single, View};
@@ -14,7 +15,7 @@ use rule_views::{Arg, Made, Pair, Single, View};
 #[tactic(auto, using(crate::proofs::Folded::no_left, crate::proofs::Folded::no_right, crate::proofs::Folded::no_value, crate::proofs::Folded::pair_fires))]
 pub fn fold_pair<V: View>(p: Pair, a: V, b: V) -> Option<Made<V>>
     ensures found { MatchOption result (NoneOfPair Folding V.Sees p a b) (FiredOfPair Folding V.Sees p a b) }
-    ensures folds { (ws : ℕ → ℕ) (c d : Word) → V.Sees ws a (E.Const c) → V.Sees ws b (E.Const d) → (Divides p → ⊥)
+    ensures folds { (vs : Variables) (c d : Word) → V.Sees vs a (E.Const c) → V.Sees vs b (E.Const d) → (Divides p → ⊥)
         → IsSome result }
 {
     let c = a.constant()?;

@@ -7,12 +7,14 @@ use Rattle.rules.specs.Letters.{IsAtom, Var, Const}
 use Rattle.rule_views.specs.declared.nodes.Single.{Single}
 use Rattle.rule_views.specs.declared.nodes.Pair.{Pair}
 use Rattle.rule_views.specs.Nodes.{single_node, pair_node}
-use Rattle.rule_views.specs.Sees.{IsVariable, IsSame, IsConstant, NoConstant, IsSingle, NoSingle, IsPair, NoPair}
+use Rattle.rule_views.specs.Sees.{Sight, IsVariable, IsSame, IsConstant, NoConstant, IsSingle, NoSingle, IsPair, NoPair}
+use Rattle.rule_views.specs.Variables.{Variables}
 use Rattle.rule_views.proofs.Layers.{same_pair, same_single, same_const, same_var, pair_no_single, pair_no_const, pair_no_var, single_no_const, single_no_var, const_no_var}
 use Rattle.rule_graph.specs.declared.node.Op.{Op}
 use Rattle.rule_graph.specs.declared.node.Op.TheVariants as O
 use Rattle.rule_graph.specs.declared.node.Node.{Node}
-use Rattle.rule_graph.specs.Graph.{op_at, real, width_at, Seen, AsValue, AsConst, AsSingle, AsPair, IsSeen}
+use Rattle.rule_graph.specs.Graph.{op_at, real, Seen, AsValue, AsConst, AsSingle, AsPair}
+use Rattle.rule_graph.specs.Sees.{AreOf, IsSeen}
 
 pub some_op : (o p : Op) → Some o ≡ Some p → o ≡ p
 some_op o p e = cc
@@ -129,87 +131,87 @@ pub record IsInput (nodes graph : List Node) (at i : ℕ) : Type 0 where
   pub same : graph ≡ nodes
   pub is : at ≡ real nodes i
 
-module _ (nodes graph : List Node) (at i : ℕ) (h : IsInput nodes graph at i) (ws : ℕ → ℕ) (e : Expr) where
-  to_input : ws ≡ width_at nodes → Seen nodes (real nodes i) e → IsSeen graph at ws e
-  to_input w s = subst (λ g. IsSeen g at ws e) (sym h.same)
-      (record { widths_are = w; seen = subst (λ k. Seen nodes k e) (sym h.is) s })
+module _ (nodes graph : List Node) (at i : ℕ) (h : IsInput nodes graph at i) (vs : Variables) (e : Expr) where
+  to_input : AreOf nodes vs → Seen nodes (real nodes i) e → IsSeen graph at vs e
+  to_input v s = subst (λ g. IsSeen g at vs e) (sym h.same)
+      (record { variables = v; seen = subst (λ k. Seen nodes k e) (sym h.is) s })
 
-  of_input : IsSeen graph at ws e → Seen nodes (real nodes i) e
-  of_input s = subst (λ k. Seen nodes k e) h.is (subst (λ g. IsSeen g at ws e) h.same s).seen
+  of_input : IsSeen graph at vs e → Seen nodes (real nodes i) e
+  of_input s = subst (λ k. Seen nodes k e) h.is (subst (λ g. IsSeen g at vs e) h.same s).seen
 
 -- ---- the answers about a place; places of a type, by the graph and the number that each holds
 
 module _ {S : Type 0} (nodes : S → List Node) (at : S → ℕ) where
-  abbrev pub Shows : (ℕ → ℕ) → S → Expr → Type 0
-  Shows ws p e = IsSeen (nodes p) (at p) ws e
+  abbrev pub Shows : Sight S
+  Shows vs p e = IsSeen (nodes p) (at p) vs e
 
   pub const_here : (p : S) (c : Word) → op_at (nodes p) (at p) ≡ Some (O.Const c) → IsConstant Shows p c
   const_here p c is = record {
-    only = λ ws e s. as_const (nodes p) (at p) c e is s.seen;
-    seen = λ ws e s. record { widths_are = s.widths_are; seen = AsConst (at p) (E.Const c) c refl is };
+    only = λ vs e s. as_const (nodes p) (at p) c e is s.seen;
+    seen = λ vs e s. record { variables = s.variables; seen = AsConst (at p) (E.Const c) c refl is };
   }
 
   pub const_none : (p : S) → ((c : Word) → op_at (nodes p) (at p) ≡ Some (O.Const c) → ⊥) → NoConstant Shows p
-  const_none p never ws c s = never c (const_of (nodes p) (at p) c (E.Const c) refl s.seen)
+  const_none p never vs c s = never c (const_of (nodes p) (at p) c (E.Const c) refl s.seen)
 
   pub single_none : (p : S) → ((s : Single) (a : ℕ) → op_at (nodes p) (at p) ≡ Some (O.Single s a) → ⊥)
       → NoSingle Shows p
-  single_none p never ws s x h =
+  single_none p never vs s x h =
       let k = single_of (nodes p) (at p) s x (single_node s x) refl h.seen in never s k.a k.is
 
   pub pair_none : (p : S) → ((t : Pair) (a b : ℕ) → op_at (nodes p) (at p) ≡ Some (O.Pair t a b) → ⊥)
       → NoPair Shows p
-  pair_none p never ws t x y h =
+  pair_none p never vs t x y h =
       let k = pair_of (nodes p) (at p) t x y (pair_node t x y) refl h.seen in never t k.a k.b k.is
 
   module _ (p l : S) (a : ℕ) (il : IsInput (nodes p) (nodes l) (at l) a) where
     pub single_here : (s : Single) → op_at (nodes p) (at p) ≡ Some (O.Single s a) → IsSingle Shows p s l
     single_here s is =
-        let to : (ws : ℕ → ℕ) (x : Expr) → ws ≡ width_at (nodes p) → Seen (nodes p) (real (nodes p) a) x → Shows ws l x =
-        λ ws x. to_input (nodes p) (nodes l) (at l) a il ws x in
+        let to : (vs : Variables) (x : Expr) → AreOf (nodes p) vs → Seen (nodes p) (real (nodes p) a) x → Shows vs l x =
+        λ vs x. to_input (nodes p) (nodes l) (at l) a il vs x in
         let value = E.Var (real (nodes p) a) in
         record {
-          only = λ ws e h. ⊎_elim (λ (v : IsVariable e). inl v)
-              (λ (o : OverOne (nodes p) s a e). inr (o.0, (o.1.0, to ws o.0 h.widths_are o.1.1)))
+          only = λ vs e h. ⊎_elim (λ (v : IsVariable e). inl v)
+              (λ (o : OverOne (nodes p) s a e). inr (o.0, (o.1.0, to vs o.0 h.variables o.1.1)))
               (as_single (nodes p) (at p) s a e is h.seen);
-          joins = λ ws e x h k. record {
-            widths_are = h.widths_are;
-            seen = AsSingle (at p) (single_node s x) s a x refl is (of_input (nodes p) (nodes l) (at l) a il ws x k);
+          joins = λ vs e x h k. record {
+            variables = h.variables;
+            seen = AsSingle (at p) (single_node s x) s a x refl is (of_input (nodes p) (nodes l) (at l) a il vs x k);
           };
-          operand = λ ws e h. (value, to ws value h.widths_are (AsValue (real (nodes p) a) value refl));
+          operand = λ vs e h. (value, to vs value h.variables (AsValue (real (nodes p) a) value refl));
         }
 
     module _ (r : S) (b : ℕ) (ir : IsInput (nodes p) (nodes r) (at r) b) where
       pub pair_here : (t : Pair) → op_at (nodes p) (at p) ≡ Some (O.Pair t a b) → IsPair Shows p t l r
       pair_here t is =
-          let left : (ws : ℕ → ℕ) (x : Expr) → ws ≡ width_at (nodes p) → Seen (nodes p) (real (nodes p) a) x → Shows ws l x =
-          λ ws x. to_input (nodes p) (nodes l) (at l) a il ws x in
-          let right : (ws : ℕ → ℕ) (x : Expr) → ws ≡ width_at (nodes p) → Seen (nodes p) (real (nodes p) b) x → Shows ws r x =
-          λ ws x. to_input (nodes p) (nodes r) (at r) b ir ws x in
+          let left : (vs : Variables) (x : Expr) → AreOf (nodes p) vs → Seen (nodes p) (real (nodes p) a) x → Shows vs l x =
+          λ vs x. to_input (nodes p) (nodes l) (at l) a il vs x in
+          let right : (vs : Variables) (x : Expr) → AreOf (nodes p) vs → Seen (nodes p) (real (nodes p) b) x → Shows vs r x =
+          λ vs x. to_input (nodes p) (nodes r) (at r) b ir vs x in
           let one = E.Var (real (nodes p) a) in
           let two = E.Var (real (nodes p) b) in
           record {
-            only = λ ws e h. ⊎_elim (λ (v : IsVariable e). inl v)
+            only = λ vs e h. ⊎_elim (λ (v : IsVariable e). inl v)
                 (λ (o : OverTwo (nodes p) t a b e). inr (record {
                   x = o.x;
                   y = o.y;
                   is = o.is;
-                  left = left ws o.x h.widths_are o.left;
-                  right = right ws o.y h.widths_are o.right;
+                  left = left vs o.x h.variables o.left;
+                  right = right vs o.y h.variables o.right;
                 }))
                 (as_pair (nodes p) (at p) t a b e is h.seen);
-            joins = λ ws e x y h k m. record {
-              widths_are = h.widths_are;
+            joins = λ vs e x y h k m. record {
+              variables = h.variables;
               seen = AsPair (at p) (pair_node t x y) t a b x y refl is
-                  (of_input (nodes p) (nodes l) (at l) a il ws x k) (of_input (nodes p) (nodes r) (at r) b ir ws y m);
+                  (of_input (nodes p) (nodes l) (at l) a il vs x k) (of_input (nodes p) (nodes r) (at r) b ir vs y m);
             };
-            operands = λ ws e h. (
+            operands = λ vs e h. (
               one,
               (
                 two,
                 (
-                  left ws one h.widths_are (AsValue (real (nodes p) a) one refl),
-                  right ws two h.widths_are (AsValue (real (nodes p) b) two refl),
+                  left vs one h.variables (AsValue (real (nodes p) a) one refl),
+                  right vs two h.variables (AsValue (real (nodes p) b) two refl),
                 ),
               ),
             );
@@ -222,9 +224,9 @@ module _ {S : Type 0} (nodes : S → List Node) (at : S → ℕ) where
       E.Var (at p),
       (
         Var (at p),
-        λ ws x y s t. (
-          record { widths_are = s.widths_are; seen = AsValue (at p) (E.Var (at p)) refl },
-          record { widths_are = t.widths_are; seen = AsValue (at q) (E.Var (at p)) (ap E.Var e) },
+        λ vs x y s t. (
+          record { variables = s.variables; seen = AsValue (at p) (E.Var (at p)) refl },
+          record { variables = t.variables; seen = AsValue (at q) (E.Var (at p)) (ap E.Var e) },
         ),
       ),
     )
@@ -234,17 +236,17 @@ module _ {S : Type 0} (nodes : S → List Node) (at : S → ℕ) where
       E.Const c,
       (
         Const c,
-        λ ws x y s t. (
-          h.seen ws x s,
-          record { widths_are = t.widths_are; seen = AsConst (at q) (E.Const c) c refl k },
+        λ vs x y s t. (
+          h.seen vs x s,
+          record { variables = t.variables; seen = AsConst (at q) (E.Const c) c refl k },
         ),
       ),
     )
 
     -- of two numbers an atom that is seen at both is a constant
-    pub unlike : (P : Type 0) → (at p ≡ at q → ⊥) → (ws : ℕ → ℕ)
-        → ((d : Word) → Shows ws p (E.Const d) → op_at (nodes q) (at q) ≡ Some (O.Const d) → P)
-        → (e : Expr) → IsAtom e → Shows ws p e → Shows ws q e → P
-    unlike P differ ws f e (Var v) s t =
+    pub unlike : (P : Type 0) → (at p ≡ at q → ⊥) → (vs : Variables)
+        → ((d : Word) → Shows vs p (E.Const d) → op_at (nodes q) (at q) ≡ Some (O.Const d) → P)
+        → (e : Expr) → IsAtom e → Shows vs p e → Shows vs q e → P
+    unlike P differ vs f e (Var v) s t =
         absurd (differ (sym (var_of (nodes p) (at p) v (E.Var v) refl s.seen) ∙ var_of (nodes q) (at q) v (E.Var v) refl t.seen))
-    unlike P differ ws f e (Const d) s t = f d s (const_of (nodes q) (at q) d (E.Const d) refl t.seen)
+    unlike P differ vs f e (Const d) s t = f d s (const_of (nodes q) (at q) d (E.Const d) refl t.seen)

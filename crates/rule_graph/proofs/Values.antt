@@ -22,11 +22,11 @@ use Rattle.rule_graph.proofs.Sizes.{stands, var_sized, seen_size}
 
 module _ (d : Reading) (ws : ℕ → ℕ) (env : ℕ → Option ℕ) where
   -- one reads as the other
-  record Like (x u : Expr) : Type 0 where
-    width : N.wide d ws x ≡ N.wide d ws u
-    value : value_by d ws env x ≡ value_by d ws env u
+  pub record Like (x u : Expr) : Type 0 where
+    pub width : N.wide d ws x ≡ N.wide d ws u
+    pub value : value_by d ws env x ≡ value_by d ws env u
 
-  single_like : (s : Single) (x u : Expr) → Like x u
+  pub single_like : (s : Single) (x u : Expr) → Like x u
       → value_by d ws env (single_node s x) ≡ value_by d ws env (single_node s u)
   single_like (S.Unary op) x u h =
       N.value_by_unary d ws env op x ∙ rw (h.width, h.value) (sym (N.value_by_unary d ws env op u))
@@ -37,7 +37,7 @@ module _ (d : Reading) (ws : ℕ → ℕ) (env : ℕ → Option ℕ) where
   single_like (S.Count op) x u h =
       N.value_by_count d ws env op x ∙ rw (h.width, h.value) (sym (N.value_by_count d ws env op u))
 
-  pair_like : (p : Pair) (x y u v : Expr) → Like x u → Like y v
+  pub pair_like : (p : Pair) (x y u v : Expr) → Like x u → Like y v
       → value_by d ws env (pair_node p x y) ≡ value_by d ws env (pair_node p u v)
   pair_like (P.Arithmetic op) x y u v h k = N.value_by_arithmetic d ws env op x y
       ∙ rw (h.width, k.width, h.value, k.value) (sym (N.value_by_arithmetic d ws env op u v))
@@ -68,9 +68,21 @@ module _ (d : Reading) (reads : IsReading d) (nodes : List Node) (f : IsFormed n
   copied_by a (Some (O.Single s x)) is = refl
   copied_by a (Some (O.Pair p x y)) is = refl
 
+  -- a COPY has the value of what it is of
+  pub copied : (a : ℕ) → env (real nodes a) ≡ env a
+  copied a = copied_by a (op_at nodes a) refl
+
   -- a width that is read is the size
   read_width : (e : Expr) (w : ℕ) → size_of (width_at nodes) e ≡ Some w → N.wide d (width_at nodes) e ≡ w
   read_width e w s = (good d reads (width_at nodes) env h.words e w s).width
+
+  -- what reads as the value of a node reads as its variable
+  pub like_var : (i : ℕ) (x : Expr) → i < length nodes → ReadsAs d nodes env i x
+      → Like d (width_at nodes) env x (E.Var i)
+  like_var i x inside k = record {
+    width = read_width x (width_at nodes i) k.size ∙ sym (read_width (E.Var i) (width_at nodes i) (var_sized nodes i inside));
+    value = k.value ∙ sym (N.value_by_var d (width_at nodes) env i);
+  }
 
   input_like : (a : ℕ) (x : Expr) → a < length nodes → ReadsAs d nodes env (real nodes a) x
       → Like d (width_at nodes) env x (E.Var a)
@@ -78,7 +90,7 @@ module _ (d : Reading) (reads : IsReading d) (nodes : List Node) (f : IsFormed n
       let t = stands nodes f a inside in record {
         width = read_width x (width_at nodes (real nodes a)) k.size ∙ t.width
             ∙ sym (read_width (E.Var a) (width_at nodes a) (var_sized nodes a inside));
-        value = k.value ∙ copied_by a (op_at nodes a) refl ∙ sym (N.value_by_var d (width_at nodes) env a);
+        value = k.value ∙ copied a ∙ sym (N.value_by_var d (width_at nodes) env a);
       }
 
   -- What is seen at a node reads as its value.

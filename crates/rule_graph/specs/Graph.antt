@@ -61,8 +61,3 @@ pub data Seen (nodes : List Node) : ℕ → Expr → Type 0 where
       → op_at nodes i ≡ Some (O.Single s a) → Seen nodes (real nodes a) x → Seen nodes i e
   AsPair : (i : ℕ) (e : Expr) (p : Pair) (a b : ℕ) (x y : Expr) → e ≡ pair_node p x y
       → op_at nodes i ≡ Some (O.Pair p a b) → Seen nodes (real nodes a) x → Seen nodes (real nodes b) y → Seen nodes i e
-
--- at a node i, where each variable is as wide as the node of its number
-pub record IsSeen (nodes : List Node) (i : ℕ) (ws : ℕ → ℕ) (e : Expr) : Type 0 where
-  pub widths_are : ws ≡ width_at nodes
-  pub seen : Seen nodes i e

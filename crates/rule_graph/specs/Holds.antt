@@ -1,18 +1,15 @@
--- The values of a graph's nodes where each node's equation holds, and what keeps them.
+-- The values of a graph's nodes where each node's equation holds.
 use Rattle.std.specs.Prelude.{◌≡◌, ℕ, List, Option, Some}
 use Rattle.bits_core.specs.declared.word.Word.{Word}
 use Rattle.cmeaning.specs.declared.tree.Expr.{Expr}
 use Rattle.cmeaning.specs.declared.tree.Expr.TheVariants as E
 use Rattle.rules.specs.Size.{AreWords, size_of}
-use Rattle.rules.specs.Readings.{Reading, IsReading, value_by}
+use Rattle.rules.specs.Readings.{Reading, value_by}
 use Rattle.rule_views.specs.declared.nodes.Single.{Single}
 use Rattle.rule_views.specs.declared.nodes.Pair.{Pair}
-use Rattle.rule_views.specs.declared.view.Made.{Made}
 use Rattle.rule_views.specs.Nodes.{single_node, pair_node}
-use Rattle.rule_views.specs.Makes.{Makes}
 use Rattle.rule_graph.specs.declared.node.Op.TheVariants as O
 use Rattle.rule_graph.specs.declared.node.Node.{Node}
-use Rattle.rule_graph.specs.declared.place.Place.{Place}
 use Rattle.rule_graph.specs.Graph.{op_at, width_at}
 
 -- however divisions read
@@ -29,19 +26,3 @@ pub record Holds (d : Reading) (nodes : List Node) (env : ℕ → Option ℕ) : 
 pub record ReadsAs (d : Reading) (nodes : List Node) (env : ℕ → Option ℕ) (i : ℕ) (e : Expr) : Type 0 where
   pub size : size_of (width_at nodes) e ≡ Some (width_at nodes i)
   pub value : value_by d (width_at nodes) env e ≡ env i
-
--- at a place of this graph
-abbrev pub ReadsAt : Reading → List Node → (ℕ → Option ℕ) → Place → Expr → Type 0
-ReadsAt d nodes env p e = p.nodes.now ≡ nodes → ReadsAs d nodes env p.at e
-
--- What is made has the width of the node and, wherever the equations hold, the value that the node has; its operands are
--- values of the graph.
-pub record IsKept (d : Reading) (p : Place) (made : Made Place) (env : ℕ → Option ℕ) (n : ℕ) : Type 0 where
-  pub r : Expr
-  pub makes : Makes (ReadsAt d p.nodes.now env) made r
-  pub size : size_of (width_at p.nodes.now) r ≡ Some (width_at p.nodes.now p.at)
-  pub value : value_by d (width_at p.nodes.now) env r ≡ Some n
-
-abbrev pub IsKeptAt : Place → Made Place → Type 0
-IsKeptAt p made = (d : Reading) → IsReading d → (env : ℕ → Option ℕ) → Holds d p.nodes.now env
-    → (n : ℕ) → env p.at ≡ Some n → IsKept d p made env n

@@ -1,2 +1,4 @@
+pub mod Found
 pub mod Graph
 pub mod Holds
+pub mod Sees

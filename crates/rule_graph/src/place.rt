@@ -2,7 +2,8 @@
 
 ghost use Rattle.std.specs.Prelude.{◌≡◌, ◌<◌, ℕ, ◌↔◌, length, Some, IsTrue};
 ghost use Rattle.rule_graph.specs.declared.node.Op.TheVariants as O;
-ghost use Rattle.rule_graph.specs.Graph.{IsFormed, IsPlain, IsSeen, op_at, real, width_at};
+ghost use Rattle.rule_graph.specs.Graph.{IsFormed, IsPlain, op_at, real, width_at};
+ghost use Rattle.rule_graph.specs.Sees.{IsSeen};
 
 use crate::node::{Node, Op};
 use bits_core::{Width, Word};
@@ -31,8 +32,8 @@ fn width_here(nodes: &[Node], i: u32) -> Width
     nodes[i as usize].width
 }
 
-// The place of an input: what a COPY is of, else the node itself.
-fn input<'a>(nodes: &'a [Node], i: u32) -> Place<'a>
+/// The place of an input: what a COPY is of, else the node itself.
+pub fn input<'a>(nodes: &'a [Node], i: u32) -> Place<'a>
     requires formed { IsFormed nodes.now }
     requires inside { i < length nodes.now }
     ensures nodes { result.nodes.now ≡ nodes.now }
@@ -45,7 +46,7 @@ fn input<'a>(nodes: &'a [Node], i: u32) -> Place<'a>
 }
 
 impl<'a> View for Place<'a> {
-    ghost Sees = { λ ws p e. IsSeen p.nodes.now p.at ws e };
+    ghost Sees = { λ vs p e. IsSeen p.nodes.now p.at vs e };
 
     fn constant(self) -> Option<Word> {
         match op_here(self.nodes, self.at) {

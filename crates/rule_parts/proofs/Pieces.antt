@@ -19,6 +19,7 @@ use Rattle.rule_views.specs.declared.view.Made.{Made}
 use Rattle.rule_views.specs.declared.view.Made.TheVariants as M
 use Rattle.rule_views.specs.Makes.{Makes}
 use Rattle.rule_views.specs.Sees.{Sight, IsSized, IsWideAt, IsSingle, NoSingle}
+use Rattle.rule_views.specs.Variables.{Variables}
 use Rattle.rule_views.proofs.Seen.{single_only}
 use Rattle.rule_views.proofs.Fire.{wide_only}
 use Rattle.rule_parts.specs.Pieces.{NoPart, NoExtend, IsWhole, IsLess, IsPiece}
@@ -74,18 +75,18 @@ module _ {T : Type 0} (sees : Sight T) where
   -- ---- looks
 
   pub no_single_part : (at : T) → NoSingle sees at → NoPart sees at
-  no_single_part at n ws k w x s = n ws (S.Part k w) x s
+  no_single_part at n vs k w x s = n vs (S.Part k w) x s
 
   pub no_part : (at a : T) (t : Single) → IsSingle sees at t a → ((k : ℕ) (w : Width) → t ≡ S.Part k w → ⊥)
       → NoPart sees at
-  no_part at a t i h ws k w x s = h k w (sym (single_only sees at a t i ws (S.Part k w) x s).0)
+  no_part at a t i h vs k w x s = h k w (sym (single_only sees at a t i vs (S.Part k w) x s).0)
 
   pub no_single_extend : (at : T) → NoSingle sees at → NoExtend sees at
-  no_single_extend at n ws op w x s = n ws (S.Extend op w) x s
+  no_single_extend at n vs op w x s = n vs (S.Extend op w) x s
 
   pub no_extend : (at a : T) (t : Single) → IsSingle sees at t a
       → ((op : ExtendOp) (w : Width) → t ≡ S.Extend op w → ⊥) → NoExtend sees at
-  no_extend at a t i h ws op w x s = h op w (sym (single_only sees at a t i ws (S.Extend op w) x s).0)
+  no_extend at a t i h vs op w x s = h op w (sym (single_only sees at a t i vs (S.Extend op w) x s).0)
 
   -- ---- a piece
 
@@ -94,29 +95,29 @@ module _ {T : Type 0} (sees : Sight T) where
     is_whole u zero wide is = inl (refl, zero, subst (IsWideAt sees x) is wide)
 
     pub past_start : (k ≡ 0 → ⊥) → IsPiece sees x k w (M.Single (S.Part k w) (A.Place x))
-    past_start n = inr (refl, λ ws e s zero wide. n zero)
+    past_start n = inr (refl, λ vs e s zero wide. n zero)
 
     pub other_width : (u : ℕ) → IsWideAt sees x u → (u ≡ w.bytes → ⊥)
         → IsPiece sees x k w (M.Single (S.Part k w) (A.Place x))
-    other_width u wide n = inr (refl, λ ws e s zero is. n (sym (wide_only sees x u wide ws e w.bytes s is)))
+    other_width u wide n = inr (refl, λ vs e s zero is. n (sym (wide_only sees x u wide vs e w.bytes s is)))
 
     -- what is made is the part of what is seen, or the whole of it
-    pub record Made_of (made : Made T) (ws : ℕ → ℕ) (e : Expr) : Type 0 where
+    pub record Made_of (made : Made T) (vs : Variables) (e : Expr) : Type 0 where
       pub r : Expr
-      pub makes : Makes (sees ws) made r
-      pub which : ((r ≡ e) × (k ≡ 0) × IsWide ws e w.bytes)
-          ⊎ ((r ≡ E.Part k w e) × (k ≡ 0 → IsWide ws e w.bytes → ⊥))
+      pub makes : Makes (sees vs) made r
+      pub which : ((r ≡ e) × (k ≡ 0) × IsWide vs.widths e w.bytes)
+          ⊎ ((r ≡ E.Part k w e) × (k ≡ 0 → IsWide vs.widths e w.bytes → ⊥))
 
-    pub made_of : (made : Made T) → IsPiece sees x k w made → (ws : ℕ → ℕ) (e : Expr) → sees ws x e → Made_of made ws e
-    made_of made piece ws e s =
+    pub made_of : (made : Made T) → IsPiece sees x k w made → (vs : Variables) (e : Expr) → sees vs x e → Made_of made vs e
+    made_of made piece vs e s =
         ⊎_elim (λ (p : IsWhole sees x k w made). record {
           r = e;
-          makes = subst (λ m. Makes (sees ws) m e) (sym p.0) s;
-          which = inl (refl, p.1, p.2 ws e s);
+          makes = subst (λ m. Makes (sees vs) m e) (sym p.0) s;
+          which = inl (refl, p.1, p.2 vs e s);
         })
         (λ (p : IsLess sees x k w made). record {
           r = E.Part k w e;
-          makes = subst (λ m. Makes (sees ws) m (E.Part k w e)) (sym p.0) (e, (refl, s));
-          which = inr (refl, p.1 ws e s);
+          makes = subst (λ m. Makes (sees vs) m (E.Part k w e)) (sym p.0) (e, (refl, s));
+          which = inr (refl, p.1 vs e s);
         })
         piece

@@ -11,12 +11,13 @@ use Rattle.rule_views.specs.declared.view.Arg.TheVariants as A
 use Rattle.rule_views.specs.declared.view.Made.{Made}
 use Rattle.rule_views.specs.declared.view.Made.TheVariants as M
 use Rattle.rule_views.specs.Sees.{Sight, IsWideAt}
+use Rattle.rule_views.specs.Variables.{Variables}
 
 abbrev pub NoPart : {T : Type 0} → Sight T → T → Type 0
-NoPart sees at = (ws : ℕ → ℕ) (k : ℕ) (w : Width) (x : Expr) → sees ws at (E.Part k w x) → ⊥
+NoPart sees at = (vs : Variables) (k : ℕ) (w : Width) (x : Expr) → sees vs at (E.Part k w x) → ⊥
 
 abbrev pub NoExtend : {T : Type 0} → Sight T → T → Type 0
-NoExtend sees at = (ws : ℕ → ℕ) (op : ExtendOp) (w : Width) (x : Expr) → sees ws at (E.Extend op w x) → ⊥
+NoExtend sees at = (vs : Variables) (op : ExtendOp) (w : Width) (x : Expr) → sees vs at (E.Extend op w x) → ⊥
 
 -- ---- a piece
 
@@ -27,7 +28,7 @@ IsWhole sees x k w made = (made ≡ M.Is (A.Place x)) × (k ≡ 0) × IsWideAt s
 -- a part of x that is not the whole of it
 abbrev pub IsLess : {T : Type 0} → Sight T → T → ℕ → Width → Made T → Type 0
 IsLess sees x k w made = (made ≡ M.Single (S.Part k w) (A.Place x))
-    × ((ws : ℕ → ℕ) (e : Expr) → sees ws x e → k ≡ 0 → IsWide ws e w.bytes → ⊥)
+    × ((vs : Variables) (e : Expr) → sees vs x e → k ≡ 0 → IsWide vs.widths e w.bytes → ⊥)
 
 -- Sub(x, k, w), or x where that is the whole of it
 abbrev pub IsPiece : {T : Type 0} → Sight T → T → ℕ → Width → Made T → Type 0
@@ -37,12 +38,12 @@ IsPiece sees x k w made = IsWhole sees x k w made ⊎ IsLess sees x k w made
 
 -- it lies neither wholly in the low word nor wholly in the high one
 abbrev pub NoneOfConcat : {T : Type 0} → Sight T → T → ℕ → Width → Type 0
-NoneOfConcat sees a k w = (ws : ℕ → ℕ) (x y : Expr) (u : ℕ) → sees ws a (E.Concat x y) → IsWide ws y u
+NoneOfConcat sees a k w = (vs : Variables) (x y : Expr) (u : ℕ) → sees vs a (E.Concat x y) → IsWide vs.widths y u
     → (k + w.bytes ≤ u → ⊥) × (u ≤ k → ⊥)
 
 -- it begins within the extended word, past its first byte, and goes beyond it
 abbrev pub NoneOfZext : {T : Type 0} → Sight T → T → ℕ → Width → Type 0
-NoneOfZext sees a k w = (ws : ℕ → ℕ) (x : Expr) (v : Width) (u : ℕ) → sees ws a (E.Extend X.Zext v x) → IsWide ws x u
+NoneOfZext sees a k w = (vs : Variables) (x : Expr) (v : Width) (u : ℕ) → sees vs a (E.Extend X.Zext v x) → IsWide vs.widths x u
     → (k + w.bytes ≤ u → ⊥) × (u ≤ k → ⊥) × (k ≡ 0 → ⊥)
 
 pub record NoneOfPart {T : Type 0} (sees : Sight T) (a : T) (k : ℕ) (w : Width) : Type 0 where
@@ -60,5 +61,5 @@ Extends X.Sext X.Sext = Unit {0}
 Extends X.Zext X.Sext = ⊥
 
 abbrev pub NoneInside : {T : Type 0} → Sight T → ExtendOp → T → Type 0
-NoneInside sees op a = (ws : ℕ → ℕ) (inner : ExtendOp) (v : Width) (x : Expr) → Extends op inner
-    → sees ws a (E.Extend inner v x) → ⊥
+NoneInside sees op a = (vs : Variables) (inner : ExtendOp) (v : Width) (x : Expr) → Extends op inner
+    → sees vs a (E.Extend inner v x) → ⊥

@@ -21,6 +21,7 @@ use Rattle.rule_views.specs.Nodes.{pair_node}
 use Rattle.rule_views.specs.Rows.{ShiftingOf}
 use Rattle.rule_views.specs.Sees.{Sight, IsWideAt, IsConstant, NoConstant}
 use Rattle.rule_views.specs.Fires.{FiredWith, FiredOfPair, NoneOfPair}
+use Rattle.rule_views.specs.Variables.{Variables}
 use Rattle.rule_views.proofs.Layers.{same_pair}
 use Rattle.rule_views.proofs.Fire.{same_with, wide_only, with_constant}
 use Rattle.rule_views.proofs.Seen.{constant_only}
@@ -28,12 +29,12 @@ use Rattle.rule_sums.specs.Sides.{NotPassed, NoneShifted}
 
 module _ {T : Type 0} (sees : Sight T) (a : T) (c : Word) where
   pub not_passed : (w : ℕ) → IsWideAt sees a w → c.value < 8 * w → NotPassed sees a c
-  not_passed w wide less ws x v s is most = let e : v ≡ w = wide_only sees a w wide ws x v s is in absurd (omega arith)
+  not_passed w wide less vs x v s is most = let e : v ≡ w = wide_only sees a w wide vs x v s is in absurd (omega arith)
 
   module _ (op : ShiftOp) where
     pub nothing_fires : c.value ≡ 0 → FiredWith (ShiftingOf R.A1) sees (P.Shift op) a c (M.Is (A.Place a))
     nothing_fires z = record {
-      fires = λ ws x sized s. record { x = x; r = x; left = s; rule = (A1_shift op x c z, refl); makes = s };
+      fires = λ vs x sized s. record { x = x; r = x; left = s; rule = (A1_shift op x c z, refl); makes = s };
     }
 
     pub past_fires : (w : Width) (z : Word) → (op ≡ H.Sar → ⊥) → IsWideAt sees a w.bytes → 8 * w.bytes ≤ c.value
@@ -42,12 +43,12 @@ module _ {T : Type 0} (sees : Sight T) (a : T) (c : Word) where
     past_fires w z n wide most is zero =
         let width : z.width.bytes ≡ w.bytes = ap (λ (v : Width). v.bytes) is in
         record {
-          fires = λ ws x sized s. record {
+          fires = λ vs x sized s. record {
             x = x;
             r = E.Const z;
             left = s;
             rule = (
-              S1 op x c z n (subst (IsWide ws x) (sym width) (wide ws x s))
+              S1 op x c z n (subst (IsWide vs.widths x) (sym width) (wide vs x s))
                   (subst (λ v. 8 * v ≤ c.value) (sym width) most) (zero ∙ zero-mod (limit w.bytes)),
               refl,
             );
@@ -66,35 +67,35 @@ module _ {T : Type 0} (sees : Sight T) (a : T) (c : Word) where
           value = value ∙ mod-eq_of_lt small;
         } in
         record {
-          fires = λ ws x sized s. (
+          fires = λ vs x sized s. (
               let Q : ShiftOp → Type 0 =
-              λ o. ShiftingOf R.S2 ws (E.Shift o x (E.Const c)) (E.Shift H.Sar x (E.Const e)) in
+              λ o. ShiftingOf R.S2 vs.widths (E.Shift o x (E.Const c)) (E.Shift H.Sar x (E.Const e)) in
               record {
                 x = x;
                 r = E.Shift H.Sar x (E.Const e);
                 left = s;
-                rule = subst Q (sym is) (S2 x w c e (wide ws x s) most word, refl);
+                rule = subst Q (sym is) (S2 x w c e (wide vs x s) most word, refl);
                 makes = (x, (E.Const e, (refl, s, refl)));
               });
         }
 
     -- a rule of shifts whose node is this shift by this constant
-    none : (ws : ℕ → ℕ) (l r x : Expr) → NoneShifted sees op a c → Shifting ws l r → l ≡ E.Shift op x (E.Const c)
-        → sees ws a x → ⊥
-    none ws l r x n (A1_shift q y d z) is s =
+    none : (vs : Variables) (l r x : Expr) → NoneShifted sees op a c → Shifting vs.widths l r → l ≡ E.Shift op x (E.Const c)
+        → sees vs a x → ⊥
+    none vs l r x n (A1_shift q y d z) is s =
         let e = same_with (P.Shift q) (P.Shift op) y x d c is in
         n.nothing (ap (λ (v : Word). v.value) (sym e.word) ∙ z)
-    none ws l r x n (S1 q y d z other wide most zero) is s =
+    none vs l r x n (S1 q y d z other wide most zero) is s =
         let e = same_with (P.Shift q) (P.Shift op) y x d c is in
         let node : P.Shift q ≡ P.Shift op = e.node in
         let same : q ≡ op = cc in
-        n.bits (λ h. other (same ∙ h)) ws x z.width.bytes s (subst (λ v. IsWide ws v z.width.bytes) e.left wide)
+        n.bits (λ h. other (same ∙ h)) vs x z.width.bytes s (subst (λ v. IsWide vs.widths v z.width.bytes) e.left wide)
         (subst (λ (v : Word). 8 * z.width.bytes ≤ v.value) e.word most)
-    none ws l r x n (S2 y w d f wide most word) is s =
+    none vs l r x n (S2 y w d f wide most word) is s =
         let e = same_with (P.Shift H.Sar) (P.Shift op) y x d c is in
         let node : P.Shift H.Sar ≡ P.Shift op = e.node in
         let same : H.Sar ≡ op = cc in
-        n.sign (sym same) ws x w s (subst (λ v. IsWide ws v w) e.left wide)
+        n.sign (sym same) vs x w s (subst (λ v. IsWide vs.widths v w) e.left wide)
         (subst (λ (v : Word). 8 * w ≤ v.value) e.word most)
 
 module _ {T : Type 0} (sees : Sight T) (p : Pair) (a b : T) where
@@ -102,37 +103,37 @@ module _ {T : Type 0} (sees : Sight T) (p : Pair) (a b : T) where
   data IsShift (x y : Expr) : Type 0 where
     Is : (op : ShiftOp) (c : Word) → p ≡ P.Shift op → y ≡ E.Const c → IsShift x y
 
-  is_shift : (ws : ℕ → ℕ) (l r x y : Expr) → Shifting ws l r → l ≡ pair_node p x y → IsShift x y
-  is_shift ws l r x y (A1_shift q u d z) is =
+  is_shift : (vs : Variables) (l r x y : Expr) → Shifting vs.widths l r → l ≡ pair_node p x y → IsShift x y
+  is_shift vs l r x y (A1_shift q u d z) is =
       let e = same_pair (P.Shift q) p u (E.Const d) x y is in Is q d (sym e.node) (sym e.right)
-  is_shift ws l r x y (S1 q u d z other wide most zero) is =
+  is_shift vs l r x y (S1 q u d z other wide most zero) is =
       let e = same_pair (P.Shift q) p u (E.Const d) x y is in Is q d (sym e.node) (sym e.right)
-  is_shift ws l r x y (S2 u w d f wide most word) is =
+  is_shift vs l r x y (S2 u w d f wide most word) is =
       let e = same_pair (P.Shift H.Sar) p u (E.Const d) x y is in Is H.Sar d (sym e.node) (sym e.right)
 
   pub other_node : ((op : ShiftOp) → p ≡ P.Shift op → ⊥) → NoneOfPair Shifting sees p a b
   other_node n = record {
-    none = λ ws x y r sized rule s t. (
-        elim (is_shift ws (pair_node p x y) r x y rule refl) [ Is op c node const ↦ n op node ]);
+    none = λ vs x y r sized rule s t. (
+        elim (is_shift vs (pair_node p x y) r x y rule refl) [ Is op c node const ↦ n op node ]);
   }
 
   pub no_constant : NoConstant sees b → NoneOfPair Shifting sees p a b
   no_constant n = record {
-    none = λ ws x y r sized rule s t. (
-        elim (is_shift ws (pair_node p x y) r x y rule refl)
-        [ Is op c node const ↦ n ws c (subst (sees ws b) const t) ]);
+    none = λ vs x y r sized rule s t. (
+        elim (is_shift vs (pair_node p x y) r x y rule refl)
+        [ Is op c node const ↦ n vs c (subst (sees vs b) const t) ]);
   }
 
   pub none_shifted : (op : ShiftOp) (c : Word) → p ≡ P.Shift op → IsConstant sees b c → NoneShifted sees op a c
       → NoneOfPair Shifting sees p a b
   none_shifted op c is k n = record {
-    none = λ ws x y r sized rule s t. (
-        elim (is_shift ws (pair_node p x y) r x y rule refl) [
+    none = λ vs x y r sized rule s t. (
+        elim (is_shift vs (pair_node p x y) r x y rule refl) [
           | Is o d node const ↦ (
-              let word : d ≡ c = constant_only sees b c k ws d (subst (sees ws b) const t) in
+              let word : d ≡ c = constant_only sees b c k vs d (subst (sees vs b) const t) in
               let l : pair_node p x y ≡ E.Shift op x (E.Const c) =
               ap (λ q. pair_node q x y) is ∙ ap (λ z. E.Shift op x z) (const ∙ ap E.Const word) in
-              none sees a c op ws (pair_node p x y) r x n rule l s)
+              none sees a c op vs (pair_node p x y) r x n rule l s)
         ]);
   }
 

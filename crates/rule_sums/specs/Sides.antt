@@ -17,10 +17,11 @@ use Rattle.rule_views.specs.declared.nodes.Pair.{Pair}
 use Rattle.rule_views.specs.declared.nodes.Pair.TheVariants as P
 use Rattle.rule_views.specs.Sees.{Sight, NoAtom}
 use Rattle.rule_views.specs.Beside.{IsSum, NoneBeside}
+use Rattle.rule_views.specs.Variables.{Variables}
 
 -- whatever is seen has more bits than c
 abbrev pub NotPassed : {S : Type 0} → Sight S → S → Word → Type 0
-NotPassed sees a c = (ws : ℕ → ℕ) (x : Expr) (w : ℕ) → sees ws a x → IsWide ws x w → 8 * w ≤ c.value → ⊥
+NotPassed sees a c = (vs : Variables) (x : Expr) (w : ℕ) → sees vs a x → IsWide vs.widths x w → 8 * w ≤ c.value → ⊥
 
 -- no rule of shifts by c
 pub record NoneShifted {S : Type 0} (sees : Sight S) (op : ShiftOp) (a : S) (c : Word) : Type 0 where
@@ -37,7 +38,7 @@ Leaves (P.SignedDivision T.SDiv) c = c.value ≡ 1
 Leaves p c = ⊥
 
 abbrev pub NoUnaryOf : {S : Type 0} → Sight S → UnaryOp → S → Type 0
-NoUnaryOf sees op a = (ws : ℕ → ℕ) (x : Expr) → sees ws a (E.Unary op x) → ⊥
+NoUnaryOf sees op a = (vs : Variables) (x : Expr) → sees vs a (E.Unary op x) → ⊥
 
 -- (x inner c) op d: x to e
 abbrev pub Nests : ArithmeticOp → ArithmeticOp → Word → Word → ArithmeticOp → Word → Type 0
@@ -66,7 +67,7 @@ pub record NoneBy {S : Type 0} (sees : Sight S) (p : Pair) (a : S) (c : Word) : 
 
 -- wherever the right operand is seen as a constant
 pub record NoneByConstant {S : Type 0} (sees : Sight S) (p : Pair) (a b : S) : Type 0 where
-  pub none : (ws : ℕ → ℕ) (c : Word) → sees ws b (E.Const c) → NoneBy sees p a c
+  pub none : (vs : Variables) (c : Word) → sees vs b (E.Const c) → NoneBy sees p a c
 
 -- ---- of all others with two operands
 

@@ -21,6 +21,7 @@ use Rattle.rule_views.specs.Nodes.{pair_node}
 use Rattle.rule_views.specs.Sees.{Sight, IsSized, IsWideAt, IsConstant, NoConstant, NoZero, IsPair, NoPair, NoNode, IsSingle, NoSingle}
 use Rattle.rule_views.specs.Fires.{Family, FiredOfPair, FiredWith}
 use Rattle.rule_views.specs.Beside.{ConstOn, OnRight, OnLeft, NoBeside, IsBeside, NoArithmetic, NoUnary}
+use Rattle.rule_views.specs.Variables.{Variables}
 use Rattle.rule_views.proofs.Layers.{same_pair, same_const}
 use Rattle.rule_views.proofs.Seen.{pair_only, single_only, constant_only}
 
@@ -38,17 +39,17 @@ same_with p q x y c d e =
 
 module _ {T : Type 0} (sees : Sight T) where
   -- whatever is seen has the one width
-  pub wide_only : (a : T) (w : ℕ) → IsWideAt sees a w → (ws : ℕ → ℕ) (x : Expr) (v : ℕ) → sees ws a x → IsWide ws x v
+  pub wide_only : (a : T) (w : ℕ) → IsWideAt sees a w → (vs : Variables) (x : Expr) (v : ℕ) → sees vs a x → IsWide vs.widths x v
       → v ≡ w
-  wide_only a w wide ws x v s is = some_is v w (sym is ∙ wide ws x s)
+  wide_only a w wide vs x v s is = some_is v w (sym is ∙ wide vs x s)
 
   -- a rule of a node over a constant is one where a constant stands
   pub with_constant : (family : Family) (p : Pair) (a b : T) (c : Word) (made : Made T) → IsConstant sees b c
       → FiredWith family sees p a c made → FiredOfPair family sees p a b made
   with_constant family p a b c made k f = record {
-    fires = λ ws x y sized s t. (
-        let const : sees ws b (E.Const c) = k.seen ws y t in
-        let w = f.fires ws x (λ u h. sized u (E.Const c) h const) s in
+    fires = λ vs x y sized s t. (
+        let const : sees vs b (E.Const c) = k.seen vs y t in
+        let w = f.fires vs x (λ u h. sized u (E.Const c) h const) s in
         record {
           x = w.x;
           y = E.Const c;
@@ -62,106 +63,106 @@ module _ {T : Type 0} (sees : Sight T) where
 
   -- ---- a left side that is seen, by the operands of the node
 
-  pub two_seen : (p : Pair) (a b : T) (ws : ℕ → ℕ) (x y : Expr) → sees ws a x → sees ws b y → (q : Pair) (u v : Expr)
-      → pair_node q u v ≡ pair_node p x y → (q ≡ p) × (sees ws a u × sees ws b v)
-  two_seen p a b ws x y s t q u v is =
+  pub two_seen : (p : Pair) (a b : T) (vs : Variables) (x y : Expr) → sees vs a x → sees vs b y → (q : Pair) (u v : Expr)
+      → pair_node q u v ≡ pair_node p x y → (q ≡ p) × (sees vs a u × sees vs b v)
+  two_seen p a b vs x y s t q u v is =
       let e = same_pair q p u v x y is in
-      (e.node, (subst (sees ws a) (sym e.left) s, subst (sees ws b) (sym e.right) t))
+      (e.node, (subst (sees vs a) (sym e.left) s, subst (sees vs b) (sym e.right) t))
 
-  pub record WithSeen (p : Pair) (a : T) (c : Word) (ws : ℕ → ℕ) (q : Pair) (u : Expr) (d : Word) : Type 0 where
+  pub record WithSeen (p : Pair) (a : T) (c : Word) (vs : Variables) (q : Pair) (u : Expr) (d : Word) : Type 0 where
     pub node : q ≡ p
     pub word : d ≡ c
-    pub letter : sees ws a u
+    pub letter : sees vs a u
 
-  pub with_seen : (p : Pair) (a b : T) (c : Word) → IsConstant sees b c → (ws : ℕ → ℕ) (x y : Expr) → sees ws a x
-      → sees ws b y → (q : Pair) (u : Expr) (d : Word) → pair_node q u (E.Const d) ≡ pair_node p x y
-      → WithSeen p a c ws q u d
-  with_seen p a b c k ws x y s t q u d is =
-      let e = two_seen p a b ws x y s t q u (E.Const d) is in
-      record { node = e.0; word = constant_only sees b c k ws d e.1.1; letter = e.1.0 }
+  pub with_seen : (p : Pair) (a b : T) (c : Word) → IsConstant sees b c → (vs : Variables) (x y : Expr) → sees vs a x
+      → sees vs b y → (q : Pair) (u : Expr) (d : Word) → pair_node q u (E.Const d) ≡ pair_node p x y
+      → WithSeen p a c vs q u d
+  with_seen p a b c k vs x y s t q u d is =
+      let e = two_seen p a b vs x y s t q u (E.Const d) is in
+      record { node = e.0; word = constant_only sees b c k vs d e.1.1; letter = e.1.0 }
 
   -- ---- looks
 
   pub no_zero : (at : T) (c : Word) → IsConstant sees at c → (c.value ≡ 0 → ⊥) → NoZero sees at
-  no_zero at c k n ws d z s = n (ap (λ (w : Word). w.value) (sym (constant_only sees at c k ws d s)) ∙ z)
+  no_zero at c k n vs d z s = n (ap (λ (w : Word). w.value) (sym (constant_only sees at c k vs d s)) ∙ z)
 
   pub no_other_node : (at a b : T) (p q : Pair) → IsPair sees at q a b → (q ≡ p → ⊥) → NoNode sees at p
-  no_other_node at a b p q i n ws x y s = n (sym (pair_only sees at a b q i ws p x y s).0)
+  no_other_node at a b p q i n vs x y s = n (sym (pair_only sees at a b q i vs p x y s).0)
 
   pub of_node : (at a b : T) (p q : Pair) → IsPair sees at q a b → q ≡ p → IsPair sees at p a b
   of_node at a b p q i is = subst (λ r. IsPair sees at r a b) is i
 
   pub no_pair_arithmetic : (at : T) → NoPair sees at → NoArithmetic sees at
-  no_pair_arithmetic at n ws op x y s = n ws (P.Arithmetic op) x y s
+  no_pair_arithmetic at n vs op x y s = n vs (P.Arithmetic op) x y s
 
   pub no_arithmetic : (at a b : T) (p : Pair) → IsPair sees at p a b → ((op : ArithmeticOp) → p ≡ P.Arithmetic op → ⊥)
       → NoArithmetic sees at
-  no_arithmetic at a b p i h ws op x y s = h op (sym (pair_only sees at a b p i ws (P.Arithmetic op) x y s).0)
+  no_arithmetic at a b p i h vs op x y s = h op (sym (pair_only sees at a b p i vs (P.Arithmetic op) x y s).0)
 
   module _ (at a b : T) (op : ArithmeticOp) (i : IsPair sees at (P.Arithmetic op) a b) where
-    record Opened (ws : ℕ → ℕ) (o : ArithmeticOp) (x y : Expr) : Type 0 where
+    record Opened (vs : Variables) (o : ArithmeticOp) (x y : Expr) : Type 0 where
       node : o ≡ op
-      left : sees ws a x
-      right : sees ws b y
+      left : sees vs a x
+      right : sees vs b y
 
-    opened : (ws : ℕ → ℕ) (o : ArithmeticOp) (x y : Expr) → sees ws at (E.Arithmetic o x y) → Opened ws o x y
-    opened ws o x y s =
-        let e = pair_only sees at a b (P.Arithmetic op) i ws (P.Arithmetic o) x y s in
+    opened : (vs : Variables) (o : ArithmeticOp) (x y : Expr) → sees vs at (E.Arithmetic o x y) → Opened vs o x y
+    opened vs o x y s =
+        let e = pair_only sees at a b (P.Arithmetic op) i vs (P.Arithmetic o) x y s in
         let node : P.Arithmetic o ≡ P.Arithmetic op = e.0 in
         record { node = cc; left = e.1.0; right = e.1.1 }
 
-    op_only : (ws : ℕ → ℕ) (o : ArithmeticOp) (x : Expr) (d : Word) (l : Expr) → ConstOn o x d l → sees ws at l → o ≡ op
-    op_only ws o x d l (OnRight q y e) s = (opened ws q y (E.Const e) s).node
-    op_only ws o x d l (OnLeft q y e k) s = (opened ws q (E.Const e) y s).node
+    op_only : (vs : Variables) (o : ArithmeticOp) (x : Expr) (d : Word) (l : Expr) → ConstOn o x d l → sees vs at l → o ≡ op
+    op_only vs o x d l (OnRight q y e) s = (opened vs q y (E.Const e) s).node
+    op_only vs o x d l (OnLeft q y e k) s = (opened vs q (E.Const e) y s).node
 
     pub beside_right : (c : Word) → IsConstant sees b c → IsBeside sees at op a c
     beside_right c k = record {
       only = op_only;
-      seen = λ ws e s. (
-          let o = i.operands ws e s in
-          let const : sees ws b (E.Const c) = k.seen ws o.1.0 o.1.1.1 in
+      seen = λ vs e s. (
+          let o = i.operands vs e s in
+          let const : sees vs b (E.Const c) = k.seen vs o.1.0 o.1.1.1 in
           record {
             x = o.0;
             l = E.Arithmetic op o.0 (E.Const c);
             on = OnRight op o.0 c;
             letter = o.1.1.0;
-            seen = i.joins ws e o.0 (E.Const c) s o.1.1.0 const;
+            seen = i.joins vs e o.0 (E.Const c) s o.1.1.0 const;
           });
     }
 
     pub beside_left : (c : Word) → Commutes op → IsConstant sees a c → IsBeside sees at op b c
     beside_left c h k = record {
       only = op_only;
-      seen = λ ws e s. (
-          let o = i.operands ws e s in
-          let const : sees ws a (E.Const c) = k.seen ws o.0 o.1.1.0 in
+      seen = λ vs e s. (
+          let o = i.operands vs e s in
+          let const : sees vs a (E.Const c) = k.seen vs o.0 o.1.1.0 in
           record {
             x = o.1.0;
             l = E.Arithmetic op (E.Const c) o.1.0;
             on = OnLeft op o.1.0 c h;
             letter = o.1.1.1;
-            seen = i.joins ws e (E.Const c) o.1.0 s const o.1.1.1;
+            seen = i.joins vs e (E.Const c) o.1.0 s const o.1.1.1;
           });
     }
 
     pub beside_neither : NoConstant sees b → NoConstant sees a → NoBeside sees at
-    beside_neither n m ws o x c l (OnRight q y e) s = n ws e (opened ws q y (E.Const e) s).right
-    beside_neither n m ws o x c l (OnLeft q y e k) s = m ws e (opened ws q (E.Const e) y s).left
+    beside_neither n m vs o x c l (OnRight q y e) s = n vs e (opened vs q y (E.Const e) s).right
+    beside_neither n m vs o x c l (OnLeft q y e k) s = m vs e (opened vs q (E.Const e) y s).left
 
     pub beside_difference : NoConstant sees b → op ≡ A.Sub → NoBeside sees at
-    beside_difference n is ws o x c l (OnRight q y e) s = n ws e (opened ws q y (E.Const e) s).right
-    beside_difference n is ws o x c l (OnLeft q y e k) s = subst Commutes ((opened ws q (E.Const e) y s).node ∙ is) k
+    beside_difference n is vs o x c l (OnRight q y e) s = n vs e (opened vs q y (E.Const e) s).right
+    beside_difference n is vs o x c l (OnLeft q y e k) s = subst Commutes ((opened vs q (E.Const e) y s).node ∙ is) k
 
   pub no_beside : (at : T) → NoArithmetic sees at → NoBeside sees at
-  no_beside at n ws o x c l (OnRight q y e) s = n ws q y (E.Const e) s
-  no_beside at n ws o x c l (OnLeft q y e k) s = n ws q (E.Const e) y s
+  no_beside at n vs o x c l (OnRight q y e) s = n vs q y (E.Const e) s
+  no_beside at n vs o x c l (OnLeft q y e k) s = n vs q (E.Const e) y s
 
   pub no_unary : (at : T) → NoSingle sees at → NoUnary sees at
-  no_unary at n ws op x s = n ws (S.Unary op) x s
+  no_unary at n vs op x s = n vs (S.Unary op) x s
 
   pub no_other_unary : (at a : T) (t : Single) → IsSingle sees at t a → ((op : UnaryOp) → t ≡ S.Unary op → ⊥)
       → NoUnary sees at
-  no_other_unary at a t i h ws op x s = h op (sym (single_only sees at a t i ws (S.Unary op) x s).0)
+  no_other_unary at a t i h vs op x s = h op (sym (single_only sees at a t i vs (S.Unary op) x s).0)
 
 -- the operands of a node that asks for one width have one
 pub alike_operands : (ws : ℕ → ℕ) (op : ArithmeticOp) (x y : Expr) → IsSized ws (E.Arithmetic op x y)

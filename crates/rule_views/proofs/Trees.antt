@@ -10,88 +10,89 @@ use Rattle.rule_views.specs.declared.nodes.Pair.{Pair}
 use Rattle.rule_views.specs.Nodes.{single_node, pair_node}
 use Rattle.rule_views.specs.Sees.{Sight, IsSized, IsWideAt, IsSame, IsConstant, IsSingle, IsPair}
 use Rattle.rule_views.specs.InTree.{widths_by, bytes_of, IsIn}
+use Rattle.rule_views.specs.Variables.{Variables}
 use Rattle.rule_views.proofs.Widths.{single_sized, pair_sized, bytes_size, size_some, size_most, widths_most}
 
 -- places of a type, by the expression and the widths that each holds
 module _ {S : Type 0} (now : S → Expr) (widths : S → List Width) where
   abbrev pub Shows : Sight S
-  Shows ws t e = IsIn (widths t) (now t) ws e
+  Shows vs t e = IsIn (widths t) (now t) vs.widths e
 
   pub atom_same : (a b : S) (e : Expr) → IsAtom e → now a ≡ e → now b ≡ e → IsSame Shows a b
   atom_same a b e atom p q = (
     e,
     (
       atom,
-      λ ws x y s t. (
-        record { widths_are = s.widths_are; is = p; sized = subst (IsSized ws) (sym s.is ∙ p) s.sized },
-        record { widths_are = t.widths_are; is = q; sized = subst (IsSized ws) (sym t.is ∙ q) t.sized },
+      λ vs x y s t. (
+        record { widths_are = s.widths_are; is = p; sized = subst (IsSized vs.widths) (sym s.is ∙ p) s.sized },
+        record { widths_are = t.widths_are; is = q; sized = subst (IsSized vs.widths) (sym t.is ∙ q) t.sized },
       ),
     ),
   )
 
   pub const_here : (at : S) (c : Word) → now at ≡ E.Const c → IsConstant Shows at c
   const_here at c is = record {
-    only = λ ws e s. inr (sym s.is ∙ is);
-    seen = λ ws e s. record {
+    only = λ vs e s. inr (sym s.is ∙ is);
+    seen = λ vs e s. record {
       widths_are = s.widths_are;
       is = is;
-      sized = subst (IsSized ws) (sym s.is ∙ is) s.sized;
+      sized = subst (IsSized vs.widths) (sym s.is ∙ is) s.sized;
     };
   }
 
   -- by the width that is computed, k, and the one that is made of it, n
   pub wide_here : (at : S) (k n : ℕ) → k ≡ bytes_of (widths_by (widths at)) (now at) → (0 < k → k ≤ 16 → n ≡ k)
       → IsWideAt Shows at n
-  wide_here at k n is made ws e s =
+  wide_here at k n is made vs e s =
       let w = s.sized in
-      let bound : (v : ℕ) → ws v ≤ 16 =
+      let bound : (v : ℕ) → vs.widths v ≤ 16 =
       λ v. subst (λ (f : ℕ → ℕ). f v ≤ 16) (sym s.widths_are) (widths_most (widths at) v) in
-      let bytes : bytes_of ws e ≡ w.0 = bytes_size ws e w.0 w.1 in
+      let bytes : bytes_of vs.widths e ≡ w.0 = bytes_size vs.widths e w.0 w.1 in
       let same : k ≡ w.0 =
-      is ∙ ap (λ f. bytes_of f (now at)) (sym s.widths_are) ∙ ap (bytes_of ws) s.is ∙ bytes in
-      let some : 0 < k = subst (λ z. 0 < z) (sym same) (size_some ws e w.0 w.1) in
-      let most : k ≤ 16 = subst (λ z. z ≤ 16) (sym same) (size_most ws bound e w.0 w.1) in
+      is ∙ ap (λ f. bytes_of f (now at)) (sym s.widths_are) ∙ ap (bytes_of vs.widths) s.is ∙ bytes in
+      let some : 0 < k = subst (λ z. 0 < z) (sym same) (size_some vs.widths e w.0 w.1) in
+      let most : k ≤ 16 = subst (λ z. z ≤ 16) (sym same) (size_most vs.widths bound e w.0 w.1) in
       w.1 ∙ ap Some (sym (made some most ∙ same))
 
   module _ (at a : S) (same : widths a ≡ widths at) where
-    child : (ws : ℕ → ℕ) (e : Expr) → Shows ws at e → IsSized ws (now a) → Shows ws a (now a)
-    child ws e h s = record { widths_are = h.widths_are ∙ ap widths_by (sym same); is = refl; sized = s }
+    child : (vs : Variables) (e : Expr) → Shows vs at e → IsSized vs.widths (now a) → Shows vs a (now a)
+    child vs e h s = record { widths_are = h.widths_are ∙ ap widths_by (sym same); is = refl; sized = s }
 
     pub single_here : (s : Single) → now at ≡ single_node s (now a) → IsSingle Shows at s a
     single_here s is =
-        let inner : (ws : ℕ → ℕ) (e : Expr) → Shows ws at e → Shows ws a (now a) =
-        λ ws e h. child ws e h (single_sized ws s (now a) (subst (IsSized ws) (sym h.is ∙ is) h.sized)) in
+        let inner : (vs : Variables) (e : Expr) → Shows vs at e → Shows vs a (now a) =
+        λ vs e h. child vs e h (single_sized vs.widths s (now a) (subst (IsSized vs.widths) (sym h.is ∙ is) h.sized)) in
         record {
-          only = λ ws e h. inr (now a, (sym h.is ∙ is, inner ws e h));
-          joins = λ ws e x h k. (
+          only = λ vs e h. inr (now a, (sym h.is ∙ is, inner vs e h));
+          joins = λ vs e x h k. (
               let to : now at ≡ single_node s x = is ∙ ap (single_node s) k.is in
-              record { widths_are = h.widths_are; is = to; sized = subst (IsSized ws) (sym h.is ∙ to) h.sized });
-          operand = λ ws e h. (now a, inner ws e h);
+              record { widths_are = h.widths_are; is = to; sized = subst (IsSized vs.widths) (sym h.is ∙ to) h.sized });
+          operand = λ vs e h. (now a, inner vs e h);
         }
 
     module _ (b : S) (alike : widths b ≡ widths at) where
       pub pair_here : (p : Pair) → now at ≡ pair_node p (now a) (now b) → IsPair Shows at p a b
       pair_here p is =
-          let sizes : (ws : ℕ → ℕ) (e : Expr) → Shows ws at e → IsSized ws (now a) × IsSized ws (now b) =
-          λ ws e h. pair_sized ws p (now a) (now b) (subst (IsSized ws) (sym h.is ∙ is) h.sized) in
-          let left : (ws : ℕ → ℕ) (e : Expr) → Shows ws at e → Shows ws a (now a) =
-          λ ws e h. child ws e h (sizes ws e h).0 in
-          let right : (ws : ℕ → ℕ) (e : Expr) → Shows ws at e → Shows ws b (now b) =
-          λ ws e h. record {
+          let sizes : (vs : Variables) (e : Expr) → Shows vs at e → IsSized vs.widths (now a) × IsSized vs.widths (now b) =
+          λ vs e h. pair_sized vs.widths p (now a) (now b) (subst (IsSized vs.widths) (sym h.is ∙ is) h.sized) in
+          let left : (vs : Variables) (e : Expr) → Shows vs at e → Shows vs a (now a) =
+          λ vs e h. child vs e h (sizes vs e h).0 in
+          let right : (vs : Variables) (e : Expr) → Shows vs at e → Shows vs b (now b) =
+          λ vs e h. record {
             widths_are = h.widths_are ∙ ap widths_by (sym alike);
             is = refl;
-            sized = (sizes ws e h).1;
+            sized = (sizes vs e h).1;
           } in
           record {
-            only = λ ws e h. inr (record {
+            only = λ vs e h. inr (record {
               x = now a;
               y = now b;
               is = sym h.is ∙ is;
-              left = left ws e h;
-              right = right ws e h;
+              left = left vs e h;
+              right = right vs e h;
             });
-            joins = λ ws e x y h k l. (
+            joins = λ vs e x y h k l. (
                 let to : now at ≡ pair_node p x y = is ∙ ap (λ z. pair_node p z (now b)) k.is ∙ ap (pair_node p x) l.is in
-                record { widths_are = h.widths_are; is = to; sized = subst (IsSized ws) (sym h.is ∙ to) h.sized });
-            operands = λ ws e h. (now a, (now b, (left ws e h, right ws e h)));
+                record { widths_are = h.widths_are; is = to; sized = subst (IsSized vs.widths) (sym h.is ∙ to) h.sized });
+            operands = λ vs e h. (now a, (now b, (left vs e h, right vs e h)));
           }

@@ -5,3 +5,4 @@ pub mod Makes
 pub mod Nodes
 pub mod Rows
 pub mod Sees
+pub mod Variables

@@ -96,7 +96,7 @@ fn operands(e: &Expr) -> Option<(Pair, &Expr, &Expr)>
 }
 
 impl<'a> View for Tree<'a> {
-    ghost Sees = { λ ws t e. IsIn t.widths.now t.at.now ws e };
+    ghost Sees = { λ vs t e. IsIn t.widths.now t.at.now vs.widths e };
 
     fn constant(self) -> Option<Word> {
         match self.at {

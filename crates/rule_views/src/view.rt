@@ -4,6 +4,7 @@ ghost use Rattle.std.specs.Prelude.{◌≡◌, ℕ, IsTrue, MatchOption};
 ghost use Rattle.cmeaning.specs.declared.tree.Expr.{Expr};
 ghost use Rattle.rules.specs.Letters.{IsAtom};
 ghost use Rattle.rule_views.specs.Sees as S;
+ghost use Rattle.rule_views.specs.Variables.{Variables};
 
 use crate::nodes::{Pair, Single};
 use crate::row::Row;
@@ -11,8 +12,8 @@ use bits_core::{Width, Word};
 
 /// A place in a tree or in a graph.
 pub trait View: Copy {
-    /// By the widths of the variables: the expressions that may stand for what is at this place.
-    ghost Sees: { (ℕ → ℕ) → Self → Expr → Type 0 };
+    /// By the variables: the expressions that may stand for what is at this place.
+    ghost Sees: { Variables → Self → Expr → Type 0 };
 
     /// The word of a constant.
     fn constant(self) -> Option<Word>
@@ -33,7 +34,7 @@ pub trait View: Copy {
     /// Whether both are one variable or one constant.
     fn same(self, other: Self) -> bool
         ensures yes { IsTrue result → S.IsSame Sees self other }
-        ensures no { (ws : ℕ → ℕ) (e : Expr) → IsAtom e → Sees ws self e → Sees ws other e → IsTrue result };
+        ensures no { (vs : Variables) (e : Expr) → IsAtom e → Sees vs self e → Sees vs other e → IsTrue result };
 }
 
 /// An operand of what a rule makes.

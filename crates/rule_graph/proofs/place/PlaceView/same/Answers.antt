@@ -14,15 +14,15 @@ returns-in-Some-clause-yes c h = same_constant (λ (p : Place). p.nodes.now) (λ
     c.in-Some.c c.in-Some.ensures (c.is_constant.ensures.0 h)
 
 pub returns-in-Some-clause-no : goal.returns-in-Some-clause-no
-returns-in-Some-clause-no c ws e atom s t =
+returns-in-Some-clause-no c vs e atom s t =
     let shows = Shows (λ (p : Place). p.nodes.now) (λ (p : Place). p.at) in
     unlike (λ (p : Place). p.nodes.now) (λ (p : Place). p.at) c.args.self c.args.other (IsTrue c.is_constant.result)
-    c.if-self-other.false ws
+    c.if-self-other.false vs
     (λ d u at. c.is_constant.ensures.1
-    (at ∙ ap (λ z. Some (O.Const z)) (constant_only shows c.args.self c.in-Some.c c.in-Some.ensures ws d u)))
+    (at ∙ ap (λ z. Some (O.Const z)) (constant_only shows c.args.self c.in-Some.c c.in-Some.ensures vs d u)))
     e atom s t
 
 pub returns-in-None-clause-no : goal.returns-in-None-clause-no
-returns-in-None-clause-no c ws e atom s t =
+returns-in-None-clause-no c vs e atom s t =
     unlike (λ (p : Place). p.nodes.now) (λ (p : Place). p.at) c.args.self c.args.other (IsTrue false)
-    c.if-self-other.false ws (λ d u at. absurd (c.in-None.ensures ws d u)) e atom s t
+    c.if-self-other.false vs (λ d u at. absurd (c.in-None.ensures vs d u)) e atom s t
