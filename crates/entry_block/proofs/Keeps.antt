@@ -2,7 +2,7 @@
 use Rattle.std.proofs.Common.{◌≡◌, ◌≢◌, ◌∙◌, ℕ, zero, suc, ◌==◌, ◌<◌, Bool, true, false, cond, List, [], ◌∷◌, Option, Some, None, refl, sym, ap, subst, ⊎_elim, arith, true≢false}
 use Rattle.std.specs.Prelude.{slice_get, ◌||◌}
 use Rattle.std.specs.Option.{option_map}
-use Rattle.std.proofs.lemmas.Bool.{cases_eq}
+use Rattle.std.proofs.lemmas.Bool.{cases_eq, or_left, or_right}
 use Rattle.pcode_model.specs.declared.listing.Listing.{Listing}
 use Rattle.pcode_model.specs.World.{Entry}
 use Rattle.cmeaning.specs.declared.tree.Expr.{Expr}
@@ -26,14 +26,6 @@ use Rattle.entry_block.proofs.Moved.{args_moved, entry_exit, entry_stmts, exit_i
 
 onto_same : {b c : ℕ} → Onto b ≡ Onto c → b ≡ c
 onto_same e = cc
-
-or_left : (a b : Bool) → a ≡ true → (a || b) ≡ true
-or_left true b e = refl
-or_left false b e = absurd (true≢false (sym e))
-
-or_right : (a b : Bool) → b ≡ true → (a || b) ≡ true
-or_right true b e = refl
-or_right false b e = e
 
 equal : (a b : ℕ) → a ≡ b → (a == b) ≡ true
 equal a b e = grind arith

@@ -4,7 +4,7 @@ use Rattle.std.specs.Prelude.{cond, nat_lt, slice_get}
 use Rattle.std.proofs.lemmas.Bool.Decides.{nat_tests}
 use Rattle.std.proofs.lemmas.Bool.{cases_order}
 use Rattle.std.proofs.lemmas.List.{append-nil, append_assoc}
-use Rattle.std.proofs.lemmas.Option.{slice_get_within}
+use Rattle.std.proofs.lemmas.Option.{slice_get_within, same_Some}
 use Rattle.pcode_model.specs.declared.listing.Instruction.{Instruction}
 use Rattle.pcode_model.specs.declared.listing.Op.{Op}
 use Rattle.pcode_model.specs.declared.listing.Place.{Place}
@@ -38,9 +38,6 @@ pub record Steps (l : Listing) (p q : Place) : Type 0 where
   pub found : instruction_in l.code p.address ≡ Some instruction
   pub how : IsInside p q ⊎ IsOver instruction p q
 
-some_same : {A : Type 0} {x y : A} → Some x ≡ Some y → x ≡ y
-some_same h = cc
-
 module _ (l : Listing) (p q : Place) (i : Instruction) (found : instruction_in l.code p.address ≡ Some i) where
   by_next : (b : Bool)
       → nat_lt (suc p.index) (length i.ops) ≡ b
@@ -56,11 +53,11 @@ module _ (l : Listing) (p q : Place) (i : Instruction) (found : instruction_in l
 
   by_op : (o : Option Op) → slice_get i.ops p.index ≡ o → next_in (op_in i o) p.index ≡ Some q → IsInside p q ⊎ IsOver i p q
   by_op None e h = absurd (cc)
-  by_op (Some op) e h = by_next (nat_lt (suc p.index) (length i.ops)) refl (slice_get_within i.ops p.index op e) (some_same h)
+  by_op (Some op) e h = by_next (nat_lt (suc p.index) (length i.ops)) refl (slice_get_within i.ops p.index op e) (same_Some _ _ h)
 
   by_ops : (ops : List Op) (n : ℕ) → i.ops ≡ ops → p.index ≡ n → next_in (standing_in i ops n) p.index ≡ Some q → IsInside p q ⊎ IsOver i p q
   by_ops [] zero e f h =
-      let same : place (i.address + i.length) 0 ≡ q = some_same h in
+      let same : place (i.address + i.length) 0 ≡ q = same_Some _ _ h in
       inr (record { address = ap (λ (r : Place). r.address) (sym same); index = ap (λ (r : Place). r.index) (sym same); is_last = inr (f, ap length e) })
   by_ops [] (suc n) e f h = absurd (cc)
   by_ops (op ∷ ops) n e f h =
@@ -93,7 +90,7 @@ module _ (l : Listing) (apart : AreApart l.code) where
       ⊎_elim
       (λ (e : i.address ≡ j.address).
       let at : p.address ≡ r.address = sym f.1 ∙ e ∙ g.1 in
-      let same : i ≡ j = some_same (sym found ∙ ap (instruction_in l.code) at ∙ other) in
+      let same : i ≡ j = same_Some _ _ (sym found ∙ ap (instruction_in l.code) at ∙ other) in
       let many : length i.ops ≡ length j.ops = ap (λ (z : Instruction). length z.ops) same in
       same_place p r at (same_index p.index r.index (length i.ops) (length j.ops) many x.is_last y.is_last))
       (λ side. ⊎_elim

@@ -1,5 +1,6 @@
 -- A BRANCHIND has one table at most.
 use Rattle.std.proofs.Common.{◌≡◌, ℕ, List, Some, sym, ap, ◌∙◌, subst, ◌⊎◌, inl, inr, ⊎_elim}
+use Rattle.std.proofs.lemmas.Option.{same_Some}
 use Rattle.std.specs.Prelude.{slice_get}
 use Rattle.std.proofs.lemmas.Bool.{cases_order}
 use Rattle.pcode_model.specs.declared.listing.Place.{Place}
@@ -15,9 +16,6 @@ use Rattle.table_form.specs.Laws.{AreSame, OneTable}
 use Rattle.table_form.proofs.Cases.{same_cases}
 use Rattle.table_form.proofs.Chains.{one_slice}
 use Rattle.table_form.proofs.Held.{not_ram, one_held, one_ram}
-
-some_same : {A : Type 0} {x y : A} → Some x ≡ Some y → x ≡ y
-some_same h = cc
 
 -- neither is sooner than the other
 same_order : (n i m j : ℕ) → (IsSooner n i m j → ⊥) → (IsSooner m j n i → ⊥) → (n ≡ m) × (i ≡ j)
@@ -58,7 +56,7 @@ module _ (l : Listing) (end : Place) where
       ap (slice_get (reading (target_of l a.front end))) order.1
       ∙ ap (λ f. slice_get (reading (target_of l f end)) b.index) fronts
       ∙ b.has.subtree in
-      let xs : a.x ≡ b.x = some_same (sym a.has.subtree ∙ subtree) in
+      let xs : a.x ≡ b.x = same_Some _ _ (sym a.has.subtree ∙ subtree) in
       let has : HasTable l end a.front a.index a.x u.cases =
       subst (λ f. HasTable l end f a.index a.x u.cases) (sym fronts)
       (subst (λ i. HasTable l end b.front i a.x u.cases) (sym order.1)

@@ -1,5 +1,6 @@
 -- What was written to a space still says what its bytes are once a word is written to a range.
 use Rattle.std.proofs.Common.{◌≡◌, ℕ, zero, suc, ◌+◌, ◌-◌, ◌<◌, ◌≤◌, Bool, true, false, cond, length, get_or, Option, Some, None, refl, sym, ap, ◌∙◌, subst, inl, inr, ⊎_elim, arith}
+use Rattle.std.proofs.lemmas.Option.{same_Some}
 use Rattle.std.specs.Prelude.{◌==◌, ◌&&◌}
 use Rattle.std.proofs.lemmas.Bool.{cases_eq, cases_lt}
 use Rattle.std.proofs.lemmas.Bool.Decides.{nat_tests}
@@ -18,9 +19,6 @@ use Rattle.table_runs.specs.Words.{Words}
 use Rattle.table_runs.proofs.Bytes.{onward}
 use Rattle.table_runs.proofs.Reading.{IsByteOf, Traces}
 use Rattle.table_runs.proofs.Sound.{Says}
-
-some_same : {A : Type 0} {x y : A} → Some x ≡ Some y → x ≡ y
-some_same h = cc
 
 byte_at : (size : ℕ) (f : ℕ → ℕ) (o n j : ℕ) → o + n ≤ size → j < n → f (o + j) ≡ get_or (bytes_at size f o n) j 0
 byte_at size f o zero j within lt = absurd (omega arith)
@@ -110,7 +108,7 @@ module _ (l : Listing) (e : Words) (v : Varnode) (tree : Tree) (n : ℕ) (inside
       kept o false h f = stays s o h ∙ (all s).kept o f
 
       wrote_at : (o : ℕ) (w : Written) (b : Bool) → (s == v.space && in_range v o) ≡ b → cond b (Some (record { to = v.offset; size = v.size; tree = tree })) (t s o) ≡ Some w → IsByteOf l e s w o (with_word l v n m s o)
-      wrote_at o w true h f = subst (λ u. IsByteOf l e s u o (with_word l v n m s o)) (some_same f) (itself s o h)
+      wrote_at o w true h f = subst (λ u. IsByteOf l e s u o (with_word l v n m s o)) (same_Some _ _ f) (itself s o h)
       wrote_at o w false h f =
           let old = (all s).wrote o w f in
           record { from = old.from; below = old.below; byte = stays s o h ∙ old.byte; wide = old.wide; sound = old.sound }
