@@ -1,5 +1,6 @@
 pub mod Roles
 pub mod Outline
+pub mod Starting
 pub mod Paths
 pub mod Formed
 pub mod Lines

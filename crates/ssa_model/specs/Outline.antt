@@ -1,5 +1,5 @@
 -- What the form of an SSA function is told by: its blocks, and of each op all but which values it reads.
-use Rattle.std.specs.Prelude.{ℕ, ◌==◌, if◌then◌else◌, List, [], ◌∷◌, length, map, Option, Some, None}
+use Rattle.std.specs.Prelude.{ℕ, ◌==◌, Bool, true, false, if◌then◌else◌, List, [], ◌∷◌, length, map, Option, Some, None}
 use Rattle.bits_core.specs.declared.word.Width.{Width}
 use Rattle.opgraph.specs.declared.ids.BlockId.{BlockId}
 use Rattle.opgraph.specs.Graph.{OpRow, op_at, block_at}
@@ -9,7 +9,8 @@ use Rattle.ssa_model.specs.declared.form.SsaExit.TheVariants as X
 use Rattle.ssa_model.specs.declared.form.SsaBlock.{SsaBlock}
 use Rattle.ssa_model.specs.declared.form.Parts.{Parts}
 use Rattle.node_lists.specs.Chains.{IsIn}
-use Rattle.ssa_model.specs.Roles.{Role, role_of}
+use Rattle.sorting.specs.Order.{by_key}
+use Rattle.ssa_model.specs.Roles.{Role, Joins, role_of}
 
 -- ---- blocks
 
@@ -79,6 +80,30 @@ width_in (Some r) = bytes_of r.width
 -- the width of a value in bytes, 0 where there is no such value
 abbrev pub width_at : Rows → ℕ → ℕ
 width_at rows v = width_in (rows v)
+
+abbrev pub only : (ℕ → Bool) → List ℕ → List ℕ
+only keeps [] = []
+only keeps (x ∷ xs) = if keeps x then x ∷ only keeps xs else only keeps xs
+
+abbrev pub role_in : Option OpRow → Option Role
+role_in None = None
+role_in (Some r) = Some (role_of r.code)
+
+abbrev pub role_at : Rows → ℕ → Option Role
+role_at rows x = role_in (rows x)
+
+abbrev pub is_multi : Option Role → Bool
+is_multi (Some (Joins atom)) = true
+is_multi role = false
+
+-- the atom that a MULTIEQUAL stands for, 0 of another op
+abbrev pub atom_in : Option Role → ℕ
+atom_in (Some (Joins atom)) = atom
+atom_in role = 0
+
+-- the MULTIEQUALs among some ops, by their atoms
+abbrev pub multis_of : Rows → List ℕ → List ℕ
+multis_of rows xs = by_key (λ x. atom_in (role_at rows x)) (only (λ x. is_multi (role_at rows x)) xs)
 
 abbrev pub form_of : Rows → OpRow → OpForm
 form_of rows r = record {

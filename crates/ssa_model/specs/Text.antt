@@ -1,5 +1,5 @@
 -- The text of an SSA function.
-use Rattle.std.specs.Prelude.{ℕ, suc, ◌==◌, nat_lt, not, Bool, true, false, if◌then◌else◌, ℤ, pos, negsuc, List, [], ◌∷◌, ◌++◌, map, codes, decimal, Option, Some, None, slice_get}
+use Rattle.std.specs.Prelude.{ℕ, suc, ◌==◌, not, Bool, true, false, if◌then◌else◌, ℤ, pos, negsuc, List, [], ◌∷◌, ◌++◌, map, codes, decimal, Option, Some, None, slice_get}
 use Rattle.std.specs.Fmt.{digits}
 use Rattle.listing_lines.specs.Text.{Line}
 use Rattle.bits_core.specs.declared.ops.Unary.TheVariants as U
@@ -10,7 +10,6 @@ use Rattle.pcode_model.specs.declared.storage.ParamStorage.TheVariants.{Register
 use Rattle.operations.specs.Words.{unary_word, binary_word, divide_word}
 use Rattle.cmeaning.specs.Value.{unary_of, arithmetic_of, shift_of, compare_of, signed_compare_of, extend_of, overflow_of, count_of}
 use Rattle.cmeaning.specs.Do.{divide_of}
-use Rattle.cmeaning.specs.Valid.{is_before}
 use Rattle.opgraph.specs.Graph.{OpRow, Graph, op_at, block_at}
 use Rattle.ssa_model.specs.declared.form.Arm.{Arm}
 use Rattle.ssa_model.specs.declared.form.SsaExit.{SsaExit}
@@ -19,7 +18,8 @@ use Rattle.ssa_model.specs.declared.form.SsaBlock.{SsaBlock}
 use Rattle.ssa_model.specs.declared.form.Parts.{Parts}
 use Rattle.node_lists.specs.Chains.{last_or}
 use Rattle.ssa_model.specs.Roles.{Role, Constant, Starts, Joins, Copies, Unary, Arithmetic, Shifts, Compares, Signed, Extends, Piece, Part, Overflow, Count, Divides, Loads, Stores, Calls, CallsInd, CallsOther, Extra, Tests, Switches, Returns, role_of}
-use Rattle.ssa_model.specs.Outline.{bytes_of, width_at, ids, numbers_of}
+use Rattle.ssa_model.specs.Outline.{bytes_of, only, role_at, multis_of, width_at, ids, numbers_of, predecessors_at}
+use Rattle.ssa_model.specs.Starting.{starting}
 use Rattle.ssa_model.specs.Lines.{last_inputs, name_in}
 
 -- ---- parts
@@ -39,34 +39,6 @@ hexadecimal n = codes "0x" ++ digits 16 false n
 
 -- ---- the order of the lines
 
--- numbers in an order, given whether one comes before another; of two that don't, the first one stays first
-abbrev pub placed : (ℕ → ℕ → Bool) → ℕ → List ℕ → List ℕ
-placed before x [] = x ∷ []
-placed before x (y ∷ ys) = if before y x then y ∷ placed before x ys else x ∷ y ∷ ys
-
-abbrev pub in_order : (ℕ → ℕ → Bool) → List ℕ → List ℕ
-in_order before [] = []
-in_order before (x ∷ xs) = placed before x (in_order before xs)
-
-abbrev pub only : (ℕ → Bool) → List ℕ → List ℕ
-only keeps [] = []
-only keeps (x ∷ xs) = if keeps x then x ∷ only keeps xs else only keeps xs
-
-abbrev pub role_in : Option OpRow → Option Role
-role_in None = None
-role_in (Some r) = Some (role_of r.code)
-
-abbrev pub role_at : Graph → ℕ → Option Role
-role_at g x = role_in (op_at g x)
-
-abbrev pub is_start : Option Role → Bool
-is_start (Some (Starts s)) = true
-is_start role = false
-
-abbrev pub is_multi : Option Role → Bool
-is_multi (Some (Joins atom)) = true
-is_multi role = false
-
 -- a constant prints where it is read, and an exit's op with the exit
 abbrev pub has_line : Option Role → Bool
 has_line None = false
@@ -78,32 +50,12 @@ has_line (Some Switches) = false
 has_line (Some Returns) = false
 has_line (Some role) = true
 
-abbrev pub starts_before : Option Role → Option Role → Bool
-starts_before (Some (Starts s)) (Some (Starts t)) = is_before s t
-starts_before a b = false
-
-abbrev pub atom_before : Option Role → Option Role → Bool
-atom_before (Some (Joins a)) (Some (Joins b)) = nat_lt a b
-atom_before a b = false
-
-abbrev pub all_ops : Graph → List ℕ → List ℕ
-all_ops g [] = []
-all_ops g (b ∷ bs) = block_at g b ++ all_ops g bs
-
--- the entry values of the function, by their storages
-abbrev pub starting : Parts → List ℕ
-starting p =
-    let g = p.graph in
-    in_order (λ x y. starts_before (role_at g x) (role_at g y))
-    (only (λ x. is_start (role_at g x)) (all_ops g (ids p.blocks)))
-
 -- the entry values first where the run begins, then the MULTIEQUALs by their atoms, then the others as they stand
 abbrev pub lines_in : Parts → ℕ → List ℕ
 lines_in p b =
-    let g = p.graph in
-    (if b == p.entry.0 then starting p else [])
-    ++ in_order (λ x y. atom_before (role_at g x) (role_at g y)) (only (λ x. is_multi (role_at g x)) (block_at g b))
-    ++ only (λ x. has_line (role_at g x)) (block_at g b)
+    let rows = op_at p.graph in
+    let ops = block_at p.graph b in
+    (if b == p.entry.0 then starting p else []) ++ multis_of rows ops ++ only (λ x. has_line (role_at rows x)) ops
 
 abbrev pub all_lines : Parts → List ℕ → List ℕ
 all_lines p [] = []
@@ -135,7 +87,7 @@ value_by (Some (Constant n)) w place = constant_part n w
 value_by role w place = numbered place
 
 abbrev pub value_part : Graph → List ℕ → ℕ → Line
-value_part g printed v = value_by (role_at g v) (width_at (op_at g) v) (place_in v printed)
+value_part g printed v = value_by (role_at (op_at g) v) (width_at (op_at g) v) (place_in v printed)
 
 abbrev pub offset_part : ℤ → Line
 offset_part (pos n) = codes ":0x" ++ digits 16 false n
@@ -202,7 +154,7 @@ module _ (l : Listing) (p : Parts) where
       let w = bytes_of r.width in
       codes " "
       ++ spaced
-      (named x w ++ words (role_of r.code) (Rattle.ssa_model.specs.Outline.predecessors_at p.blocks r.block) w r.inputs)
+      (named x w ++ words (role_of r.code) (predecessors_at p.blocks r.block) w r.inputs)
 
   abbrev case_part : Arm → Line
   case_part a = hexadecimal a.value ++ codes ":" ++ block a.to.0
