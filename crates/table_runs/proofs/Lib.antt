@@ -5,3 +5,5 @@ pub mod Reading
 pub mod Together
 pub mod Giving
 pub mod Writing
+pub mod Guarding
+pub mod Leading

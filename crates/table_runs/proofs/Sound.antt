@@ -14,8 +14,9 @@ use Rattle.table_form.specs.Values.{joined, sizes}
 use Rattle.table_runs.specs.Words.{Words, value, values}
 use Rattle.table_runs.proofs.Bytes.{part_below}
 
--- operations of two inputs have two
+-- operations of one input have one, those of two have two
 abbrev pub HasInputs : Doing → Trees → Type 0
+HasInputs (OfOne op) ts = (t : Tree) × (ts ≡ More t End)
 HasInputs (OfTwo op) ts = (t : Tree) × ((u : Tree) × (ts ≡ More t (More u End)))
 HasInputs d ts = Unit {0}
 
