@@ -11,7 +11,10 @@ use Rattle.table_form.specs.Slices.{target_of}
 use Rattle.table_form.specs.Tables.{HasCase, LeadsTo, RisingCases}
 use Rattle.table_form.proofs.Once.{one_value}
 
-above : (c : Case) (cs : List Case) (v : ℕ) → AllByRecursion (λ (d : Case). c.value < d.value) cs → HasCase cs v → c.value < v
+above : (c : Case) (cs : List Case) (v : ℕ)
+    → AllByRecursion (λ (d : Case). c.value < d.value) cs
+    → HasCase cs v
+    → c.value < v
 above c [] v all h = absurd h
 above c (d ∷ cs) v all (inl e) = omega (arith, all.0)
 above c (d ∷ cs) v all (inr h) = above c cs v all.1 h
@@ -27,7 +30,8 @@ same_first c d cs ds a b (inr h) (inl e) = sym e
 same_first c d cs ds a b (inr h) (inr k) = absurd (omega (arith, above c cs d.value a k, above d ds c.value b h))
 
 same_case : (c d : Case) → c.value ≡ d.value → c.place ≡ d.place → c ≡ d
-same_case c d e f = ap (λ v. record { value = v; place = c.place }) e ∙ ap (λ p. record { value = d.value; place = p }) f
+same_case c d e f =
+    ap (λ v. record { value = v; place = c.place }) e ∙ ap (λ p. record { value = d.value; place = p }) f
 
 module _ (l : Listing) (end : Place) (front : List Place) (x : Tree) where
   same_place : (c d : Case) → c.value ≡ d.value → LeadsTo l end front x c → LeadsTo l end front x d → c.place ≡ d.place

@@ -51,11 +51,19 @@ module _ (l : Listing) (p q : Place) (i : Instruction) (found : instruction_in l
       let last : suc p.index ≡ length i.ops = grind (arith, nat_tests) in
       inr (record { address = ap (λ (r : Place). r.address) (sym h); index = ap (λ (r : Place). r.index) (sym h); is_last = inl last })
 
-  by_op : (o : Option Op) → slice_get i.ops p.index ≡ o → next_in (op_in i o) p.index ≡ Some q → IsInside p q ⊎ IsOver i p q
+  by_op : (o : Option Op)
+      → slice_get i.ops p.index ≡ o
+      → next_in (op_in i o) p.index ≡ Some q
+      → IsInside p q ⊎ IsOver i p q
   by_op None e h = absurd (cc)
-  by_op (Some op) e h = by_next (nat_lt (suc p.index) (length i.ops)) refl (slice_get_within i.ops p.index op e) (same_Some _ _ h)
+  by_op (Some op) e h =
+      by_next (nat_lt (suc p.index) (length i.ops)) refl (slice_get_within i.ops p.index op e) (same_Some _ _ h)
 
-  by_ops : (ops : List Op) (n : ℕ) → i.ops ≡ ops → p.index ≡ n → next_in (standing_in i ops n) p.index ≡ Some q → IsInside p q ⊎ IsOver i p q
+  by_ops : (ops : List Op) (n : ℕ)
+      → i.ops ≡ ops
+      → p.index ≡ n
+      → next_in (standing_in i ops n) p.index ≡ Some q
+      → IsInside p q ⊎ IsOver i p q
   by_ops [] zero e f h =
       let same : place (i.address + i.length) 0 ≡ q = same_Some _ _ h in
       inr (record { address = ap (λ (r : Place). r.address) (sym same); index = ap (λ (r : Place). r.index) (sym same); is_last = inr (f, ap length e) })
@@ -171,7 +179,12 @@ module _ (l : Listing) (apart : AreApart l.code) (end : Place) where
   ops_both [] ys = omega arith
   ops_both (p ∷ xs) ys = omega (arith, ops_both xs ys)
 
-  no_more : (xs ys : List Place) → IsSlice l end ys → (ahead : List Place) → ys ≡ ahead ++ xs → ops_over l xs ≡ ops_over l ys → xs ≡ ys
+  no_more : (xs ys : List Place)
+      → IsSlice l end ys
+      → (ahead : List Place)
+      → ys ≡ ahead ++ xs
+      → ops_over l xs ≡ ops_over l ys
+      → xs ≡ ys
   no_more xs ys s [] e many = sym e
   no_more xs ys s (p ∷ ahead) e many =
       let first : ops_in (standing l p) ≡ 1 = ap (λ zs. ops_in (standing l (first_of zs end))) (sym e) ∙ s.begins in

@@ -34,7 +34,8 @@ module _ (l : Listing) where
 
     abbrev AllInside : Trees → List Sized → Type 0
     AllInside End us = us ≡ []
-    AllInside (More t ts) us = (i : ℕ) × ((ws : List Sized) × (Gives l x v t i × (GiveAll l x v ts ws × (us ≡ record { size = width t; value = i } ∷ ws))))
+    AllInside (More t ts) us =
+        (i : ℕ) × ((ws : List Sized) × (Gives l x v t i × (GiveAll l x v ts ws × (us ≡ record { size = width t; value = i } ∷ ws))))
 
     inside : {t : Tree} {n : ℕ} → Gives l x v t n → ((t ≡ x) × (n ≡ v)) ⊎ ((t ≢ x) × Inside t n)
     inside Here = inl (refl, refl)
@@ -53,7 +54,11 @@ module _ (l : Listing) where
           ⊎_elim (λ (e, f). absurd (o e))
           (λ (ne, y). makes_once d k n j ws m (subst (λ us. Makes l d k us j) (sym (all_once g y.0 y.1.0)) y.1.1)) (inside h)
 
-      all_once : {ts : Trees} {us : List Sized} → GiveAll l x v ts us → (ws : List Sized) → GiveAll l x v ts ws → us ≡ ws
+      all_once : {ts : Trees} {us : List Sized}
+          → GiveAll l x v ts us
+          → (ws : List Sized)
+          → GiveAll l x v ts ws
+          → us ≡ ws
       all_once NoMore ws h = sym (all_inside h)
       all_once (OneMore n t ts us g h) ws k =
           let y = all_inside k in

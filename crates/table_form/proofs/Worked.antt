@@ -29,7 +29,9 @@ constant v n k = OfNumber n k (number_index n k)
 less : (v : ℕ) (n : ℕ) → n ≡ lt 1 v → Gives guarded index v guard n
 less v n e = two v B.Less 1 1 v (Number 1 4) index n (constant v 1 4) Here e
 
-leads : (v a : ℕ) → IsFixedWord guarded 1 (byte_address guarded 1 (add 4 (mul 4 v 4) 0x2000)) 4 a → Gives guarded index v target a
+leads : (v a : ℕ)
+    → IsFixedWord guarded 1 (byte_address guarded 1 (add 4 (mul 4 v 4) 0x2000)) 4 a
+    → Gives guarded index v target a
 leads v a f =
     OfNode (Loads 1) 4 a (More entry_address End) _ (node_index _ 4 _)
     (OneMore (add 4 (mul 4 v 4) 0x2000) entry_address End []
@@ -57,7 +59,8 @@ worked_trees = record {
 pub worked_slice : WorkedSlice
 unfolding add limit lt mul
 worked_slice = record {
-  is_slice = record { follow = (refl, (record { passed = refl; stores = refl }, (refl, (record { passed = refl; stores = refl }, (refl, (record { passed = refl; stores = refl }, (refl, (record { passed = refl; stores = refl }, (refl, (record { passed = refl; stores = refl }, tt)))))))))); begins = refl; ends = refl; once = refl };
+  is_slice =
+      record { follow = (refl, (record { passed = refl; stores = refl }, (refl, (record { passed = refl; stores = refl }, (refl, (record { passed = refl; stores = refl }, (refl, (record { passed = refl; stores = refl }, (refl, (record { passed = refl; stores = refl }, tt)))))))))); begins = refl; ends = refl; once = refl };
   six = refl;
   guard_is = refl;
   target_is = refl;

@@ -38,9 +38,21 @@ pub data IsMoved (x : Tree) : Tree → Type 0 where
 -- made by BOOL_ operations of comparisons of x, or of x plus or minus a constant, with constants
 pub data IsGuard (x : Tree) : Tree → Type 0 where
   Negates : (k : ℕ) (g : Tree) → IsGuard x g → IsGuard x (node_of_one U.BoolNegate k g)
-  Joins : (op : Binary) (k : ℕ) (g h : Tree) → joins op ≡ true → IsGuard x g → IsGuard x h → IsGuard x (node_of_two op k g h)
-  Left : (op : Binary) (k : ℕ) (e c : Tree) → compares op ≡ true → IsMoved x e → IsConstant c → IsGuard x (node_of_two op k e c)
-  Right : (op : Binary) (k : ℕ) (c e : Tree) → compares op ≡ true → IsConstant c → IsMoved x e → IsGuard x (node_of_two op k c e)
+  Joins : (op : Binary) (k : ℕ) (g h : Tree)
+      → joins op ≡ true
+      → IsGuard x g
+      → IsGuard x h
+      → IsGuard x (node_of_two op k g h)
+  Left : (op : Binary) (k : ℕ) (e c : Tree)
+      → compares op ≡ true
+      → IsMoved x e
+      → IsConstant c
+      → IsGuard x (node_of_two op k e c)
+  Right : (op : Binary) (k : ℕ) (c e : Tree)
+      → compares op ≡ true
+      → IsConstant c
+      → IsMoved x e
+      → IsGuard x (node_of_two op k c e)
 
 -- ---- masks
 

@@ -36,7 +36,8 @@ abbrev pub untouched : Trace
 untouched s o = None
 
 abbrev pub wrote : Varnode → Tree → Trace → Trace
-wrote v tree t s o = if s == v.space && in_range v o then Some (record { to = v.offset; size = v.size; tree = tree }) else t s o
+wrote v tree t s o =
+    if s == v.space && in_range v o then Some (record { to = v.offset; size = v.size; tree = tree }) else t s o
 
 -- adjacent bytes that one op wrote last, or none
 pub record Part : Type 0 where
@@ -53,7 +54,10 @@ is_same (Some u) (Some w) = u.to == w.to && u.size == w.size
 
 abbrev pub with_byte : Option Written → ℕ → List Part → List Part
 with_byte w o [] = record { writer = w; from = o; size = 1 } ∷ []
-with_byte w o (p ∷ ps) = if is_same w p.writer then record { writer = p.writer; from = o; size = suc p.size } ∷ ps else record { writer = w; from = o; size = 1 } ∷ p ∷ ps
+with_byte w o (p ∷ ps) =
+    if is_same w p.writer
+    then record { writer = p.writer; from = o; size = suc p.size } ∷ ps
+    else record { writer = w; from = o; size = 1 } ∷ p ∷ ps
 
 -- the maximal parts of a range, by rising offset
 abbrev pub parts : (ℕ → Option Written) → (offset size : ℕ) → List Part
@@ -77,7 +81,8 @@ dropped false w o n = o - w.to
 
 abbrev pub written_tree : Listing → ℕ → Option Written → (offset size : ℕ) → Tree
 written_tree l s None o n = Entry s o n
-written_tree l s (Some w) o n = if n == w.size then w.tree else piece (is_wide_as l.stack n) w.tree (dropped (is_big l s) w o n) n
+written_tree l s (Some w) o n =
+    if n == w.size then w.tree else piece (is_wide_as l.stack n) w.tree (dropped (is_big l s) w o n) n
 
 abbrev pub part_tree : Listing → ℕ → Part → Tree
 part_tree l s p = written_tree l s p.writer p.from p.size
@@ -94,7 +99,10 @@ together big k (t ∷ u ∷ ts) = Node Joins k (trees (high_first big (t ∷ u �
 
 -- the tree of a varnode that is read
 abbrev pub read : Listing → Trace → Varnode → Tree
-read l t v = if v.space == 0 then Number v.offset v.size else together (is_big l v.space) v.size (map (part_tree l v.space) (parts (t v.space) v.offset v.size))
+read l t v =
+    if v.space == 0
+    then Number v.offset v.size
+    else together (is_big l v.space) v.size (map (part_tree l v.space) (parts (t v.space) v.offset v.size))
 
 -- ---- what ops make
 
@@ -112,8 +120,10 @@ binary_tree op k t u d = node_of_two op k t u
 -- the tree of an op's output of k bytes
 abbrev pub output_tree : Listing → Trace → Opcode → List Varnode → ℕ → Tree
 output_tree l t (O.Unary op) vs k = unary_tree op ((varnode_at vs 0).space == 0) k (read l t (varnode_at vs 0))
-output_tree l t (O.Binary op) vs k = binary_tree op k (read l t (varnode_at vs 0)) (read l t (varnode_at vs 1)) (varnode_at vs 1).offset
-output_tree l t (O.Divide op) vs k = Node (Divides op) k (More (read l t (varnode_at vs 0)) (More (read l t (varnode_at vs 1)) End))
+output_tree l t (O.Binary op) vs k =
+    binary_tree op k (read l t (varnode_at vs 0)) (read l t (varnode_at vs 1)) (varnode_at vs 1).offset
+output_tree l t (O.Divide op) vs k =
+    Node (Divides op) k (More (read l t (varnode_at vs 0)) (More (read l t (varnode_at vs 1)) End))
 output_tree l t O.Load vs k = Node (Loads (varnode_at vs 0).offset) k (More (read l t (varnode_at vs 1)) End)
 output_tree l t code vs k = Number 0 k
 
@@ -196,7 +206,8 @@ inner_of (p ∷ rest) end = rest ++ end ∷ []
 -- each place is followed by the next, and the last one by the end
 abbrev pub Follow : Listing → List Place → Place → Type 0
 Follow l [] end = Unit {0}
-Follow l (p ∷ rest) end = (next_in (standing l p) p.index ≡ Some (first_of rest end)) × (MayStand l (standing l p) × Follow l rest end)
+Follow l (p ∷ rest) end =
+    (next_in (standing l p) p.index ≡ Some (first_of rest end)) × (MayStand l (standing l p) × Follow l rest end)
 
 abbrev pub ops_over : Listing → List Place → ℕ
 ops_over l [] = 0
@@ -231,7 +242,8 @@ length_of l front = suc (ops_over l front)
 
 abbrev pub guard_from : Listing → Trace → List Place → Option Tree
 guard_from l t [] = None
-guard_from l t (p ∷ rest) = if tests l p then Some (read l t (input_at l p 1)) else guard_from l (after_standing l (standing l p) t) rest
+guard_from l t (p ∷ rest) =
+    if tests l p then Some (read l t (input_at l p 1)) else guard_from l (after_standing l (standing l p) t) rest
 
 -- the tree of the CBRANCH's condition
 abbrev pub guard_of : Listing → List Place → Option Tree

@@ -38,10 +38,17 @@ HasCase (c ∷ rest) v = (v ≡ c.value) ⊎ HasCase rest v
 
 -- no CBRANCH of the slice leads to a place of the slice other than its first
 abbrev pub LeavesAhead : Listing → Place → List Place → Type 0
-LeavesAhead l end front = (p q : Place) → IsIn p front → tests l p ≡ true → branch_in (standing l p) p.index (input_at l p 0) ≡ Some q → IsIn q (inner_of front end) → ⊥
+LeavesAhead l end front =
+    (p q : Place)
+    → IsIn p front
+    → tests l p ≡ true
+    → branch_in (standing l p) p.index (input_at l p 0) ≡ Some q
+    → IsIn q (inner_of front end)
+    → ⊥
 
 -- The slice has a table with the subtree of its target at a place of the reading order for x.
-pub record HasTable (l : Listing) (end : Place) (front : List Place) (index : ℕ) (x : Tree) (cases : List Case) : Type 0 where
+pub record HasTable (l : Listing) (end : Place) (front : List Place) (index : ℕ) (x : Tree) (cases : List Case)
+    : Type 0 where
   pub slice : IsSlice l end front
   pub leaves : LeavesAhead l end front
   pub subtree : slice_get (reading (target_of l front end)) index ≡ Some x
@@ -64,23 +71,32 @@ pub record HoldsTree (l : Listing) (t : Trace) (x : Tree) (v : Varnode) : Type 0
 
 -- register before unique, and by rising offset
 abbrev pub IsEarlier : Listing → Varnode → Varnode → Type 0
-IsEarlier l v w = ((kind_of l v.space ≡ Register) × (kind_of l w.space ≡ Unique)) ⊎ ((v.space ≡ w.space) × (v.offset < w.offset))
+IsEarlier l v w =
+    ((kind_of l v.space ≡ Register) × (kind_of l w.space ≡ Unique)) ⊎ ((v.space ≡ w.space) × (v.offset < w.offset))
 
 -- the least place of the slice before which a range has the tree x, and the first such range
-pub record IsHeld (l : Listing) (end : Place) (front : List Place) (x : Tree) (at : Place) (value : Varnode) : Type 0 where
+pub record IsHeld (l : Listing) (end : Place) (front : List Place) (x : Tree) (at : Place) (value : Varnode)
+    : Type 0 where
   pub before : List Place
   pub after : List Place
   pub split : front ++ end ∷ [] ≡ before ++ at ∷ after
   pub holds : HoldsTree l (traced l before) x value
-  pub least : (earlier rest : List Place) (q : Place) (w : Varnode) → before ≡ earlier ++ q ∷ rest → HoldsTree l (traced l earlier) x w → ⊥
+  pub least : (earlier rest : List Place) (q : Place) (w : Varnode)
+      → before ≡ earlier ++ q ∷ rest
+      → HoldsTree l (traced l earlier) x w
+      → ⊥
   pub first : (w : Varnode) → HoldsTree l (traced l before) x w → (w ≡ value) ⊎ IsEarlier l value w
 
 -- Where no such range ever has it, x is a range of a ram space at the slice's entry.
-pub record IsRamRange (l : Listing) (end : Place) (front : List Place) (x : Tree) (at : Place) (value : Varnode) : Type 0 where
+pub record IsRamRange (l : Listing) (end : Place) (front : List Place) (x : Tree) (at : Place) (value : Varnode)
+    : Type 0 where
   pub ram : kind_of l value.space ≡ Ram
   pub entry : x ≡ Entry value.space value.offset value.size
   pub at_first : at ≡ first_of front end
-  pub never : (before after : List Place) (q : Place) (w : Varnode) → front ++ end ∷ [] ≡ before ++ q ∷ after → HoldsTree l (traced l before) x w → ⊥
+  pub never : (before after : List Place) (q : Place) (w : Varnode)
+      → front ++ end ∷ [] ≡ before ++ q ∷ after
+      → HoldsTree l (traced l before) x w
+      → ⊥
 
 -- ---- the table
 
@@ -97,7 +113,10 @@ pub record IsTable (l : Listing) (end : Place) (table : Table) : Type 0 where
   pub slice : table.slice ≡ length_of l front
   pub size : table.size.bytes ≡ width x
   pub held : IsHeld l end front x table.at table.value ⊎ IsRamRange l end front x table.at table.value
-  pub first : (other : List Place) (j : ℕ) (y : Tree) (cases : List Case) → HasTable l end other j y cases → IsSooner (length_of l other) j (length_of l front) index → ⊥
+  pub first : (other : List Place) (j : ℕ) (y : Tree) (cases : List Case)
+      → HasTable l end other j y cases
+      → IsSooner (length_of l other) j (length_of l front) index
+      → ⊥
 
 abbrev pub HasNoTable : Listing → Place → Type 0
 HasNoTable l end = (table : Table) → IsTable l end table → ⊥

@@ -48,8 +48,15 @@ mutual
   pub data Gives (l : Listing) (x : Tree) (v : ℕ) : Tree → ℕ → Type 0 where
     Here : Gives l x v x v
     OfNumber : (n k : ℕ) → Number n k ≢ x → Gives l x v (Number n k) n
-    OfNode : (d : Doing) (k n : ℕ) (ts : Trees) (ws : List Sized) → Node d k ts ≢ x → GiveAll l x v ts ws → Makes l d k ws n → Gives l x v (Node d k ts) n
+    OfNode : (d : Doing) (k n : ℕ) (ts : Trees) (ws : List Sized)
+        → Node d k ts ≢ x
+        → GiveAll l x v ts ws
+        → Makes l d k ws n
+        → Gives l x v (Node d k ts) n
 
   pub data GiveAll (l : Listing) (x : Tree) (v : ℕ) : Trees → List Sized → Type 0 where
     NoMore : GiveAll l x v End []
-    OneMore : (n : ℕ) (t : Tree) (ts : Trees) (ws : List Sized) → Gives l x v t n → GiveAll l x v ts ws → GiveAll l x v (More t ts) (record { size = width t; value = n } ∷ ws)
+    OneMore : (n : ℕ) (t : Tree) (ts : Trees) (ws : List Sized)
+        → Gives l x v t n
+        → GiveAll l x v ts ws
+        → GiveAll l x v (More t ts) (record { size = width t; value = n } ∷ ws)

@@ -44,7 +44,8 @@ returning a = record { address = a; length = 4; ops = branch O.Return (number 0 
 abbrev pub listing : Bool → Option Varnode → List ℕ → List Op → Listing
 listing big stack bytes ops = record {
   version = 2;
-  spaces = record { name = codes "const"; kind = Constant; size = 8; big = false; word = 1 } ∷ space big Ram ∷ space big Register ∷ space big Unique ∷ [];
+  spaces =
+      record { name = codes "const"; kind = Constant; size = 8; big = false; word = 1 } ∷ space big Ram ∷ space big Register ∷ space big Unique ∷ [];
   stack = stack;
   protos = record { name = codes "c"; args = []; gives = None; pop = 0; keep = [] } ∷ [];
   func = record { name = codes "f"; address = 0x1000; proto = 0; returns = true };

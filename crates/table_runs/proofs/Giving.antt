@@ -10,7 +10,11 @@ use Rattle.table_runs.specs.Outside.{IsOutside, IsOutsideOne, Itself, Within, In
 
 -- where the node is a LOAD of read-only bytes, its word is theirs
 abbrev pub IsFixedLoad : Listing → Words → Tree → Type 0
-IsFixedLoad l e u = (s k n : ℕ) (ts : Trees) → u ≡ Node (Loads s) k ts → IsFixedWord l s (byte_address l s (word (values e ts) 0).value) k n → value e u ≡ n
+IsFixedLoad l e u =
+    (s k n : ℕ) (ts : Trees)
+    → u ≡ Node (Loads s) k ts
+    → IsFixedWord l s (byte_address l s (word (values e ts) 0).value) k n
+    → value e u ≡ n
 
 module _ (l : Listing) (e : Words) (x : Tree) where
   makes_value : (d : Doing) (k n : ℕ) (ts : Trees)

@@ -211,7 +211,10 @@ module _ (e : Words) where
           of_and B.And g = refl
           of_and o g = absurd (cc)
 
-      by : (b : Bool) → is_and op ≡ b → cond b (first_mask ts) None ≡ Some m → bit_and (value e (Node (OfTwo op) k ts)) m ≡ value e (Node (OfTwo op) k ts)
+      by : (b : Bool)
+          → is_and op ≡ b
+          → cond b (first_mask ts) None ≡ Some m
+          → bit_and (value e (Node (OfTwo op) k ts)) m ≡ value e (Node (OfTwo op) k ts)
       by false f g = absurd (cc)
       by true f g =
           let which : (constant_of t ≡ Some m) ⊎ (constant_of u ≡ Some m) =

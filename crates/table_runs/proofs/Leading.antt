@@ -26,7 +26,8 @@ FallsThrough e None = Unit {0}
 FallsThrough e (Some guard) = IsSound e guard × (value e guard ≡ 0)
 
 -- the case of x's word: where it is, the target's word is its address
-pub record Leads (l : Listing) (end : Place) (front : List Place) (e : Words) (x : Tree) (cases : List Case) : Type 0 where
+pub record Leads (l : Listing) (end : Place) (front : List Place) (e : Words) (x : Tree) (cases : List Case)
+    : Type 0 where
   pub case : Case
   pub is_case : HasCase cases (value e x)
   pub word : case.value ≡ value e x
@@ -41,7 +42,8 @@ module _ (l : Listing) (end : Place) (front : List Place) (e : Words) where
       → IsSwitched guard x
       → FallsThrough e guard
       → Passes l guard x (value e x)
-  passes (Some guard) x free sound is falls = subst (Gives l x (value e x) guard) falls.1 (guard_has l e x free guard is falls.0)
+  passes (Some guard) x free sound is falls =
+      subst (Gives l x (value e x) guard) falls.1 (guard_has l e x free guard is falls.0)
   passes None x free sound is falls = rw is.1 (masked_is e x is.0 sound is.1)
 
   found : (x : Tree) (cases : List Case)

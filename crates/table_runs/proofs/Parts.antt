@@ -9,7 +9,8 @@ pub record IsPart (last : ℕ → Option Written) (p : Part) : Type 0 where
 -- these parts are so many bytes from an offset on
 abbrev pub Cover : (ℕ → Option Written) → (offset size : ℕ) → List Part → Type 0
 Cover last o k [] = k ≡ 0
-Cover last o k (p ∷ ps) = (rest : ℕ) × ((p.from ≡ o) × (IsPart last p × ((k ≡ p.size + rest) × Cover last (o + p.size) rest ps)))
+Cover last o k (p ∷ ps) =
+    (rest : ℕ) × ((p.from ≡ o) × (IsPart last p × ((k ≡ p.size + rest) × Cover last (o + p.size) rest ps)))
 
 module _ (last : ℕ → Option Written) (once : (o p : ℕ) → is_same (last o) (last p) ≡ true → last o ≡ last p) where
   one_byte : (o : ℕ) → IsPart last (record { writer = last o; from = o; size = 1 })

@@ -50,9 +50,14 @@ module _ (size : ℕ) (f g : ℕ → ℕ) where
 module _ (l : Listing) (e : Words) (s : ℕ) (last : ℕ → Option Written) (m0 m : Bytes)
     (entry : (o k : ℕ) → e.range s o k ≡ word_in_bytes l s o k m0)
     (small : AreBytes m0) (bytes : AreBytes m) (t : Traces l e s last m0 m) where
-  entry_says : (o n : ℕ) → o + n ≤ size_of l s → ((j : ℕ) → j < n → last (o + j) ≡ None) → Says e (Entry s o n) n (word_in_bytes l s o n m)
+  entry_says : (o n : ℕ)
+      → o + n ≤ size_of l s
+      → ((j : ℕ) → j < n → last (o + j) ≡ None)
+      → Says e (Entry s o n) n (word_in_bytes l s o n m)
   entry_says o n within each = record {
-    is = entry o n ∙ ap (word_of (is_big l s)) (bytes_same (size_of l s) (m0 s) (m s) o n within (λ j lt. sym (t.kept (o + j) (each j lt))));
+    is =
+        entry o n
+        ∙ ap (word_of (is_big l s)) (bytes_same (size_of l s) (m0 s) (m s) o n within (λ j lt. sym (t.kept (o + j) (each j lt))));
     wide = refl;
     sound = rw (entry o n) (word_below l s o n m0 small);
   }
@@ -64,7 +69,10 @@ module _ (l : Listing) (e : Words) (s : ℕ) (last : ℕ → Option Written) (m0
     ends : o + n ≤ w.to + w.size
     ends = omega (arith, (t.wrote (o + (n - 1)) w (each (n - 1) (omega arith))).below)
 
-    digits : (k : ℕ) → k + n ≤ w.size → place_of_part (is_big l s) w.size k n ≡ o - w.to → word_in_bytes l s o n m ≡ part (value e w.tree) k n
+    digits : (k : ℕ)
+        → k + n ≤ w.size
+        → place_of_part (is_big l s) w.size k n ≡ o - w.to
+        → word_in_bytes l s o n m ≡ part (value e w.tree) k n
     digits k low place =
         part_word (size_of l s) (m s) (is_big l s) w.size (value e w.tree) o n (o - w.to) k within low place (omega (arith, first.from, ends)) (λ j lt.
         let i : o + j - w.to ≡ o - w.to + j = omega (arith, first.from) in
@@ -95,15 +103,22 @@ module _ (l : Listing) (e : Words) (s : ℕ) (last : ℕ → Option Written) (m0
             let same : n ≡ w.size = grind (arith, nat_tests) in
             let lt : value e w.tree < limit n = rw (first.wide, ← same) at (sound_below e w.tree first.sound) in
             record {
-              is = sym (word_is ∙ ap (λ k. part (value e w.tree) k n) (whole_is same (is_big l s)) ∙ part_whole (value e w.tree) n lt);
+              is =
+                  sym (word_is ∙ ap (λ k. part (value e w.tree) k n) (whole_is same (is_big l s)) ∙ part_whole (value e w.tree) n lt);
               wide = first.wide ∙ sym same;
               sound = first.sound;
             }
-        by false f = same_says e (piece_says e (is_wide_as l.stack n) w.tree (dropped (is_big l s) w o n) n first.sound) (sym word_is)
+        by false f =
+            same_says e (piece_says e (is_wide_as l.stack n) w.tree (dropped (is_big l s) w o n) n first.sound) (sym word_is)
 
-  pub part_is : (p : Part) → IsPart last p → p.from + p.size ≤ size_of l s → Says e (part_tree l s p) p.size (word_in_bytes l s p.from p.size m)
+  pub part_is : (p : Part)
+      → IsPart last p
+      → p.from + p.size ≤ size_of l s
+      → Says e (part_tree l s p) p.size (word_in_bytes l s p.from p.size m)
   part_is p h within = by p.writer refl
     where
-      by : (u : Option Written) → p.writer ≡ u → Says e (written_tree l s u p.from p.size) p.size (word_in_bytes l s p.from p.size m)
+      by : (u : Option Written)
+          → p.writer ≡ u
+          → Says e (written_tree l s u p.from p.size) p.size (word_in_bytes l s p.from p.size m)
       by None f = entry_says p.from p.size within (λ j lt. h.each j lt ∙ f)
       by (Some w) f = output_says w p.from p.size h.some within (λ j lt. h.each j lt ∙ f)

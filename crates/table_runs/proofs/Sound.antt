@@ -143,7 +143,9 @@ module _ (e : Words) where
   abbrev pub together_value : List Tree → ℕ
   together_value ts = joined (values e (trees ts))
 
-  concat_last : (u v t i j : ℕ) → limit (i + j) ≡ limit i * limit j → concat (i + j) u (concat j v t) ≡ concat j (concat i u v) t
+  concat_last : (u v t i j : ℕ)
+      → limit (i + j) ≡ limit i * limit j
+      → concat (i + j) u (concat j v t) ≡ concat j (concat i u v) t
   unfolding concat
   concat_last u v t i j h = ap (λ n. u * n + (v * limit j + t)) h ∙ grind (arith)
 

@@ -33,12 +33,19 @@ nothing false = refl
 module _ (l : Listing) (e : Words) (s : ℕ) (last : ℕ → Option Written) (m0 m : Bytes)
     (entry : (o k : ℕ) → e.range s o k ≡ word_in_bytes l s o k m0)
     (small : AreBytes m0) (bytes : AreBytes m) (t : Traces l e s last m0 m) where
-  says : (big : Bool) → is_big l s ≡ big → (p : Part) → IsPart last p → p.from + p.size ≤ size_of l s → Says e (part_tree l s p) p.size (word_of big (bytes_at (size_of l s) (m s) p.from p.size))
-  says big f p h within = same_says e (part_is l e s last m0 m entry small bytes t p h within) (ap (λ b. word_of b (bytes_at (size_of l s) (m s) p.from p.size)) f)
+  says : (big : Bool)
+      → is_big l s ≡ big
+      → (p : Part)
+      → IsPart last p
+      → p.from + p.size ≤ size_of l s
+      → Says e (part_tree l s p) p.size (word_of big (bytes_at (size_of l s) (m s) p.from p.size))
+  says big f p h within =
+      same_says e (part_is l e s last m0 m entry small bytes t p h within) (ap (λ b. word_of b (bytes_at (size_of l s) (m s) p.from p.size)) f)
 
   all_big : is_big l s ≡ true → (ps : List Part) (o k : ℕ) → Cover last o k ps → o + k ≤ size_of l s
       → SayTogether e (map (part_tree l s) ps) k (word_of true (bytes_at (size_of l s) (m s) o k))
-  all_big f [] o k c within = record { is = ap (λ j. word_of true (bytes_at (size_of l s) (m s) o j)) (sym c); wide = sym c; sound = tt }
+  all_big f [] o k c within =
+      record { is = ap (λ j. word_of true (bytes_at (size_of l s) (m s) o j)) (sym c); wide = sym c; sound = tt }
   all_big f (p ∷ ps) o k c within =
       let rest = c.0 in
       let x = c.1 in
@@ -58,7 +65,8 @@ module _ (l : Listing) (e : Words) (s : ℕ) (last : ℕ → Option Written) (m0
 
   all_little : is_big l s ≡ false → (ps : List Part) (o k : ℕ) → Cover last o k ps → o + k ≤ size_of l s
       → SayTogether e (reverse (map (part_tree l s) ps)) k (word_of false (bytes_at (size_of l s) (m s) o k))
-  all_little f [] o k c within = record { is = ap (λ j. word_of false (bytes_at (size_of l s) (m s) o j)) (sym c); wide = sym c; sound = tt }
+  all_little f [] o k c within =
+      record { is = ap (λ j. word_of false (bytes_at (size_of l s) (m s) o j)) (sym c); wide = sym c; sound = tt }
   all_little f (p ∷ ps) o k c within =
       let rest = c.0 in
       let x = c.1 in
@@ -98,7 +106,8 @@ module _ (l : Listing) (e : Words) (s : ℕ) (last : ℕ → Option Written) (m0
       → Cover last o k ps
       → o + k ≤ size_of l s
       → Says e (together (is_big l s) k (map (part_tree l s) ps)) k (word_in_bytes l s o k m)
-  together_says [] o k c within = node_says [] o k (record { is = nothing (is_big l s) ∙ ap (λ j. word_in_bytes l s o j m) (sym c); wide = sym c; sound = tt })
+  together_says [] o k c within =
+      node_says [] o k (record { is = nothing (is_big l s) ∙ ap (λ j. word_in_bytes l s o j m) (sym c); wide = sym c; sound = tt })
   together_says (p ∷ []) o k c within =
       let x = c.1 in
       let size : p.size ≡ k = omega (arith, x.1.1.0, x.1.1.1) in

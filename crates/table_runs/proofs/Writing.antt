@@ -35,6 +35,9 @@ same_ranges u w h = (grind (arith, nat_tests), grind (arith, nat_tests))
 module _ (l : Listing) (e : Words) (v : Varnode) (tree : Tree) (n : ℕ) (inside : IsInside l v)
     (says : Says e tree v.size n) (t : Trace) (m0 m : Bytes)
     (all : (s : ℕ) → Traces l e s (t s) m0 m) where
+  abbrev now : Written
+  now = record { to = v.offset; size = v.size; tree = tree }
+
   long : length (word_bytes (is_big l v.space) v.size n) ≡ v.size
   long = length-word_bytes (is_big l v.space) v.size n
 
@@ -60,14 +63,17 @@ module _ (l : Listing) (e : Words) (v : Varnode) (tree : Tree) (n : ℕ) (inside
       ap (bytes_at (size_of l v.space) (with_word l v n m v.space) v.offset) (sym long)
       ∙ written_on (size_of l v.space) v.space v.offset (word_bytes (is_big l v.space) v.size n) m fits
 
-  byte_now : (o : ℕ) → v.offset ≤ o → o < v.offset + v.size → with_word l v n m v.space o ≡ get_or (word_bytes (is_big l v.space) v.size n) (o - v.offset) 0
+  byte_now : (o : ℕ)
+      → v.offset ≤ o
+      → o < v.offset + v.size
+      → with_word l v n m v.space o ≡ get_or (word_bytes (is_big l v.space) v.size n) (o - v.offset) 0
   byte_now o from below =
       let z : v.offset + (o - v.offset) ≡ o = omega arith in
       ap (with_word l v n m v.space) (sym z)
       ∙ byte_at (size_of l v.space) (with_word l v n m v.space) v.offset v.size (o - v.offset) inside (omega arith)
       ∙ ap (λ xs. get_or xs (o - v.offset) 0) bytes_now
 
-  itself : (s o : ℕ) → (s == v.space && in_range v o) ≡ true → IsByteOf l e s (record { to = v.offset; size = v.size; tree = tree }) o (with_word l v n m s o)
+  itself : (s o : ℕ) → (s == v.space && in_range v o) ≡ true → IsByteOf l e s (now) o (with_word l v n m s o)
   itself s o h =
       let x = there s o h in
       record {
@@ -103,11 +109,17 @@ module _ (l : Listing) (e : Words) (v : Varnode) (tree : Tree) (n : ℕ) (inside
     once = λ o p. once o p (s == v.space && in_range v o) (s == v.space && in_range v p) refl refl;
   }
     where
-      kept : (o : ℕ) (b : Bool) → (s == v.space && in_range v o) ≡ b → cond b (Some (record { to = v.offset; size = v.size; tree = tree })) (t s o) ≡ None → with_word l v n m s o ≡ m0 s o
+      kept : (o : ℕ) (b : Bool)
+          → (s == v.space && in_range v o) ≡ b
+          → cond b (Some (now)) (t s o) ≡ None
+          → with_word l v n m s o ≡ m0 s o
       kept o true h f = absurd (cc)
       kept o false h f = stays s o h ∙ (all s).kept o f
 
-      wrote_at : (o : ℕ) (w : Written) (b : Bool) → (s == v.space && in_range v o) ≡ b → cond b (Some (record { to = v.offset; size = v.size; tree = tree })) (t s o) ≡ Some w → IsByteOf l e s w o (with_word l v n m s o)
+      wrote_at : (o : ℕ) (w : Written) (b : Bool)
+          → (s == v.space && in_range v o) ≡ b
+          → cond b (Some (now)) (t s o) ≡ Some w
+          → IsByteOf l e s w o (with_word l v n m s o)
       wrote_at o w true h f = subst (λ u. IsByteOf l e s u o (with_word l v n m s o)) (same_Some _ _ f) (itself s o h)
       wrote_at o w false h f =
           let old = (all s).wrote o w f in
@@ -117,28 +129,28 @@ module _ (l : Listing) (e : Words) (v : Varnode) (tree : Tree) (n : ℕ) (inside
           → (s == v.space && in_range v o) ≡ true
           → (s == v.space && in_range v p) ≡ false
           → t s p ≡ u
-          → is_same (Some (record { to = v.offset; size = v.size; tree = tree })) u ≡ true
+          → is_same (Some (now)) u ≡ true
           → ⊥
       one_out o p None h k is same = absurd (cc)
       one_out o p (Some u) h k is same =
-          let r = same_ranges (record { to = v.offset; size = v.size; tree = tree }) u same in
+          let r = same_ranges (now) u same in
           apart s o p u h k is (sym r.0, sym r.1)
 
       other_out : (o p : ℕ) (u : Option Written)
           → (s == v.space && in_range v o) ≡ false
           → (s == v.space && in_range v p) ≡ true
           → t s o ≡ u
-          → is_same u (Some (record { to = v.offset; size = v.size; tree = tree })) ≡ true
+          → is_same u (Some (now)) ≡ true
           → ⊥
       other_out o p None h k is same = absurd (cc)
       other_out o p (Some u) h k is same =
-          apart s p o u k h is (same_ranges u (record { to = v.offset; size = v.size; tree = tree }) same)
+          apart s p o u k h is (same_ranges u (now) same)
 
       once : (o p : ℕ) (a b : Bool)
           → (s == v.space && in_range v o) ≡ a
           → (s == v.space && in_range v p) ≡ b
-          → is_same (cond a (Some (record { to = v.offset; size = v.size; tree = tree })) (t s o)) (cond b (Some (record { to = v.offset; size = v.size; tree = tree })) (t s p)) ≡ true
-          → cond a (Some (record { to = v.offset; size = v.size; tree = tree })) (t s o) ≡ cond b (Some (record { to = v.offset; size = v.size; tree = tree })) (t s p)
+          → is_same (cond a (Some (now)) (t s o)) (cond b (Some (now)) (t s p)) ≡ true
+          → cond a (Some (now)) (t s o) ≡ cond b (Some (now)) (t s p)
       once o p true true h k same = refl
       once o p true false h k same = absurd (one_out o p (t s p) h k refl same)
       once o p false true h k same = absurd (other_out o p (t s o) h k refl same)
