@@ -7,3 +7,4 @@ pub mod Giving
 pub mod Writing
 pub mod Guarding
 pub mod Leading
+pub mod Making
