@@ -8,3 +8,4 @@ pub mod Writing
 pub mod Guarding
 pub mod Leading
 pub mod Making
+pub mod Stepping

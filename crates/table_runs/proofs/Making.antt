@@ -1,5 +1,5 @@
 -- The word that an op writes is the word of the tree that it makes.
-use Rattle.std.proofs.Common.{◌≡◌, ℕ, ◌+◌, ◌<◌, Bool, true, false, [], ◌∷◌, Some, refl, sym, ap, ◌∙◌, subst, arith}
+use Rattle.std.proofs.Common.{◌≡◌, ℕ, ◌+◌, ◌<◌, Bool, true, false, Some, refl, ap, ◌∙◌, arith}
 use Rattle.bits_core.specs.declared.ops.Unary.{Unary}
 use Rattle.bits_core.specs.declared.ops.Unary.TheVariants as U
 use Rattle.bits_core.specs.declared.ops.Binary.{Binary}
@@ -8,10 +8,10 @@ use Rattle.bits_core.specs.declared.ops.Divide.{Divide}
 use Rattle.bits_core.specs.Value.{IsBinarySized, IsUnarySized, binary_value, concat, divide_value, limit, unary_value}
 use Rattle.laws.proofs.Words.{binary_word, divide_word, unary_word}
 use Rattle.pcode_model.specs.Memory.{or_else}
-use Rattle.table_form.specs.Trees.{Divides, Joins, Loads, OfOne, OfTwo, Tree, Node, End, More, cut, node_of_one, node_of_two, width}
+use Rattle.table_form.specs.Trees.{Divides, Joins, Loads, Tree, Node, End, More, node_of_one, node_of_two, width}
 use Rattle.table_form.specs.Slices.{binary_tree, unary_tree}
 use Rattle.table_runs.specs.Words.{Words, value}
-use Rattle.table_runs.proofs.Sound.{IsSound, Says, cut_says, same_says, sound_below}
+use Rattle.table_runs.proofs.Sound.{Says, cut_says, same_says, sound_below}
 
 module _ (e : Words) where
   says_below : {t : Tree} {k n : ℕ} → Says e t k n → n < limit k
