@@ -1,14 +1,14 @@
 -- A run that comes in by the slice's first place and falls through its CBRANCH has in x a word that passes, and its
 -- target's word is the address of that word's place.
-use Rattle.std.proofs.Common.{◌≡◌, ℕ, zero, suc, List, [], ◌∷◌, Option, Some, None, slice_get, sym, ap, ◌∙◌, subst, inl, inr}
+use Rattle.std.proofs.Common.{◌≡◌, ℕ, List, [], ◌∷◌, Option, Some, None, sym, ap, ◌∙◌, subst, inl, inr}
 use Rattle.std.specs.List.{AllByRecursion}
-use Rattle.std.proofs.lemmas.Option.{same_Some}
 use Rattle.pcode_model.specs.declared.listing.Instruction.{Instruction}
 use Rattle.pcode_model.specs.declared.listing.Place.{Place}
 use Rattle.pcode_model.specs.declared.listing.Listing.{Listing}
 use Rattle.pcode_model.specs.declared.tables.Case.{Case}
 use Rattle.pcode_model.specs.Places.{instruction_at, place}
 use Rattle.pcode_model.specs.Flow.{IsIn}
+use Rattle.pcode_model.proofs.Members.{member_at}
 use Rattle.table_form.specs.Trees.{Tree, constant_of, reading}
 use Rattle.table_form.specs.Values.{Gives}
 use Rattle.table_form.specs.Slices.{guard_of, inner_of, target_of}
@@ -55,16 +55,11 @@ module _ (l : Listing) (end : Place) (front : List Place) (e : Words) where
   found x (c ∷ rest) all v (inl same) = (c, (sym same, all.0))
   found x (c ∷ rest) all v (inr h) = found x rest all.1 v h
 
-  is_in : (ts : List Tree) (i : ℕ) (x : Tree) → slice_get ts i ≡ Some x → IsIn x ts
-  is_in [] i x h = absurd (cc)
-  is_in (t ∷ ts) zero x h = inl (sym (same_Some t x h))
-  is_in (t ∷ ts) (suc i) x h = inr (is_in ts i x h)
-
   module _ (index : ℕ) (x : Tree) (cases : List Case) (table : HasTable l end front index x cases)
       (sound : IsSound e (target_of l front end)) (falls : FallsThrough e (guard_of l front))
       (fixed : (u : Tree) → IsOutside x u (target_of l front end) → IsFixedLoad l e u) where
     x_sound : IsSound e x
-    x_sound = sound_in e (target_of l front end) x sound (is_in (reading (target_of l front end)) index x table.subtree)
+    x_sound = sound_in e (target_of l front end) x sound (member_at (reading (target_of l front end)) index x table.subtree)
 
     -- x's word passes
     pub passing : HasCase cases (value e x)

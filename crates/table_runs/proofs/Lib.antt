@@ -9,3 +9,5 @@ pub mod Guarding
 pub mod Leading
 pub mod Making
 pub mod Stepping
+pub mod Walking
+pub mod Landing

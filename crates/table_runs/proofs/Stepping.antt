@@ -200,7 +200,7 @@ module _
       LoadSays code out vs = Unit {0}
 
       -- the state after an op of an instruction whose operands have these words
-      abbrev After : Instruction → Opcode → Option Varnode → List Varnode → Result (List ℕ) End → State M
+      abbrev pub After : Instruction → Opcode → Option Varnode → List Varnode → Result (List ℕ) End → State M
       After i code out vs ws =
           apply m l (next_place i s.at.index) (effect_at l f i (record { code = code; out = out; inputs = vs }) ws s) s
 
