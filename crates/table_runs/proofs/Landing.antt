@@ -1,10 +1,7 @@
 -- A run that comes into the slice of a jump table by its first place and falls through goes from the BRANCHIND to the
 -- place of x's word, and where a range has x's tree it holds x's word.
-use Rattle.std.proofs.Common.{◌≡◌, ◌≢◌, ℕ, true, List, [], ◌∷◌, ◌++◌, Option, None, Result, Ok, Err, refl, sym, ap, ◌∙◌, subst, ⊎_elim}
-use Rattle.std.specs.Prelude.{◌<◌}
-use Rattle.bits_core.specs.Value.{limit}
+use Rattle.std.proofs.Common.{◌≡◌, ℕ, true, List, [], ◌∷◌, ◌++◌, Option, None, Result, Ok, Err, refl, sym, ap, ◌∙◌, subst, ⊎_elim}
 use Rattle.machine.specs.Trace.{End}
-use Rattle.pcode_model.specs.declared.listing.SpaceKind.TheVariants.{Constant, Ram}
 use Rattle.pcode_model.specs.declared.listing.Varnode.{Varnode}
 use Rattle.pcode_model.specs.declared.listing.Op.{Op}
 use Rattle.pcode_model.specs.declared.listing.Instruction.{Instruction}
@@ -15,15 +12,14 @@ use Rattle.pcode_model.specs.declared.opcode.Opcode.TheVariants as O
 use Rattle.pcode_model.specs.Spaces.{kind_of}
 use Rattle.pcode_model.specs.Memory.{Acts, Frame}
 use Rattle.pcode_model.specs.Places.{Standing, Nothing, Passes, Does, next_place, standing}
-use Rattle.pcode_model.specs.Step.{State, as_word, operands, read_all, read_varnode, step, step_at, varnode_at, with_first, word_in_bytes}
-use Rattle.range_words.specs.Ranges.{AreBytes}
+use Rattle.pcode_model.specs.Step.{State, operands, read_all, read_varnode, step, step_at, varnode_at, with_first}
 use Rattle.table_form.specs.Trees.{Tree}
 use Rattle.table_form.specs.Slices.{inputs_in, read, traced}
 use Rattle.table_runs.specs.Words.{Words}
 use Rattle.table_runs.specs.Shapes.{HasShape, IsRead}
 use Rattle.table_runs.proofs.Leading.{FallsThrough}
 use Rattle.table_runs.proofs.Sound.{Says}
-use Rattle.table_runs.proofs.Stepping.{operand_says}
+use Rattle.table_runs.proofs.Stepping.{Enters, operand_says}
 use Rattle.pcode_model.specs.declared.tables.Case.{Case}
 use Rattle.pcode_model.specs.Places.{place}
 use Rattle.pcode_model.specs.Step.{apply, effect_at, local_word, moved}
@@ -42,26 +38,20 @@ module _
     (f : Frame)
     (e : Words)
     (first : State M)
-    (constants : kind_of l 0 ≡ Constant)
-    (small : AreBytes first.local)
-    (locals : (s o k : ℕ) → kind_of l s ≢ Ram → e.range s o k ≡ word_in_bytes l s o k first.local)
-    (rams : (s o k n : ℕ)
-    → kind_of l s ≡ Ram
-    → as_word l s (m.read s o k first.world.memory) ≡ Ok n
-    → (e.range s o k ≡ n) × (n < limit k))
+    (enters : Enters m l e first)
     (front : List Place)
     (end : Place)
     (shapes : (before after : List Place) (p : Place) (i : Instruction) (op : Op)
     → front ≡ before ++ p ∷ after
     → standing l p ≡ Does i op
     → HasShape l op.code op.out op.inputs)
-    (loads : LoadsSay m l f e first constants small locals rams front end shapes)
+    (loads : LoadsSay m l f e first enters front end shapes)
   where
     -- as the slice is entered nothing is written
-    pub entered : HoldsAt m l f e first constants small locals rams front end shapes (traced l []) first
+    pub entered : HoldsAt m l f e first enters front end shapes (traced l []) first
     entered = record {
       world = refl;
-      bytes = small;
+      bytes = enters.small;
       traces = λ s. record { kept = λ o none. refl; wrote = λ o w some. absurd (cc); once = λ o p same. refl };
       untouched = λ s o kind. refl;
     }
@@ -74,12 +64,12 @@ module _
         → (v : Varnode) × ((op.inputs ≡ v ∷ []) × IsRead l v))
         (fixed : (u : Tree) → IsOutside x u (target_of l front end) → IsFixedLoad l e u)
         (r : State M) (walked : Walked m l f front first r) (going : r.world.over ≡ None) (at : r.at ≡ end) where
-      there : HoldsAt m l f e first constants small locals rams front end shapes (traced l front) r
-      there = walked_from m l f e first constants small locals rams front end shapes loads [] front first r refl entered walked going
+      there : HoldsAt m l f e first enters front end shapes (traced l front) r
+      there = walked_from m l f e first enters front end shapes loads [] front first r refl entered walked going
 
       falls : FallsThrough e (guard_of l front)
       falls =
-          guard_from_falls m l f e first constants small locals rams front end shapes loads table.slice.follow table.leaves
+          guard_from_falls m l f e first enters front end shapes loads table.slice.follow table.leaves
           [] front first r refl entered walked going at
 
       -- what the BRANCHIND reads, and where it goes
@@ -102,7 +92,7 @@ module _
           × (After i O.BranchInd out (v ∷ []) (with_first n (Ok [])) ≡ moved (place word 0) r))
       read_jumps i out v is (Err x) g over = absurd (cc)
       read_jumps i out v is (Ok n) g over =
-          (n, (operand_says m l f e first constants small locals rams (traced l front) r there v n is g, refl))
+          (n, (operand_says m l f e first enters (traced l front) r there v n is g, refl))
 
       jumps : (y : Standing)
           → standing l end ≡ y
@@ -148,11 +138,11 @@ module _
     -- A range that has x's tree before a place of the slice holds x's word there.
     pub held : (before : List Place) (x : Tree) (v : Varnode) (s : State M)
         → HoldsTree l (traced l before) x v
-        → HoldsAt m l f e first constants small locals rams front end shapes (traced l before) s
+        → HoldsAt m l f e first enters front end shapes (traced l before) s
         → IsRead l v
         → local_word l v s.local ≡ value e x
     held before x v s has h is =
         let word : read_varnode m l (kind_of l v.space) v s ≡ Ok (local_word l v s.local) =
         ⊎_elim (λ k. ap (λ kind. read_varnode m l kind v s) k) (λ k. ap (λ kind. read_varnode m l kind v s) k) has.kind in
-        sym (ap (value e) (sym has.is) ∙ (operand_says m l f e first constants small locals rams (traced l before) s h v
+        sym (ap (value e) (sym has.is) ∙ (operand_says m l f e first enters (traced l before) s h v
         (local_word l v s.local) is word).is)

@@ -44,6 +44,17 @@ untouched_parts last o (suc (suc k)) none some =
     ap (with_byte (last o) o) (untouched_parts last (suc o) (suc k) none (omega arith))
     ∙ ap (λ w. with_byte w o (record { writer = None; from = suc o; size = suc k } ∷ [])) (none o)
 
+-- What is asked of the state in which a run enters the slice: the words of ranges are those that it holds, and those
+-- of memory what a read of it gives.
+pub record Enters {M : Type 0} (m : Acts M) (l : Listing) (e : Words) (first : State M) : Type 0 where
+  pub constants : kind_of l 0 ≡ Constant
+  pub small : AreBytes first.local
+  pub locals : (s o k : ℕ) → kind_of l s ≢ Ram → e.range s o k ≡ word_in_bytes l s o k first.local
+  pub rams : (s o k n : ℕ)
+      → kind_of l s ≡ Ram
+      → as_word l s (m.read s o k first.world.memory) ≡ Ok n
+      → (e.range s o k ≡ n) × (n < limit k)
+
 module _
     {M : Type 0}
     (m : Acts M)
@@ -51,13 +62,7 @@ module _
     (f : Frame)
     (e : Words)
     (first : State M)
-    (constants : kind_of l 0 ≡ Constant)
-    (small : AreBytes first.local)
-    (locals : (s o k : ℕ) → kind_of l s ≢ Ram → e.range s o k ≡ word_in_bytes l s o k first.local)
-    (rams : (s o k n : ℕ)
-    → kind_of l s ≡ Ram
-    → as_word l s (m.read s o k first.world.memory) ≡ Ok n
-    → (e.range s o k ≡ n) × (n < limit k))
+    (enters : Enters m l e first)
   where
     -- The slice was entered in the state `first`, and its ops up to here have written this.
     pub record Holds (t : Trace) (s : State M) : Type 0 where
@@ -100,7 +105,7 @@ module _
           → v.space ≢ 0
           → Says e (read l t v) v.size n
       ram_says v n is kind w other =
-          let had = rams v.space v.offset v.size n kind
+          let had = enters.rams v.space v.offset v.size n kind
           (ap (λ (x : World M). as_word l v.space (m.read v.space v.offset v.size x.memory)) (sym h.world) ∙ w) in
           let one = untouched_parts (t v.space) v.offset v.size (λ p. h.untouched v.space p kind) is.some in
           let same : read l t v ≡ Entry v.space v.offset v.size =
@@ -115,7 +120,7 @@ module _
           → Says e (read l t v) v.size (word_in_bytes l v.space v.offset v.size s.local)
       local_says v n is kind other =
           subst (λ tree. Says e tree v.size (word_in_bytes l v.space v.offset v.size s.local)) (sym (other_tree v other))
-          (range_says l e v.space (t v.space) first.local s.local (λ o k. locals v.space o k kind) small h.bytes
+          (range_says l e v.space (t v.space) first.local s.local (λ o k. enters.locals v.space o k kind) enters.small h.bytes
           (h.traces v.space) v.offset v.size (is.inside other))
 
       -- An operand's tree has the word that is read.
@@ -123,7 +128,7 @@ module _
       operand_says v n is w = by (kind_of l v.space) refl w
         where
           elsewhere : (k : SpaceKind) → kind_of l v.space ≡ k → k ≢ Constant → v.space ≢ 0
-          elsewhere k g other zero_space = other (sym g ∙ ap (kind_of l) zero_space ∙ constants)
+          elsewhere k g other zero_space = other (sym g ∙ ap (kind_of l) zero_space ∙ enters.constants)
 
           by : (k : SpaceKind) → kind_of l v.space ≡ k → read_varnode m l k v s ≡ Ok n → Says e (read l t v) v.size n
           by Constant g r = let same : v.offset ≡ n = cc in subst (Says e (read l t v) v.size) same (constant_says v is (is.home g))
@@ -246,7 +251,7 @@ module _
 
         constant_word : (w : Varnode) (n : ℕ) → w.space ≡ 0 → result w ≡ Ok n → w.offset ≡ n
         constant_word w n zero_space g =
-            let kind : kind_of l w.space ≡ Constant = ap (kind_of l) zero_space ∙ constants in
+            let kind : kind_of l w.space ≡ Constant = ap (kind_of l) zero_space ∙ enters.constants in
             let same : Ok w.offset ≡ Ok n = ap (λ k. read_varnode m l k w s) (sym kind) ∙ g in
             cc
 

@@ -1,12 +1,10 @@
 -- A run that comes into a slice by its first place and falls through: what was written says what the bytes are at its
 -- end, and the guard's word is 0.
-use Rattle.std.proofs.Common.{◌≡◌, ◌≢◌, ℕ, Bool, true, false, List, [], ◌∷◌, ◌++◌, Option, Some, None, Result, Ok, Err, refl, sym, ap, ◌∙◌, subst, inl, inr, arith}
-use Rattle.std.specs.Prelude.{◌==◌, ◌<◌, if◌then◌else◌}
+use Rattle.std.proofs.Common.{◌≡◌, ℕ, Bool, true, false, List, [], ◌∷◌, ◌++◌, Option, Some, None, Result, Ok, Err, refl, sym, ap, ◌∙◌, subst, inl, inr, arith}
+use Rattle.std.specs.Prelude.{◌==◌, if◌then◌else◌}
 use Rattle.std.proofs.lemmas.Bool.Decides.{nat_tests}
 use Rattle.std.proofs.lemmas.List.{append-nil, append_assoc}
-use Rattle.bits_core.specs.Value.{limit}
 use Rattle.machine.specs.Trace.{End}
-use Rattle.pcode_model.specs.declared.listing.SpaceKind.TheVariants.{Constant, Ram}
 use Rattle.pcode_model.specs.declared.listing.Varnode.{Varnode}
 use Rattle.pcode_model.specs.declared.listing.Op.{Op}
 use Rattle.pcode_model.specs.declared.listing.Instruction.{Instruction}
@@ -19,15 +17,14 @@ use Rattle.pcode_model.specs.Memory.{Acts, Frame}
 use Rattle.pcode_model.specs.Places.{Standing, Nothing, Passes, Does, branch_place, next_place, standing}
 use Rattle.pcode_model.specs.Flow.{IsIn, branch_in}
 use Rattle.pcode_model.specs.World.{unless_over}
-use Rattle.pcode_model.specs.Step.{State, as_word, gone, operands, read_all, read_varnode, step, step_at, varnode_at, with_first, word_in_bytes}
+use Rattle.pcode_model.specs.Step.{State, gone, operands, read_all, read_varnode, step, step_at, varnode_at, with_first}
 use Rattle.pcode_model.proofs.Members.{behind, in_front}
-use Rattle.range_words.specs.Ranges.{AreBytes}
 use Rattle.table_form.specs.Slices.{Follow, Trace, after_standing, first_of, guard_from, inner_of, input_at, inputs_in, is_test, read, tests_in, traced, traced_from, untouched}
 use Rattle.table_form.specs.Tables.{LeavesAhead}
 use Rattle.table_runs.specs.Words.{Words}
 use Rattle.table_runs.specs.Shapes.{HasShape, One, Two, Divides, Loads, Tests}
 use Rattle.table_runs.proofs.Leading.{FallsThrough}
-use Rattle.table_runs.proofs.Stepping.{After, Holds, LoadSays, op_keeps, operand_says}
+use Rattle.table_runs.proofs.Stepping.{After, Enters, Holds, LoadSays, op_keeps, operand_says}
 
 traced_more : (l : Listing) (t : Trace) (ps : List Place) (p : Place)
     → traced_from l t (ps ++ p ∷ []) ≡ after_standing l (standing l p) (traced_from l t ps)
@@ -68,13 +65,7 @@ module _ {M : Type 0} (m : Acts M) (l : Listing) (f : Frame) where
   module _
       (e : Words)
       (first : State M)
-      (constants : kind_of l 0 ≡ Constant)
-      (small : AreBytes first.local)
-      (locals : (s o k : ℕ) → kind_of l s ≢ Ram → e.range s o k ≡ word_in_bytes l s o k first.local)
-      (rams : (s o k n : ℕ)
-      → kind_of l s ≡ Ram
-      → as_word l s (m.read s o k first.world.memory) ≡ Ok n
-      → (e.range s o k ≡ n) × (n < limit k))
+      (enters : Enters m l e first)
       (front : List Place)
       (end : Place)
       (shapes : (before after : List Place) (p : Place) (i : Instruction) (op : Op)
@@ -82,8 +73,9 @@ module _ {M : Type 0} (m : Acts M) (l : Listing) (f : Frame) where
       → standing l p ≡ Does i op
       → HasShape l op.code op.out op.inputs)
     where
+      -- what is known of a state of the walk by what was written
       abbrev pub HoldsAt : Trace → State M → Type 0
-      HoldsAt t s = Holds m l f e first constants small locals rams t s
+      HoldsAt t s = Holds m l f e first enters t s
 
       -- each LOAD of the slice reads what its tree's LOAD gives
       abbrev pub LoadsSay : Type 0
@@ -92,7 +84,7 @@ module _ {M : Type 0} (m : Acts M) (l : Listing) (f : Frame) where
           → front ≡ before ++ p ∷ after
           → s.at ≡ p
           → standing l p ≡ Does i op
-          → LoadSays m l f e first constants small locals rams (traced l before) s h op.code op.out op.inputs
+          → LoadSays m l f e first enters (traced l before) s h op.code op.out op.inputs
 
       module _ (loads : LoadsSay) where
         step_holds : (before after : List Place) (p : Place) (s : State M)
@@ -116,7 +108,7 @@ module _ {M : Type 0} (m : Acts M) (l : Listing) (f : Frame) where
             by (Passes i) g none =
                 record { world = h.world; bytes = h.bytes; traces = h.traces; untouched = h.untouched }
             by (Does i op) g none =
-                op_keeps m l f e first constants small locals rams (traced l before) s h i op.code op.out op.inputs
+                op_keeps m l f e first enters (traced l before) s h i op.code op.out op.inputs
                 (shapes before after p i op split g) (loads before after p i op s h split at g) none
 
         pub walked_from : (before rest : List Place) (s r : State M)
@@ -133,6 +125,20 @@ module _ {M : Type 0} (m : Acts M) (l : Listing) (f : Frame) where
 
         -- ---- the guard
 
+        -- the run goes on, at this place
+        abbrev GoesTo : Place → State M → Type 0
+        GoesTo p s = (s.world.over ≡ None) × (s.at ≡ p)
+
+        abbrev done : (before : List Place) (s : State M)
+            → HoldsAt (traced l before) s
+            → Instruction
+            → Opcode
+            → Option Varnode
+            → List Varnode
+            → Result (List ℕ) End
+            → State M
+        done before s h i code out vs ws = After m l f e first enters (traced l before) s h i code out vs ws
+
         module _ (follow : Follow l front end) (leaves : LeavesAhead l end front) where
           -- the CBRANCH of the slice isn't taken
           test_falls : (before after : List Place) (p : Place) (i : Instruction) (op : Op) (s : State M)
@@ -141,12 +147,11 @@ module _ {M : Type 0} (m : Acts M) (l : Listing) (f : Frame) where
               → s.at ≡ p
               → standing l p ≡ Does i op
               → is_test op.code ≡ true
-              → (step_at m l f (Does i op) s).world.over ≡ None
-              → (step_at m l f (Does i op) s).at ≡ first_of after end
+              → GoesTo (first_of after end) (step_at m l f (Does i op) s)
               → FallsThrough e (Some (read l (traced l before) (input_at l p 1)))
-          test_falls before after p i op s split h at g is over next =
+          test_falls before after p i op s split h at g is next =
               subst (λ x. FallsThrough e (Some (read l (traced l before) (varnode_at (inputs_in x) 1)))) (sym g)
-              (by op.code op.out op.inputs (shapes before after p i op split g) is over next
+              (by op.code op.out op.inputs (shapes before after p i op split g) is next
               (λ q w. leaves p q inside (ap tests_in g ∙ is) (ap (λ x. branch_in x p.index (varnode_at (inputs_in x) 0)) g ∙ w)))
             where
               inside : IsIn p front
@@ -155,45 +160,43 @@ module _ {M : Type 0} (m : Acts M) (l : Listing) (f : Frame) where
               by : (code : Opcode) (out : Option Varnode) (vs : List Varnode)
                   → HasShape l code out vs
                   → is_test code ≡ true
-                  → (After m l f e first constants small locals rams (traced l before) s h i code out vs (read_all m l f s (operands l code vs))).world.over ≡ None
-                  → (After m l f e first constants small locals rams (traced l before) s h i code out vs (read_all m l f s (operands l code vs))).at ≡ first_of after end
+                  → GoesTo (first_of after end) (done before s h i code out vs (read_all m l f s (operands l code vs)))
                   → ((q : Place) → branch_place i p.index (varnode_at vs 0) ≡ Some q → IsIn q (inner_of front end) → ⊥)
                   → FallsThrough e (Some (read l (traced l before) (varnode_at vs 1)))
-              by code out vs (One op z v sized made r) is over next away = absurd (cc)
-              by code out vs (Two op z v w sized drops made r q) is over next away = absurd (cc)
-              by code out vs (Divides op z v w one other made r q) is over next away = absurd (cc)
-              by code out vs (Loads z space v made r) is over next away = absurd (cc)
-              by code out vs (Tests to v r) is over next away = fall (read_varnode m l (kind_of l v.space) v s) refl over next
+              by code out vs (One op z v sized made r) is next away = absurd (cc)
+              by code out vs (Two op z v w sized drops made r q) is next away = absurd (cc)
+              by code out vs (Divides op z v w one other made r q) is next away = absurd (cc)
+              by code out vs (Loads z space v made r) is next away = absurd (cc)
+              by code out vs (Tests to v r) is next away =
+                  fall (read_varnode m l (kind_of l v.space) v s) refl next
                 where
                   taken : (o : Option Place)
                       → branch_place i s.at.index to ≡ o
-                      → (gone o s).world.over ≡ None
-                      → (gone o s).at ≡ first_of after end
+                      → GoesTo (first_of after end) (gone o s)
                       → ⊥
-                  taken None w none there = absurd (cc)
-                  taken (Some q) w none there =
+                  taken None w goes = let none = goes.0 in absurd (cc)
+                  taken (Some q) w goes =
                       away q (ap (λ (x : Place). branch_place i x.index to) (sym at) ∙ w)
-                      (subst (λ x. IsIn x (inner_of front end)) (sym there)
+                      (subst (λ x. IsIn x (inner_of front end)) (sym goes.1)
                       (subst (λ ps. IsIn (first_of after end) (inner_of ps end)) (sym split) (next_inside before after p end)))
 
                   fall : (x : Result ℕ End)
                       → read_varnode m l (kind_of l v.space) v s ≡ x
-                      → (After m l f e first constants small locals rams (traced l before) s h i O.CBranch None (to ∷ v ∷ []) (with_first x (Ok []))).world.over ≡ None
-                      → (After m l f e first constants small locals rams (traced l before) s h i O.CBranch None (to ∷ v ∷ []) (with_first x (Ok []))).at ≡ first_of after end
+                      → GoesTo (first_of after end) (done before s h i O.CBranch None (to ∷ v ∷ []) (with_first x (Ok [])))
                       → FallsThrough e (Some (read l (traced l before) v))
-                  fall (Err x) w none there = absurd (cc)
-                  fall (Ok n) w none there = which (n == 0) refl none there
+                  fall (Err x) w goes = let none = goes.0 in absurd (cc)
+                  fall (Ok n) w goes = which (n == 0) refl goes
                     where
                       which : (b : Bool)
                           → (n == 0) ≡ b
-                          → (gone (if b then Some (next_place i s.at.index) else branch_place i s.at.index to) s).world.over ≡ None
-                          → (gone (if b then Some (next_place i s.at.index) else branch_place i s.at.index to) s).at ≡ first_of after end
+                          → GoesTo (first_of after end)
+                          (gone (if b then Some (next_place i s.at.index) else branch_place i s.at.index to) s)
                           → FallsThrough e (Some (read l (traced l before) v))
-                      which true k none there =
-                          let says = operand_says m l f e first constants small locals rams (traced l before) s h v n r w in
+                      which true k goes =
+                          let says = operand_says m l f e first enters (traced l before) s h v n r w in
                           let none_left : n ≡ 0 = grind (arith, nat_tests) in
                           (says.sound, says.is ∙ none_left)
-                      which false k none there = absurd (taken (branch_place i s.at.index to) refl none there)
+                      which false k goes = absurd (taken (branch_place i s.at.index to) refl goes)
 
           -- The guard of a slice that is walked through is 0, if it has one.
           pub guard_from_falls : (before rest : List Place) (s r : State M)
@@ -238,6 +241,7 @@ module _ {M : Type 0} (m : Acts M) (l : Listing) (f : Frame) where
                       at_test (Passes i) k t = absurd (cc)
                       at_test (Does i op) k t =
                           let now : step m l f s ≡ step_at m l f (Does i op) s = same ∙ ap (λ z. step_at m l f z s) k in
-                          test_falls before rest p i op s split h w.0 k t
-                          (ap (λ (z : State M). z.world.over) (sym now) ∙ walked_over rest (step m l f s) r w.1.1 over)
-                          (ap (λ (z : State M). z.at) (sym now) ∙ walked_at rest end (step m l f s) r w.1.1 at)
+                          test_falls before rest p i op s split h w.0 k t (
+                            ap (λ (z : State M). z.world.over) (sym now) ∙ walked_over rest (step m l f s) r w.1.1 over,
+                            ap (λ (z : State M). z.at) (sym now) ∙ walked_at rest end (step m l f s) r w.1.1 at,
+                          )
