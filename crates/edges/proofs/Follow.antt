@@ -1,6 +1,6 @@
 -- The target shows what the source shows. States stand for each other where their blocks do, what is left of them
 -- follows, and what is needed is seen. A step of the source is none of the target (a statement that is gone, so that
--- less is left of the block), one, or some copies and one.
+-- less is left of the block), one, or some copies or quiet statements of its own and one.
 use Rattle.std.proofs.Common.{◌≡◌, ◌≢◌, ℕ, ◌+◌, ◌<◌, List, [], ◌∷◌, length, Bool, true, Option, Some, None, refl, sym, ap, ◌∙◌, subst, ◌⊎◌, inl, inr, ⊎_elim, arith}
 use Rattle.machine.specs.Trace.{End, Undefined, Trace}
 use Rattle.machine.specs.TwoWay.{IsFront, TwoWay, NeverEnds}
@@ -20,13 +20,13 @@ use Rattle.cmeaning.proofs.Do.{do_assign}
 use Rattle.blockcode.specs.declared.code.Code.{Code}
 use Rattle.blockcode.specs.Run.{seen_code}
 use Rattle.parts.specs.Exprs.{Env, all_of, widths_of, Below}
-use Rattle.parts.specs.Stmts.{Action, Sets, Loads, Extras, Done, Over, Goes, action_of, target_of, args_of, performed, act, done_with, done_by}
+use Rattle.parts.specs.Stmts.{Action, Sets, Loads, Extras, Done, Over, Goes, action_of, target_of, args_of, put_into, performed, act, done_with, done_by}
 use Rattle.parts.proofs.Parts.{do_by_parts}
 use Rattle.parts.proofs.Ends.{act_returns}
 use Rattle.edges.specs.Exits.{exit_args, Where, Onto, Out, leads}
 use Rattle.edges.specs.Run.{Blocks, stmts_at, exit_at, returns_at, Going, going, over_edge, arrives, leaves, exec, blocks_step, blocks_machine, first_state, start_blocks, seen_blocks, blocks_of_code}
 use Rattle.edges.specs.Live.{IsDefined}
-use Rattle.edges.specs.Follow.{Link, Needs, Known, Sees, Meets, Copy, laid, if_some, copied, BothDo, IsQuiet, SourceDoes, moved, Leaving, BothLeave, Follows, Ends, Kept, Gone, More, BlocksFollow, StandsFor, StandsLate, IsKnown}
+use Rattle.edges.specs.Follow.{Link, Needs, Known, Sees, Meets, Copy, laid, if_some, copied, BothDo, IsQuiet, Gives, SourceDoes, moved, Leaving, BothLeave, Follows, Ends, Kept, Gone, More, Also, BlocksFollow, StandsFor, StandsLate, IsKnown}
 use Rattle.edges.proofs.Codes.{seen_is}
 use Rattle.edges.proofs.Grows.{blocks_grow}
 
@@ -260,6 +260,22 @@ module _ (l : Listing) (p : Link) (needs : Needs) (known : Known) (blocks : Bloc
 
   -- ---- the target alone
 
+  -- A quiet statement of the target.
+  after_quiet : (b : ℕ) (a : Stmt) (rest : List Stmt) (y : Local) (value : ℕ → ℕ)
+      → y.world.over ≡ None
+      → IsQuiet (action_of a)
+      → Gives l p.target a y value
+      → blocks_step l p.target (going b (a ∷ rest) y)
+      ≡ going b rest (with_env (put_into p.target.widths (target_of a) value y.env) y)
+  after_quiet b a rest y value over quiet gives =
+      let returns = returns_at p.target b rest in
+      let ws = p.target.widths in
+      let ks = widths_of ws (args_of a) in
+      does l p.target b a rest y over
+      ∙ ap (λ o. going b rest (done_with o y (done_by l ws returns a y))) gives.1
+      ∙ ap (λ d. going b rest (performed ws (target_of a) d y))
+      (sym (quiet_returns l returns (action_of a) ks gives.0 y.left y.world quiet) ∙ gives.2)
+
   moves_later : (s t u : Going) (n : ℕ) → after (blocks_step l p.target) n t ≡ u → Moves s u → Moves s t
   moves_later s t u n to m =
       let P : Going → Type 0 = λ z. Alike (blocks_step l p.source s) z in
@@ -364,6 +380,19 @@ module _ (l : Listing) (p : Link) (needs : Needs) (known : Known) (blocks : Bloc
         let know' : KnowsOf b r r' x (with_env t y) =
         λ j. subst P (sym (after_more step s (length cs) j) ∙ ap (after step j) to) (know (length cs + j)) in
         moves_later (going b r x) s u (length cs) to
+        (moves_at g' r r' (with_env t y) world left know' next fits.2 never)
+    moves_at f rest rest' y world left know (Also g g' a' r r' fit next) sees never =
+        let step = blocks_step l p.target in
+        let s = going (p.to b) (a' ∷ r') y in
+        let fits = fit.after x y (record { over = over; world = world; knows = know 0; sees = sees }) never in
+        let t : Env = put_into p.target.widths (target_of a') fits.0 y.env in
+        let u = going (p.to b) r' (with_env t y) in
+        let over' : y.world.over ≡ None = sym (ap (λ w. w.over) world) ∙ over in
+        let to : step s ≡ u = after_quiet (p.to b) a' r' y fits.0 over' fit.quiet fits.1 in
+        let P : Going → Type 0 = λ z. known (going b r x) z in
+        let know' : KnowsOf b r r' x (with_env t y) =
+        λ j. subst P (sym (after_more step s 1 j) ∙ ap (after step j) to) (know (1 + j)) in
+        moves_later (going b r x) s u 1 to
         (moves_at g' r r' (with_env t y) world left know' next fits.2 never)
 
   -- ---- the runs, from an entry

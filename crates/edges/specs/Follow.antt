@@ -1,10 +1,11 @@
 -- When the blocks of a target do what the blocks of a source do. At each point each source variable that is needed is
 -- seen through an expression over the target's variables: where it has a value, the expression has the same one. This
 -- project's own.
-use Rattle.std.specs.Prelude.{◌≡◌, ℕ, ◌<◌, true, List, [], ◌∷◌, Option, Some, None, ◌⊎◌}
+use Rattle.std.specs.Prelude.{◌≡◌, ◌≢◌, ℕ, ◌<◌, true, List, [], ◌∷◌, Option, Some, None, ◌⊎◌}
 use Rattle.pcode_model.specs.declared.listing.Listing.{Listing}
 use Rattle.pcode_model.specs.Spaces.{put}
 use Rattle.pcode_model.specs.World.{Entry}
+use Rattle.machine.specs.Trace.{Undefined}
 use Rattle.machine.specs.Machine.{after}
 use Rattle.cmeaning.specs.declared.tree.Expr.{Expr}
 use Rattle.cmeaning.specs.declared.tree.Expr.TheVariants as E
@@ -145,6 +146,19 @@ pub record TargetDoes
         → Meets p needs known b f rest (laid cs rest') x y
         → (t : Env) × (copied p.target.widths cs y.env ≡ Some t) × Sees p.target.widths f' (needs b rest) x.env t
 
+-- The target does what the source doesn't, and changes nothing but its target. Where the source goes on, it has a value.
+pub record TargetAlso
+    (l : Listing) (p : Link) (needs : Needs) (known : Known) (b : ℕ) (f f' : ℕ → Expr) (a' : Stmt)
+    (rest rest' : List Stmt) : Type 0
+  where
+    pub quiet : IsQuiet (action_of a')
+    pub after : (x y : Local)
+        → Meets p needs known b f rest (a' ∷ rest') x y
+        → (blocks_step l p.source (going b rest x)).local.world.over ≢ Some Undefined
+        → (value : ℕ → ℕ)
+        × Gives l p.target a' y value
+        × Sees p.target.widths f' (needs b rest) x.env (put_into p.target.widths (target_of a') value y.env)
+
 abbrev pub moved : (ℕ → ℕ) → Where → Where
 moved to (Onto b) = Onto (to b)
 moved to (Out e) = Out e
@@ -185,6 +199,10 @@ pub data Follows (l : Listing) (p : Link) (needs : Needs) (known : Known) (b : �
         → TargetDoes p needs known b f f' cs rest rest'
         → Follows l p needs known b f' rest rest'
         → Follows l p needs known b f rest (laid cs rest')
+    Also : (f f' : ℕ → Expr) (a' : Stmt) (rest rest' : List Stmt)
+        → TargetAlso l p needs known b f f' a' rest rest'
+        → Follows l p needs known b f' rest rest'
+        → Follows l p needs known b f rest (a' ∷ rest')
 
 -- ---- the whole
 
