@@ -1,5 +1,5 @@
 -- Small lists in order.
-use Rattle.std.specs.Prelude.{◌≡◌, ℕ, zero, suc, ◌*◌, List, [], ◌∷◌}
+use Rattle.std.specs.Prelude.{◌≡◌, ℕ, zero, suc, [], ◌∷◌}
 use Rattle.sorting.specs.Order.{by_key}
 
 abbrev half : ℕ → ℕ
