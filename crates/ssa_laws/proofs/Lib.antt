@@ -3,3 +3,5 @@ pub mod Lines
 pub mod Keeps
 pub mod Runs
 pub mod Retargets
+pub mod Computed
+pub mod Words

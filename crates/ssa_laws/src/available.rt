@@ -2,6 +2,7 @@
 
 ghost use Rattle.ssa_laws.specs.Law.{EquationsHold};
 ghost use Rattle.ssa_laws.specs.Retarget.{SameValueRunsAlike};
+ghost use Rattle.ssa_laws.specs.Words.{ValuesAreWords};
 
 use pcode_model::Listing;
 use ssa_model::SsaFunction;
@@ -9,6 +10,13 @@ use ssa_model::SsaFunction;
 /// Wherever a value of the function is available, its equation holds.
 pub fn available_equations(listing: &Listing, f: &SsaFunction)
     ensures { EquationsHold listing.now f.now.parts }
+{
+    f.parts().graph.known();
+}
+
+/// From an entry of the listing each value holds words of its width.
+pub fn values_are_words(listing: &Listing, f: &SsaFunction)
+    ensures { ValuesAreWords listing.now f.now.parts }
 {
     f.parts().graph.known();
 }
