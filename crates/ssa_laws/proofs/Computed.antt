@@ -136,7 +136,8 @@ module _ (l : Listing) (x : ℕ) (ws : ℕ → ℕ) (env : Env) (words : (v m : 
       let same : a ≡ S.Assign x e = one_line (sym is ∙ line) in
       let parts = assign_is x e in
       low n (of_value e n
-      ((λ i. computed_with (sym parts.action i) (widths_of ws (sym parts.args i)) (all_of (values_of ws env (sym parts.args i))))
+      ((λ i. computed_with (sym parts.action i) (widths_of ws (sym parts.args i))
+      (all_of (values_of ws env (sym parts.args i))))
       ∙ ap (value_in ws env) (sym same)
       ∙ value))
 
@@ -198,7 +199,8 @@ module _ (l : Listing) (x : ℕ) (ws : ℕ → ℕ) (env : Env) (words : (v m : 
           → n < limit w.bytes
       by None o' is h = none_some h
       by (Some i) None is h = none_some h
-      by (Some i) (Some j) is h = subst (λ k. n < limit k) same (divide_word (divide_of op) (ws u) i j n (words u i is) h)
+      by (Some i) (Some j) is h =
+          subst (λ k. n < limit k) same (divide_word (divide_of op) (ws u) i j n (words u i is) h)
 
   -- a statement that computes nothing
   no_low : (vs : List ℕ) (role : Role) (w : Option Width) (y : Stmt-F Stmt Arm) (b : Stmt)
@@ -208,7 +210,8 @@ module _ (l : Listing) (x : ℕ) (ws : ℕ → ℕ) (env : Env) (words : (v m : 
       → IsLow vs role w
   no_low vs role w y b rolls line none a n is c value =
       let out : out-Stmt b ≡ y = ap out-Stmt (sym rolls) ∙ out-roll-Stmt y in
-      unfit (sym none ∙ ap (λ z. computes (layer_action z)) (sym out) ∙ ap (λ z. computes (action_of z)) (one_line (sym line ∙ is)) ∙ c)
+      unfit (sym none ∙ ap (λ z. computes (layer_action z)) (sym out)
+      ∙ ap (λ z. computes (action_of z)) (one_line (sym line ∙ is)) ∙ c)
 
   no_lines : (vs : List ℕ) (role : Role) (w : Option Width) → line_by l x vs role w ≡ [] → IsLow vs role w
   no_lines vs role w none a n is c value = no_line (sym none ∙ is)
@@ -245,7 +248,8 @@ module _ (l : Listing) (x : ℕ) (ws : ℕ → ℕ) (env : Env) (words : (v m : 
   computed_low [] Copies (Some w) f = unfit f
   computed_low (v ∷ []) Copies (Some w) f =
       assigned_low (v ∷ []) Copies w (E.Var v) refl
-      (λ m is. low_width w m v (second (nat_lt 0 w.bytes) (ws v) w.bytes f) (words v m (sym (value_of_var ws env v) ∙ is)))
+      (λ m is.
+      low_width w m v (second (nat_lt 0 w.bytes) (ws v) w.bytes f) (words v m (sym (value_of_var ws env v) ∙ is)))
   computed_low (v ∷ u ∷ vs) Copies (Some w) f = unfit f
   computed_low vs (Unary op) None f = no_lines vs (Unary op) None refl
   computed_low [] (Unary op) (Some w) f = unfit f
@@ -358,11 +362,12 @@ module _ (l : Listing) (x : ℕ) (ws : ℕ → ℕ) (env : Env) (words : (v m : 
   computed_low (u ∷ v ∷ t ∷ vs) (Division op) (Some w) f = unfit f
   computed_low vs (Loads space) None f = no_lines vs (Loads space) None refl
   computed_low vs (Loads space) (Some w) f =
-      no_low vs (Loads space) (Some w) (Stmt-F.Load x (said l space) (input vs 0)) (S.Load x (said l space) (input vs 0))
-      (S.rolls-Load x (said l space) (input vs 0)) refl refl
+      no_low vs (Loads space) (Some w) (Stmt-F.Load x (said l space) (input vs 0))
+      (S.Load x (said l space) (input vs 0)) (S.rolls-Load x (said l space) (input vs 0)) refl refl
   computed_low vs (Stores space) w f =
       no_low vs (Stores space) w (Stmt-F.Store (said l space) (input vs 0) (input vs 1))
-      (S.Store (said l space) (input vs 0) (input vs 1)) (S.rolls-Store (said l space) (input vs 0) (input vs 1)) refl refl
+      (S.Store (said l space) (input vs 0) (input vs 1)) (S.rolls-Store (said l space) (input vs 0) (input vs 1)) refl
+      refl
   computed_low vs (Calls callee) w f =
       no_low vs (Calls callee) w (Stmt-F.Call (target x w) callee (map E.Var vs))
       (S.Call (target x w) callee (map E.Var vs)) (S.rolls-Call (target x w) callee (map E.Var vs)) refl refl

@@ -57,7 +57,7 @@ value_kept ws s t a n agree is =
 
 -- ---- small facts
 
-before_first : (x : ℕ) (xs ys : List ℕ) → (IsIn x xs → ⊥) → before_op x (xs ++ x ∷ ys) ≡ xs
+pub before_first : (x : ℕ) (xs ys : List ℕ) → (IsIn x xs → ⊥) → before_op x (xs ++ x ∷ ys) ≡ xs
 before_first x [] ys n = before_here x x ys refl
 before_first x (y ∷ xs) ys n =
     before_far x y (xs ++ x ∷ ys) (λ e. n (inl (sym e)))

@@ -5,3 +5,5 @@ pub mod Runs
 pub mod Retargets
 pub mod Computed
 pub mod Words
+pub mod Renames
+pub mod Replaces

@@ -153,7 +153,9 @@ module _ (l : Listing) where
         stores_low ws o e left w (Ok (each_at (size_of l s) (poke s) a (bytes_in l s k n) w.memory)) low
         (bytes_stored l s a k n w.memory low.memory)
 
-    act_low : (action : Action) (ks ns : List ℕ) → IsGiven action ks ns → GoesLow ws o (act l returns action ks ns left w)
+    act_low : (action : Action) (ks ns : List ℕ)
+        → IsGiven action ks ns
+        → GoesLow ws o (act l returns action ks ns left w)
     act_low Sets ks [] g = tt
     act_low Sets ks (n ∷ []) g = (λ x is. g refl n x is refl, low)
     act_low Sets ks (n ∷ m ∷ ns) g = tt

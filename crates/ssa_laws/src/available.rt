@@ -1,6 +1,7 @@
 //! The laws. Each function does nothing but bring in what is known of its functions, and its contract is the law.
 
 ghost use Rattle.ssa_laws.specs.Law.{EquationsHold};
+ghost use Rattle.ssa_laws.specs.Replace.{SameWordRunsAlike};
 ghost use Rattle.ssa_laws.specs.Retarget.{SameValueRunsAlike};
 ghost use Rattle.ssa_laws.specs.Words.{ValuesAreWords};
 
@@ -27,4 +28,11 @@ pub fn same_value_runs_alike(listing: &Listing, before: &SsaFunction, after: &Ss
 {
     before.parts().graph.known();
     after.parts().graph.known();
+}
+
+/// To read another value, which holds the same there, leaves the run equal step by step.
+pub fn same_word_runs_alike(listing: &Listing, before: &SsaFunction, after: &SsaFunction)
+    ensures { SameWordRunsAlike listing.now before.now.parts after.now.parts }
+{
+    before.parts().graph.known();
 }
