@@ -5,5 +5,7 @@ pub mod Runs
 pub mod Retargets
 pub mod Computed
 pub mod Words
+pub mod Stopping
+pub mod Leaving
 pub mod Renames
 pub mod Replaces

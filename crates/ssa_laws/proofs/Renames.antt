@@ -32,6 +32,7 @@ use Rattle.ssa_model.specs.Roles.{Role, Constant, Starts, Joins, Copies, Unary, 
 use Rattle.ssa_model.specs.Outline.{bytes_of}
 use Rattle.ssa_model.specs.Lines.{said, target, word_in, line_by, exit_over, beside, or_else}
 use Rattle.ssa_model.specs.Formed.{fits}
+use Rattle.ssa_laws.proofs.Leaving.{IsRead}
 
 unfit : {P : Type 0} → false ≡ true → P
 unfit e = absurd (true≢false (sym e))
@@ -201,12 +202,6 @@ module _ (g : ℕ → ℕ) where
     line_under vs Returns w h = refl
 
   -- ---- exits
-
-  -- a test and a switch read something
-  abbrev pub IsRead : SsaExit → List ℕ → Type 0
-  IsRead (X.Test taken other) vs = vs ≡ [] → ⊥
-  IsRead (X.Switch arms) vs = vs ≡ [] → ⊥
-  IsRead e vs = Unit {0}
 
   pub exit_under : (e : SsaExit) (vs : List ℕ) → IsRead e vs → exit_over e (map g vs) ≡ exit_with f (exit_over e vs)
   exit_under X.Return [] h = refl

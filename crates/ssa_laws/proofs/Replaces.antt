@@ -40,52 +40,8 @@ use Rattle.ssa_laws.proofs.Lines.{IsLine, NoLine, OneLine}
 use Rattle.ssa_laws.proofs.Keeps.{line_at, reads_inputs, no_line, join_line, before_first}
 use Rattle.ssa_laws.proofs.Runs.{row_in, stmts_are, exit_is, in_ids, one_further, none_more}
 use Rattle.ssa_laws.proofs.Retargets.{step_last}
-use Rattle.ssa_laws.proofs.Renames.{line_under, IsRead, exit_under, calls_under, AreSame, values_under, does_under, beside_under}
-
--- ---- ops by which a block is left
-
--- such an op is no statement and no MULTIEQUAL
-exit_lines : (l : Listing) (x : ℕ) (vs : List ℕ) (w : Option Width) (e : SsaExit) (role : Role)
-    → exit_role e ≡ Some role
-    → line_by l x vs role w ≡ []
-exit_lines l x vs w X.Return role h = ap (λ z. line_by l x vs z w) (sym (some_same h))
-exit_lines l x vs w (X.Jump to) role h = none_some h
-exit_lines l x vs w (X.Test taken other) role h = ap (λ z. line_by l x vs z w) (sym (some_same h))
-exit_lines l x vs w (X.Switch arms) role h = ap (λ z. line_by l x vs z w) (sym (some_same h))
-exit_lines l x vs w X.Stop role h = none_some h
-
-exit_no_join : (e : SsaExit) (role : Role) → exit_role e ≡ Some role → IsJoin role → ⊥
-exit_no_join X.Return role h j = subst IsJoin (sym (some_same h)) j
-exit_no_join (X.Jump to) role h j = none_some h
-exit_no_join (X.Test taken other) role h j = subst IsJoin (sym (some_same h)) j
-exit_no_join (X.Switch arms) role h j = subst IsJoin (sym (some_same h)) j
-exit_no_join X.Stop role h j = none_some h
-
--- an op with a role that reads isn't without inputs
-exit_reads : (g : ℕ → ℕ) (ws : ℕ → ℕ) (e : SsaExit) (vs : List ℕ) (w : ℕ)
-    → ((role : Role) → exit_role e ≡ Some role → fits role w (map ws vs) ≡ true)
-    → IsRead g e vs
-exit_reads g ws X.Return vs w h = tt
-exit_reads g ws (X.Jump to) vs w h = tt
-exit_reads g ws (X.Test taken other) [] w h = absurd (true≢false (sym (h Tests refl)))
-exit_reads g ws (X.Test taken other) (v ∷ vs) w h = λ e. absurd (cc)
-exit_reads g ws (X.Switch arms) [] w h = absurd (true≢false (sym (h Switches refl)))
-exit_reads g ws (X.Switch arms) (v ∷ vs) w h = λ e. absurd (cc)
-exit_reads g ws X.Stop vs w h = tt
-
--- what an exit reads is what its op reads
-args_in : (g : ℕ → ℕ) (e : SsaExit) (vs : List ℕ) (v : ℕ)
-    → IsRead g e vs
-    → 0 < reads_all (exit_args (exit_over e vs)) v
-    → IsIn v vs × ((role : Role) × (exit_role e ≡ Some role))
-args_in g X.Return [] v some h = absurd (omega (arith, h))
-args_in g X.Return (u ∷ vs) v some h = (inl (read_is u v (omega (arith, h))), (Returns, refl))
-args_in g (X.Jump to) vs v some h = absurd (omega (arith, h))
-args_in g (X.Test taken other) [] v some h = absurd (some refl)
-args_in g (X.Test taken other) (u ∷ vs) v some h = (inl (read_is u v (omega (arith, h))), (Tests, refl))
-args_in g (X.Switch arms) [] v some h = absurd (some refl)
-args_in g (X.Switch arms) (u ∷ vs) v some h = (inl (read_is u v (omega (arith, h))), (Switches, refl))
-args_in g X.Stop vs v some h = absurd (omega (arith, h))
+use Rattle.ssa_laws.proofs.Leaving.{exit_lines, exit_no_join, args_in, leaver, last_is, is_read}
+use Rattle.ssa_laws.proofs.Renames.{line_under, exit_under, calls_under, AreSame, values_under, does_under, beside_under}
 
 -- ---- edges
 
@@ -174,63 +130,6 @@ module _
 
     -- ---- exits
 
-    -- the op by which a block is left
-    pub record Leaves (c : ℕ) (z : SsaExit) (role : Role) : Type 0 where
-      pub op : ℕ
-      pub row : OpRow
-      pub last : last_or None (block_at p.graph c) ≡ Some op
-      pub at : op_at p.graph op ≡ Some row
-      pub is : role_of row.code ≡ role
-
-    leaver : (c : ℕ) (z : SsaBlock) (role : Role)
-        → block_with c p.blocks ≡ Some z
-        → exit_role z.exit ≡ Some role
-        → Leaves c z.exit role
-    leaver c z role is has =
-        let left = ssa.formed.left c z.exit role (ap exit_in is) has in
-        by left.0 left.1.0 left.1.1.0 left.1.1.1.0 left.1.1.1.1 (op_at p.graph left.0) refl
-      where
-        by : (x : ℕ)
-            → last_or None (block_at p.graph c) ≡ Some x
-            → (f : OpForm)
-            → forms_of (op_at p.graph) x ≡ Some f
-            → f.role ≡ role
-            → (o : Option OpRow)
-            → op_at p.graph x ≡ o
-            → Leaves c z.exit role
-        by x last f form_is role_is None at = none_some (sym (ap (form_in (op_at p.graph)) at) ∙ form_is)
-        by x last f form_is role_is (Some t) at = record {
-          op = x;
-          row = t;
-          last = last;
-          at = at;
-          is = ap (λ (h : OpForm). h.role) (some_same (sym (ap (form_in (op_at p.graph)) at) ∙ form_is)) ∙ role_is;
-        }
-
-    last_is : (c : ℕ) (z : SsaExit) (role : Role) (x : Leaves c z role)
-        → last_inputs p.graph (last_or None (block_at p.graph c)) ≡ x.row.inputs
-    last_is c z role x = ap (last_inputs p.graph) x.last ∙ ap inputs_in x.at
-
-    is_read : (c : ℕ) (z : SsaBlock)
-        → block_with c p.blocks ≡ Some z
-        → IsRead g z.exit (last_inputs p.graph (last_or None (block_at p.graph c)))
-    is_read c z is =
-        by (exit_role z.exit) refl
-      where
-        by : (o : Option Role)
-            → exit_role z.exit ≡ o
-            → IsRead g z.exit (last_inputs p.graph (last_or None (block_at p.graph c)))
-        by None none =
-            exit_reads g k.widths z.exit (last_inputs p.graph (last_or None (block_at p.graph c))) 0
-            (λ role h. none_some (sym none ∙ h))
-        by (Some role) has =
-            let x = leaver c z role is has in
-            subst (IsRead g z.exit) (sym (last_is c z.exit role x))
-            (exit_reads g k.widths z.exit x.row.inputs (bytes_of x.row.width)
-            (λ role' h.
-            subst (λ r. fits r (bytes_of x.row.width) (map k.widths x.row.inputs) ≡ true)
-            (x.is ∙ some_same (sym has ∙ h)) (form_fits x.op x.row x.at)))
-
     exits_same : (c : ℕ) → exit_at k' c ≡ exit_with (named g) (exit_at k c)
     exits_same c =
         ap (λ bs. exit_of (block_by l q.graph c (exit_in (block_with c bs)))) blocks_same
@@ -245,7 +144,8 @@ module _
             ap (exit_over z.exit)
             (ap (λ xs. last_inputs q.graph (last_or None xs)) (lists_same c)
             ∙ inputs_same (last_or None (block_at p.graph c)))
-            ∙ exit_under g z.exit (last_inputs p.graph (last_or None (block_at p.graph c))) (is_read c z is)
+            ∙ exit_under g z.exit (last_inputs p.graph (last_or None (block_at p.graph c)))
+            (is_read l p ssa c z is)
 
     -- ---- places
 
@@ -307,9 +207,9 @@ module _
         by_block None is h = absurd (omega (arith, h))
         by_block (Some z) is h =
             let read =
-            args_in g z.exit (last_inputs p.graph (last_or None (block_at p.graph c))) v (is_read c z is) h in
+            args_in z.exit (last_inputs p.graph (last_or None (block_at p.graph c))) v (is_read l p ssa c z is) h in
             let role = read.1.0 in
-            let x = leaver c z role is read.1.1 in
+            let x = leaver l p ssa c z role is read.1.1 in
             let split = last_split (block_at p.graph c) x.op x.last in
             let none : line_of l x.op (op_at p.graph x.op) ≡ [] =
             ap (line_of l x.op) x.at
@@ -319,7 +219,7 @@ module _
             (sym (ap (λ cs. cs ++ []) none))
             (used_here c x.op v x.row split.0 [] split.1 x.at
             (λ j. exit_no_join z.exit role read.1.1 (subst IsJoin x.is j))
-            (subst (IsIn v) (last_is c z.exit role x) read.0))
+            (subst (IsIn v) (last_is l p ssa c z.exit role x) read.0))
 
     -- over an edge the words are the same
     over_same : (c d : ℕ) (y : Local)
