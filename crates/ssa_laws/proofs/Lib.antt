@@ -3,3 +3,9 @@ pub mod Lines
 pub mod Keeps
 pub mod Runs
 pub mod Retargets
+pub mod Computed
+pub mod Words
+pub mod Stopping
+pub mod Leaving
+pub mod Renames
+pub mod Replaces

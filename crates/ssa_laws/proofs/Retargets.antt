@@ -128,6 +128,12 @@ exit_plain (X.Test taken other) vs us h = none_some (sym h)
 exit_plain (X.Switch arms) vs us h = none_some (sym h)
 exit_plain X.Stop vs us h = refl
 
+-- a step more at the end is a step more
+pub step_last : (l : Listing) (k : Blocks) (n : ℕ) (s : Going)
+    → blocks_step l k (after (blocks_step l k) n s) ≡ after (blocks_step l k) n (blocks_step l k s)
+step_last l k zero s = refl
+step_last l k (suc n) s = step_last l k n (blocks_step l k s)
+
 module _
     (l : Listing) (p q : Parts) (x : ℕ) (r s : OpRow) (a b : Stmt)
     (e : Entry)
@@ -458,20 +464,15 @@ module _
         (subst (λ (t : Going). Pair t (going p.entry.0 (body_of l q.graph (block_at p.graph p.entry.0)) (first_state l k e)))
         (λ i. going p.entry.0 (sym mine i) (first_state l k e)) pair)
 
-    -- a step more at the end is a step more
-    step_last : (n : ℕ) (s : Going) → blocks_step l k (after (blocks_step l k) n s) ≡ after (blocks_step l k) n (blocks_step l k s)
-    step_last zero s = refl
-    step_last (suc n) s = step_last n (blocks_step l k s)
-
     pairs_from : (n m : ℕ) (t : Going)
         → Pair (after (blocks_step l k) m (start_blocks l k e)) t
         → Pair (after (blocks_step l k) n (after (blocks_step l k) m (start_blocks l k e))) (after (blocks_step l k') n t)
     pairs_from zero m t pair = pair
     pairs_from (suc n) m t pair =
         subst (λ (s : Going). Pair (after (blocks_step l k) n s) (after (blocks_step l k') n (blocks_step l k' t)))
-        (sym (step_last m (start_blocks l k e)))
+        (sym (step_last l k m (start_blocks l k e)))
         (pairs_from n (suc m) (blocks_step l k' t)
-        (subst (λ (s : Going). Pair s (blocks_step l k' t)) (step_last m (start_blocks l k e))
+        (subst (λ (s : Going). Pair s (blocks_step l k' t)) (step_last l k m (start_blocks l k e))
         (step_pair (after (blocks_step l k) m (start_blocks l k e)) t pair
         (λ before behind over stands. same.value e m before behind over stands))))
 

@@ -1,2 +1,4 @@
 pub mod Law
 pub mod Retarget
+pub mod Words
+pub mod Replace

@@ -18,7 +18,7 @@ in_map g (w ∷ vs) v (inl e) = (w, (inl refl, e))
 in_map g (w ∷ vs) v (inr m) = let r = in_map g vs v m in (r.0, (inr r.1.0, r.1.1))
 
 module _ (a b : ℕ) where
-  width_kept : (o : Option OpRow) → width_in (renamed_row a b o) ≡ width_in o
+  pub width_kept : (o : Option OpRow) → width_in (renamed_row a b o) ≡ width_in o
   width_kept None = refl
   width_kept (Some r) = refl
 
@@ -30,7 +30,7 @@ module _ (a b : ℕ) where
   row_from (Some r) s e = (r, (refl, some_same e))
 
   -- the value is another one where it was a
-  either : (u v : ℕ) → v ≡ renamed a b u → ((u ≡ a) × (v ≡ b)) ⊎ (v ≡ u)
+  pub either : (u v : ℕ) → v ≡ renamed a b u → ((u ≡ a) × (v ≡ b)) ⊎ (v ≡ u)
   either u v e = by_test (eqb u a) refl
     where
       by_test : (t : Bool) → eqb u a ≡ t → ((u ≡ a) × (v ≡ b)) ⊎ (v ≡ u)
@@ -41,7 +41,7 @@ module _ (a b : ℕ) where
     widths_kept : width_at (renaming a b f).rows ≡ width_at f.rows
     widths_kept = fun_ext (λ v. width_kept (f.rows v))
 
-    value_kept : (v : ℕ) → width_at f.rows (renamed a b v) ≡ width_at f.rows v
+    pub value_kept : (v : ℕ) → width_at f.rows (renamed a b v) ≡ width_at f.rows v
     value_kept v = by_case (either v (renamed a b v) refl)
       where
         by_case : ((v ≡ a) × (renamed a b v ≡ b)) ⊎ (renamed a b v ≡ v)

@@ -18,7 +18,7 @@ use Rattle.ssa_model.specs.declared.form.SsaBlock.{SsaBlock}
 use Rattle.ssa_model.specs.declared.form.Parts.{Parts}
 use Rattle.node_lists.specs.Chains.{last_or}
 use Rattle.ssa_model.specs.Roles.{Role, Constant, Starts, Joins, Copies, Unary, Arithmetic, Shifts, Compares, Signed, Extends, Piece, Part, Overflow, Count, Divides, Loads, Stores, Calls, CallsInd, CallsOther, Extra, Tests, Switches, Returns, role_of}
-use Rattle.ssa_model.specs.Outline.{bytes_of, only, role_at, multis_of, width_at, ids, numbers_of, predecessors_at}
+use Rattle.ssa_model.specs.Outline.{bytes_of, only, role_at, multis_of, width_at, ids, predecessors_at}
 use Rattle.ssa_model.specs.Starting.{starting}
 use Rattle.ssa_model.specs.Lines.{last_inputs, name_in}
 
