@@ -1,1 +1,3 @@
 pub mod Strict
+pub mod Made
+pub mod Tabled

@@ -167,9 +167,11 @@ pub record RendersBlock (l : Listing) (g : Graph) (ws : ℕ → ℕ) (heads : Li
     pub renders : Renders l g ws t heads x.body body t'
     pub leaves : Leaves l g ws t' (heads ++ body) x.exit e last
 
--- an entry value or a MULTIEQUAL
-abbrev pub IsHead : OpRow → Type 0
-IsHead r = IsJoin (role_of r.code) ⊎ (((s : ParamStorage) × (role_of r.code ≡ Starts s)) × (r.inputs ≡ []))
+-- a MULTIEQUAL, or at the entry an entry value
+abbrev pub IsHead : (entry b : ℕ) → OpRow → Type 0
+IsHead entry b r =
+    IsJoin (role_of r.code)
+    ⊎ ((b ≡ entry) × ((s : ParamStorage) × (role_of r.code ≡ Starts s)) × (r.inputs ≡ []))
 
 -- ---- the whole
 
@@ -209,7 +211,7 @@ pub record Certified (l : Listing) (k : Code) (p : Parts) (c : Tables) : Type 0 
       → (exit_at p.blocks b ≡ None) × (block_at p.graph b ≡ [])
   pub predecessors : (b d : ℕ) → IsIn b (predecessors_at p.blocks d) ↔ Leads p.blocks b d
   -- what a block begins with, each of which some variable has there
-  pub heads : (b v : ℕ) → IsIn v (c.heads b) → (r : OpRow) × (op_at p.graph v ≡ Some r) × IsHead r
+  pub heads : (b v : ℕ) → IsIn v (c.heads b) → (r : OpRow) × (op_at p.graph v ≡ Some r) × IsHead k.entry b r
   pub own : (b v : ℕ) → IsIn v (c.heads b) → (a : ℕ) × (c.at b a ≡ Some v)
   -- at the entry a variable that has a value is a parameter, and over each edge tables fit
   pub first : (a v : ℕ)

@@ -75,7 +75,7 @@ cut_at blocks entry c (d ∷ passed) b (Step ps from to p lead) m =
     }
     by_case (inr n) (inr k) next = absurd (n k)
 
-arrival : (blocks : List SsaBlock) (entry c : ℕ) (passed : List ℕ)
+pub arrival : (blocks : List SsaBlock) (entry c : ℕ) (passed : List ℕ)
     → Path blocks entry passed c
     → Arrival blocks entry passed c
 arrival blocks entry c passed p = by_case (cases_in c passed)
