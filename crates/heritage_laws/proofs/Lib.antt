@@ -1,3 +1,4 @@
 pub mod Strict
 pub mod Made
 pub mod Tabled
+pub mod Follows
