@@ -81,10 +81,10 @@ module _
     (l : Listing) (k : Code) (p : Parts) (e : Entry) (whole : IsWhole p.graph) (ssa : IsSsa (form p)) (c : Tables)
     (certified : Certified l k p c)
   where
-  abbrev kb : Blocks
+  abbrev pub kb : Blocks
   kb = blocks_of_code k
 
-  abbrev pb : Blocks
+  abbrev pub pb : Blocks
   pb = blocks_of l p
 
   abbrev ws : ℕ → ℕ
@@ -130,7 +130,7 @@ module _
   -- ---- what is known at a place
 
   -- what is available has its equation
-  computed_at : (b : ℕ) (f : ℕ → Expr) (body lines : List Stmt) (before behind : List ℕ) (x y : Local)
+  pub computed_at : (b : ℕ) (f : ℕ → Expr) (body lines : List Stmt) (before behind : List ℕ) (x y : Local)
       → Meet b f body lines x y
       → block_at p.graph b ≡ before ++ behind
       → lines ≡ body_of l p.graph behind
@@ -170,7 +170,7 @@ module _
   -- ---- an op of the function alone
 
   -- no value of the table is that of an op that stands behind
-  fresh : (b : ℕ) (t : Table) (before behind : List ℕ) (i : ℕ)
+  pub fresh : (b : ℕ) (t : Table) (before behind : List ℕ) (i : ℕ)
       → IsBlock l k p e whole ssa c certified b
       → block_at p.graph b ≡ before ++ i ∷ behind
       → Safe b before t
@@ -199,7 +199,7 @@ module _
   abbrev pub GoesOn : ℕ → List Stmt → Local → Type 0
   GoesOn b body x = (blocks_step l kb (going b body x)).local.world.over ≢ Some Undefined
 
-  also_op : (b : ℕ) (t : Table) (body : List Stmt) (before behind : List ℕ) (i : ℕ) (u : Expr) (vs : List ℕ)
+  pub also_op : (b : ℕ) (t : Table) (body : List Stmt) (before behind : List ℕ) (i : ℕ) (u : Expr) (vs : List ℕ)
       → IsBlock l k p e whole ssa c certified b
       → block_at p.graph b ≡ before ++ i ∷ behind
       → Says l p.graph i (S.Assign i u) vs

@@ -2,3 +2,4 @@ pub mod Strict
 pub mod Made
 pub mod Tabled
 pub mod Follows
+pub mod Statements

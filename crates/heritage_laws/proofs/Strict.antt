@@ -58,7 +58,7 @@ module _ (l : Listing) (p : Parts) (whole : IsWhole p.graph) where
   abbrev IsJoinAt : ℕ → Type 0
   IsJoinAt v = (r : OpRow) × IsRow v r × IsJoin (role_of r.code)
 
-  more : (passed before behind : List ℕ) (v : ℕ) → Passed passed before v → Passed passed (before ++ behind) v
+  pub more : (passed before behind : List ℕ) (v : ℕ) → Passed passed before v → Passed passed (before ++ behind) v
   more passed before behind v h =
       passed_more ((outline (form p)).forms v) v passed before (before ++ behind) (in_left v before behind) h
 
