@@ -3,3 +3,4 @@ pub mod Made
 pub mod Tabled
 pub mod Follows
 pub mod Statements
+pub mod Standing

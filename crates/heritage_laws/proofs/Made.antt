@@ -1,9 +1,8 @@
 -- What the ops of an expression compute, and what its table must have.
-use Rattle.std.proofs.Common.{◌≡◌, ℕ, zero, suc, ◌+◌, ◌<◌, List, [], ◌∷◌, ◌++◌, ◌⊎◌, inl, inr, map, Option, Some, None, refl, sym, ap, ◌∙◌, subst, arith}
+use Rattle.std.proofs.Common.{◌≡◌, ℕ, zero, suc, ◌+◌, ◌<◌, List, [], ◌∷◌, ◌++◌, ◌⊎◌, inl, inr, map, Some, refl, sym, ap, ◌∙◌, subst, arith}
 use Rattle.pcode_model.specs.declared.listing.Listing.{Listing}
 use Rattle.cmeaning.specs.declared.tree.Expr.{Expr}
 use Rattle.cmeaning.specs.declared.tree.Expr.TheVariants as E
-use Rattle.cmeaning.specs.declared.tree.Stmt.{Stmt}
 use Rattle.cmeaning.specs.declared.tree.Stmt.TheVariants as S
 use Rattle.cmeaning.specs.Value.{with_value, width_of, value_of}
 use Rattle.cmeaning.specs.Do.{values_of}
@@ -13,12 +12,12 @@ use Rattle.parts.proofs.Nodes.{value_one, value_two, reads_const, reads_one, rea
 use Rattle.parts.proofs.Values.{read_is, in_one, value_some, both_some}
 use Rattle.parts.proofs.Values as parts
 use Rattle.node_lists.specs.Chains.{IsIn}
-use Rattle.node_lists.proofs.Chains.{in_left, in_right, in_either}
+use Rattle.node_lists.proofs.Chains.{in_left, in_right}
 use Rattle.opgraph.specs.Graph.{Graph, op_at}
 use Rattle.ssa_model.specs.Outline.{width_at}
 use Rattle.ssa_model.specs.Lines.{line_of}
 use Rattle.ssa_laws.proofs.Runs.{append_append}
-use Rattle.heritage_laws.specs.Certificate.{Table, Says, IsMade, Makes, Reads, OfConst, OfOne, OfTwo, MakesAll, NoMore, Next}
+use Rattle.heritage_laws.specs.Certificate.{Table, IsMade, Makes, Reads, OfConst, OfOne, OfTwo, MakesAll, NoMore, Next}
 
 -- ---- which ops are made
 
@@ -155,10 +154,10 @@ module _ (l : Listing) (g : Graph) (ws : ℕ → ℕ) where
         ∙ sym q.2
         ∙ node_two k a c x z n (made_width t b a m x first) (made_width t (b ++ m) c r z second)
         (made_value t b a m x first (λ w u d. fits w u (parts.in_left k a c w d))
-            (λ j d. computed j (made_more i b (m ++ r) o how j
-                (subst (IsIn j) (append_append b m r) (in_left j (b ++ m) r d)))))
+        (λ j d. computed j (made_more i b (m ++ r) o how j
+        (subst (IsIn j) (append_append b m r) (in_left j (b ++ m) r d)))))
         (made_value t (b ++ m) c r z second (λ w u d. fits w u (parts.in_right k a c w d))
-            (λ j d. computed j (made_more i b (m ++ r) o how j (subst (IsIn j) (append_append b m r) d))))
+        (λ j d. computed j (made_more i b (m ++ r) o how j (subst (IsIn j) (append_append b m r) d))))
         h
 
     pub all_values : (t : Table) (before : List ℕ) (es : List Expr) (ops vs : List ℕ)
@@ -171,13 +170,13 @@ module _ (l : Listing) (g : Graph) (ws : ℕ → ℕ) where
         let q = both_some (value_of ws s e) (all_of (values_of ws s rest)) ns h in
         ap (λ z. both z (all_of (values_of ws' y (map E.Var us))))
         (value_of_var ws' y v
-            ∙ made_value t b e m v makes (λ w u r. fits w u (omega (arith, r)))
-            (λ j d. computed j (subst (IsIn j) (append_append b m o) (in_left j (b ++ m) o d))) q.0 q.2
-            ∙ sym q.2)
+        ∙ made_value t b e m v makes (λ w u r. fits w u (omega (arith, r)))
+        (λ j d. computed j (subst (IsIn j) (append_append b m o) (in_left j (b ++ m) o d))) q.0 q.2
+        ∙ sym q.2)
         ∙ ap (both (value_of ws s e))
         (all_values t (b ++ m) rest o us next (λ w u r. fits w u (omega (arith, r)))
-            (λ j d. computed j (subst (IsIn j) (append_append b m o) d)) q.1 q.3
-            ∙ sym q.3)
+        (λ j d. computed j (subst (IsIn j) (append_append b m o) d)) q.1 q.3
+        ∙ sym q.3)
         ∙ h
 
   -- ---- what is read
