@@ -40,7 +40,7 @@ use Rattle.ssa_laws.proofs.Avoids.{arrival, not_passed}
 use Rattle.ssa_laws.proofs.Runs.{equations_hold, row_in, append_append}
 use Rattle.heritage_laws.specs.Certificate.{Table, Says, IsMade, Makes, Reads, OfConst, OfOne, OfTwo, MakesAll, NoMore, Next, Tables, Certified}
 use Rattle.heritage_laws.proofs.Made.{Fits, AreComputed, IsComputed, made_width, one_operand, two_operands, node_one, node_two, made_value}
-use Rattle.heritage_laws.proofs.Strict.{AreSafe, here, table_more}
+use Rattle.heritage_laws.proofs.Strict.{said, AreSafe, here, table_more}
 use Rattle.heritage_laws.proofs.Tabled.{IsBlock, reached}
 
 -- how a variable is seen, by its value; one that has none isn't
@@ -195,10 +195,10 @@ module _
     abbrev pub GoesOn : ℕ → List Stmt → Local → Type 0
     GoesOn b body x = (blocks_step l kb (going b body x)).local.world.over ≢ Some Undefined
 
-    pub also_op : (b : ℕ) (t : Table) (body : List Stmt) (before behind : List ℕ) (i : ℕ) (u : Expr) (vs : List ℕ)
+    pub also_op : (b : ℕ) (t : Table) (body : List Stmt) (before behind : List ℕ) (i : ℕ) (u : Expr)
         → IsBlock l k p e whole ssa c certified b
         → block_at p.graph b ≡ before ++ i ∷ behind
-        → Says l p.graph i (S.Assign i u) vs
+        → line_of l i (op_at p.graph i) ≡ S.Assign i u ∷ []
         → Safe b before t
         → ((x y : Local)
         → Meet b (seen_by t) body (body_of l p.graph (i ∷ behind)) x y
@@ -206,8 +206,8 @@ module _
         → (n : ℕ) × (value_of ws' y.env u ≡ Some n))
         → Follow b (seen_by t) body (body_of l p.graph behind)
         → Follow b (seen_by t) body (body_of l p.graph (i ∷ behind))
-    also_op b t body before behind i u vs block ops says safe value next =
-        subst (λ cs. Follow b (seen_by t) body (cs ++ body_of l p.graph behind)) (sym says.line)
+    also_op b t body before behind i u block ops line safe value next =
+        subst (λ cs. Follow b (seen_by t) body (cs ++ body_of l p.graph behind)) (sym line)
         (Also (seen_by t) (seen_by t) a body (body_of l p.graph behind) (record { quiet = quiet; after = after }) next)
       where
         a : Stmt
@@ -224,7 +224,7 @@ module _
             × Sees ws' (seen_by t) (Live kb b body) x.env (put_into ws' (target_of (S.Assign i u)) g y.env)
         after x y meets on =
             let v = value x y
-            (subst (λ cs. Meet b (seen_by t) body (cs ++ body_of l p.graph behind) x y) (sym says.line) meets) on in (
+            (subst (λ cs. Meet b (seen_by t) body (cs ++ body_of l p.graph behind) x y) (sym line) meets) on in (
               λ w. v.0,
               (
                 v.0 ∷ [],
@@ -287,12 +287,12 @@ module _
     makes_follow b t body before a ops v (Reads bf z w is width) block safe live value behind place next = next
     makes_follow b t body before a ops v (OfConst bf o n i says width how) block safe live value behind place next =
         by_made b (seen_by t) body bf [] o behind i how place
-        (λ at. also_op b t body (bf ++ []) behind i (E.Const n) [] block at says (safe_more b bf [] t safe)
+        (λ at. also_op b t body (bf ++ []) behind i (E.Const n) block at (said says) (safe_more b bf [] t safe)
         (λ x y meets on. (_, Rattle.cmeaning.proofs.Value.value_of_const ws' y.env n)))
         (λ rest at after. after) next
     makes_follow b t body before a ops v (OfOne bf m o h d z i makes says width how) block safe live value behind place next =
         by_made b (seen_by t) body bf m o behind i how place
-        (λ at. also_op b t body (bf ++ m) behind i (one h (E.Var z)) (z ∷ []) block at says (safe_more b bf m t safe)
+        (λ at. also_op b t body (bf ++ m) behind i (one h (E.Var z)) block at (said says) (safe_more b bf m t safe)
         (λ x y meets on.
         let n = value x meets.over on in (
           n.0,
@@ -308,7 +308,7 @@ module _
     makes_follow b t body before a ops v (OfTwo bf m r o h d g z q i first second says width how) block safe live value behind
         place next =
         by_made b (seen_by t) body bf (m ++ r) o behind i how place
-        (λ at. also_op b t body (bf ++ (m ++ r)) behind i (two h (E.Var z) (E.Var q)) (z ∷ q ∷ []) block at says
+        (λ at. also_op b t body (bf ++ (m ++ r)) behind i (two h (E.Var z) (E.Var q)) block at (said says)
         (safe_more b bf (m ++ r) t safe)
         (λ x y meets on.
         let n = value x meets.over on in

@@ -17,6 +17,7 @@ use Rattle.opgraph.specs.Graph.{Graph, op_at}
 use Rattle.ssa_model.specs.Outline.{width_at}
 use Rattle.ssa_model.specs.Lines.{line_of}
 use Rattle.ssa_laws.proofs.Runs.{append_append}
+use Rattle.heritage_laws.proofs.Strict.{said}
 use Rattle.heritage_laws.specs.Certificate.{Table, IsMade, Makes, Reads, OfConst, OfOne, OfTwo, MakesAll, NoMore, Next}
 
 -- ---- which ops are made
@@ -140,16 +141,16 @@ module _ (l : Listing) (g : Graph) (ws : ℕ → ℕ) where
     made_value t before e ops v (Reads b x w is width) fits computed n h =
         fits x w (parts.reads_self x) is n (sym (value_of_var ws s x) ∙ h)
     made_value t before e ops v (OfConst b o c i says width how) fits computed n h =
-        let q = computed i (made_in i b [] o how) (E.Const c) says.line in
+        let q = computed i (made_in i b [] o how) (E.Const c) (said says) in
         q.1 ∙ sym q.2 ∙ value_of_const ws' y c ∙ sym (value_of_const ws s c) ∙ h
     made_value t before e ops v (OfOne b m o k a x i makes says width how) fits computed n h =
-        let q = computed i (made_in i b m o how) (one k (E.Var x)) says.line in
+        let q = computed i (made_in i b m o how) (one k (E.Var x)) (said says) in
         q.1
         ∙ sym q.2
         ∙ node_one k a x n (made_width t b a m x makes)
         (made_value t b a m x makes (λ w u r. fits w u (in_one k a w r)) (λ j q. computed j (made_more i b m o how j q))) h
     made_value t before e ops v (OfTwo b m r o k a c x z i first second says width how) fits computed n h =
-        let q = computed i (made_in i b (m ++ r) o how) (two k (E.Var x) (E.Var z)) says.line in
+        let q = computed i (made_in i b (m ++ r) o how) (two k (E.Var x) (E.Var z)) (said says) in
         q.1
         ∙ sym q.2
         ∙ node_two k a c x z n (made_width t b a m x first) (made_width t (b ++ m) c r z second)

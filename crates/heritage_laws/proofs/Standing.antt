@@ -243,7 +243,7 @@ module _
 
       own_exit : exit_at P b ≡ exit_on x.exit vs
       own_exit =
-          ap (λ o. exit_of (block_by l p.graph b o)) rendered.1 ∙ tail.inputs ∙ rendered.2.leaves.same
+          ap (λ o. exit_of (block_by l p.graph b o)) rendered.1 ∙ tail.inputs ∙ rendered.2.leaves.same vs refl
 
       heads_quiet : (hs : List ℕ) → ((v : ℕ) → IsIn v hs → IsIn v (c.heads b)) → body_of l p.graph hs ≡ []
       heads_quiet [] within = refl
@@ -276,7 +276,7 @@ module _
 
           nothing_left : x.exit ≡ C.Stop → last ≡ []
           nothing_left stop =
-              let none = no_role rendered.0 vs (rendered.2.leaves.same ∙ ap (λ z. exit_on z vs) stop) in
+              let none = no_role rendered.0 vs (rendered.2.leaves.same vs refl ∙ ap (λ z. exit_on z vs) stop) in
               let closes : last ≡ made =
               subst (λ o. Closes p.graph o made vs last) none rendered.2.leaves.closes in
               closes

@@ -32,9 +32,9 @@ use Rattle.ssa_model.specs.Paths.{Path}
 use Rattle.ssa_model.specs.Edits.{IsSsa}
 use Rattle.ssa_model.specs.Lines.{line_of, body_of}
 use Rattle.ssa_laws.proofs.Runs.{none_more, append_append, body_append}
-use Rattle.heritage_laws.specs.Certificate.{Table, gets, Says, Carries, IsSource, Makes, MakesAll, Renders, Finish, Assigns, Copied, Does, Tables, Certified}
+use Rattle.heritage_laws.specs.Certificate.{Table, gets, IsOver, copies, Says, Carries, IsSource, Makes, MakesAll, Renders, Finish, Assigns, Copied, Does, Tables, Certified}
 use Rattle.heritage_laws.proofs.Made.{all_widths, made_value, all_values}
-use Rattle.heritage_laws.proofs.Strict.{IsSafe, more, says_row, makes_safe, all_safe, made_last, source_passed, put_safe, gets_safe, table_more}
+use Rattle.heritage_laws.proofs.Strict.{said, IsSafe, more, says_row, makes_safe, all_safe, made_last, source_passed, put_safe, gets_safe, table_more}
 use Rattle.heritage_laws.proofs.Tabled.{IsBlock}
 use Rattle.heritage_laws.proofs.Follows.{seen_by, see, kb, pb, link, Knows, Follow, Meet, Safe, safe_more, computed_at, computed_before, fits_at, fresh, also_op, GoesOn, HasValue, ReadsLive, makes_follow, all_follow, args_hold}
 
@@ -97,11 +97,11 @@ module _
         ∙ ap (body_of l p.graph) (sym (append_append m o last))
         ∙ none))
     call_stands t before body ops t' (Copied s s' b m o a rest v u x y i is lone makes source says next) ends last none =
-        has_line m (o ++ last) i (S.Assign i (E.Var y)) says.line
+        has_line m (o ++ last) i (S.Assign i (E.Var y)) (said says)
         (ap (body_of l p.graph)
         (sym (append_append m (i ∷ []) (o ++ last)) ∙ sym (append_append (m ++ i ∷ []) o last)) ∙ none)
     call_stands t before body ops t' (Does s s' b m o a rest i vs sets makes does next) ends last none =
-        has_line m (o ++ last) i does.line does.says.line
+        has_line m (o ++ last) i (does.line vs) (said does.says)
         (ap (body_of l p.graph)
         (sym (append_append m (i ∷ []) (o ++ last)) ∙ sym (append_append (m ++ i ∷ []) o last)) ∙ none)
 
@@ -173,13 +173,19 @@ module _
         abbrev N : List Stmt → ℕ → Type 0
         N body = Live (kb l k p e whole ssa c certified) b body
 
-        left : carries.line ∷ body_of l p.graph behind ≡ body_of l p.graph (i ∷ behind)
-        left = ap (λ cs. cs ++ body_of l p.graph behind) (sym carries.says.line)
+        abbrev line' : Stmt
+        line' = carries.line vs
+
+        over : IsOver a line' i vs
+        over = carries.parts vs refl
+
+        left : line' ∷ body_of l p.graph behind ≡ body_of l p.graph (i ∷ behind)
+        left = ap (λ cs. cs ++ body_of l p.graph behind) (sym (said carries.says))
 
         carried : (v : ℕ)
             → N rest v
             → Carried ws ws' (N (a ∷ rest)) (seen_by t) (seen_by (gets t (target_of a) i)) (target_of a)
-            (target_of carries.line) v
+            (target_of line') v
         carried v live = by_target (target_of a) refl
           where
             unread : (y : ℕ) → y ≡ i → reads (seen_by t v) y ≡ 0
@@ -191,24 +197,24 @@ module _
             by_target : (o : Option ℕ)
                 → target_of a ≡ o
                 → Carried ws ws' (N (a ∷ rest)) (seen_by t) (seen_by (gets t (target_of a) i)) (target_of a)
-                (target_of carries.line) v
+                (target_of line') v
             by_target None is =
                 let away : target_of a ≢ Some v = λ q. none_some (sym is ∙ q) in
                 inr (
                   away,
                   Past b a rest v away live,
                   ap (λ o. see (gets t o i v)) is,
-                  λ y q. none_some (sym (carries.target ∙ ap (map_target (λ w. i)) is) ∙ q),
+                  λ y q. none_some (sym (over.target ∙ ap (map_target (λ w. i)) is) ∙ q),
                 )
             by_target (Some z) is = by_case (cases_eq v z)
               where
                 by_case : (v ≡ z) ⊎ (v ≡ z → ⊥)
                     → Carried ws ws' (N (a ∷ rest)) (seen_by t) (seen_by (gets t (target_of a) i)) (target_of a)
-                    (target_of carries.line) v
+                    (target_of line') v
                 by_case (inl same) = inl (
                   i,
                   is ∙ some_eq (sym same),
-                  carries.target ∙ ap (map_target (λ w. i)) is,
+                  over.target ∙ ap (map_target (λ w. i)) is,
                   sym (carries.width v (is ∙ some_eq (sym same))),
                   ap (λ o. see (gets t o i v)) is
                       ∙ ap (λ w. see (put t z (Some i) w)) same
@@ -220,27 +226,27 @@ module _
                       away,
                       Past b a rest v away live,
                       ap (λ o. see (gets t o i v)) is ∙ ap (λ o. see o) (put_other t z (Some i) v other),
-                      λ y q. unread y (sym (some_same (sym (carries.target ∙ ap (map_target (λ w. i)) is) ∙ q))),
+                      λ y q. unread y (sym (some_same (sym (over.target ∙ ap (map_target (λ w. i)) is) ∙ q))),
                     )
 
         both : BothDo (link l k p e whole ssa c certified) (Live (kb l k p e whole ssa c certified))
-            (Knows l k p e whole ssa c certified) b (seen_by t) (seen_by (gets t (target_of a) i)) a carries.line rest
+            (Knows l k p e whole ssa c certified) b (seen_by t) (seen_by (gets t (target_of a) i)) a line' rest
             (body_of l p.graph behind)
         both = record {
-          action = sym carries.action;
+          action = sym over.action;
           returns = λ callee is. returns;
           widths =
-              sym (all_widths l p.graph ws t before (args_of a) made vs makes) ∙ ap (widths_of ws') (sym carries.args);
+              sym (all_widths l p.graph ws t before (args_of a) made vs makes) ∙ ap (widths_of ws') (sym over.args);
           values = λ x y meets ns h.
-              ap (λ es. all_of (values_of ws' y.env es)) carries.args
+              ap (λ es. all_of (values_of ws' y.env es)) over.args
               ∙ all_values l p.graph ws x.env y.env t before (args_of a) made vs makes
-              (fits_at l k p e whole ssa c certified b t (a ∷ rest) (carries.line ∷ body_of l p.graph behind)
+              (fits_at l k p e whole ssa c certified b t (a ∷ rest) (line' ∷ body_of l p.graph behind)
               (reads_all (args_of a)) x y meets (λ w r. Read b a rest w r))
               (computed_before l k p e whole ssa c certified b (seen_by t) (a ∷ rest)
-              (carries.line ∷ body_of l p.graph behind) (before ++ made) (i ∷ behind) x y meets place left) ns h;
+              (line' ∷ body_of l p.graph behind) (before ++ made) (i ∷ behind) x y meets place left) ns h;
           after = λ x y meets value.
               sees_after ws ws' (N (a ∷ rest)) (N rest) (seen_by t) (seen_by (gets t (target_of a) i)) (target_of a)
-              (target_of carries.line) x.env y.env value meets.sees carried;
+              (target_of line') x.env y.env value meets.sees carried;
         }
 
         both_follow : Follow l k p e whole ssa c certified b (seen_by (gets t (target_of a) i)) rest
@@ -248,7 +254,7 @@ module _
             → Follow l k p e whole ssa c certified b (seen_by t) (a ∷ rest) (body_of l p.graph (i ∷ behind))
         both_follow next =
             subst (λ cs. Follow l k p e whole ssa c certified b (seen_by t) (a ∷ rest) cs) left
-            (Kept (seen_by t) (seen_by (gets t (target_of a) i)) a carries.line rest (body_of l p.graph behind) both next)
+            (Kept (seen_by t) (seen_by (gets t (target_of a) i)) a line' rest (body_of l p.graph behind) both next)
 
     -- ---- a COPY
 
@@ -257,7 +263,7 @@ module _
         (is : IsAssign v u a)
         (makes : Makes l p.graph ws t before u made x)
         (source : IsSource l p.graph x y)
-        (says : Says l p.graph i (S.Assign i (E.Var y)) (y ∷ []))
+        (says : Says l p.graph i (copies i) (y ∷ []))
         (safe : Safe l k p e whole ssa c certified b before t)
       where
         -- what the COPY reads has the value, wherever these ops stand before
@@ -279,17 +285,17 @@ module _
                 ((before ++ made) ++ place) after s z meets ops left j
                 (in_left j (before ++ made) place m)) n h
 
-            by_source : (x ≡ y) ⊎ Says l p.graph x (S.Assign x (E.Var y)) (y ∷ []) → z.env y ≡ Some n
+            by_source : (x ≡ y) ⊎ Says l p.graph x (copies x) (y ∷ []) → z.env y ≡ Some n
             by_source (inl same) = ap z.env (sym same) ∙ there
             by_source (inr copy) =
-                let row = says_row l p whole x (S.Assign x (E.Var y)) copy.line in
+                let row = says_row l p whole x (S.Assign x (E.Var y)) (said copy) in
                 let q =
                 computed_at l k p e whole ssa c certified b (seen_by t) (a ∷ rest) lines ((before ++ made) ++ place) after s
                 z meets ops left x row.0 row.1
                 (λ passed path.
                 more l p whole passed (before ++ made) place x
                 (makes_safe l p whole passed ws t before u made x makes (safe passed path)).1.value)
-                (E.Var y) copy.line in
+                (E.Var y) (said copy) in
                 sym (value_of_var ws' z.env y) ∙ q.2 ∙ sym q.1 ∙ there
 
         copy_follow : IsBlock l k p e whole ssa c certified b
@@ -297,7 +303,7 @@ module _
             → Follow l k p e whole ssa c certified b (seen_by (put t v (Some i))) rest (body_of l p.graph behind)
             → Follow l k p e whole ssa c certified b (seen_by t) (a ∷ rest) (body_of l p.graph (i ∷ behind))
         copy_follow block place next =
-            also_op l k p e whole ssa c certified b t (a ∷ rest) (before ++ made) behind i (E.Var y) (y ∷ []) block place says
+            also_op l k p e whole ssa c certified b t (a ∷ rest) (before ++ made) behind i (E.Var y) block place (said says)
             (safe_more l k p e whole ssa c certified b before made t safe) copied
             (assigns_follow b t a rest (body_of l p.graph behind) v i u is behind_copy next)
           where
@@ -327,7 +333,7 @@ module _
                 let q =
                 computed_before l k p e whole ssa c certified b (seen_by t) (a ∷ rest) (body_of l p.graph behind)
                 ((before ++ made) ++ i ∷ []) behind s z meets here refl i
-                (in_right i (before ++ made) (i ∷ []) (inl refl)) (E.Var y) says.line in
+                (in_right i (before ++ made) (i ∷ []) (inl refl)) (E.Var y) (said says) in
                 q.1
                 ∙ sym q.2
                 ∙ value_of_var ws' z.env y
@@ -428,7 +434,7 @@ module _
                 → IsSafe l p whole passed (bf ++ (m ++ i ∷ [])) i
             done passed path =
                 let d = makes_safe l p whole passed ws s bf u m x makes (begins.safe passed path) in
-                (made_last l p whole passed bf m (S.Assign i (E.Var y)) (y ∷ []) i says d.0
+                (made_last l p whole passed bf m (copies i) (y ∷ []) i says d.0
                 (source_passed l p whole passed (bf ++ m) x y source d.1)).1
         renders_follow t before body ops t' (Does s s' bf m o a rest i vs sets makes does after) begins next =
             subst (F s (a ∷ rest)) (sym (split_op m o i))

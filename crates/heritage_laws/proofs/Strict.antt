@@ -16,7 +16,7 @@ use Rattle.blockcode.specs.Run.{widths}
 use Rattle.parts.specs.Stmts.{target_of}
 use Rattle.node_lists.specs.Chains.{IsIn, Apart}
 use Rattle.node_lists.proofs.Chains.{in_left, in_right, in_either, apart_left, apart_right}
-use Rattle.opgraph.specs.Graph.{OpRow, op_at, block_at, inputs_in, in_block, IsWhole}
+use Rattle.opgraph.specs.Graph.{OpRow, Graph, op_at, block_at, inputs_in, in_block, IsWhole}
 use Rattle.ssa_model.specs.declared.form.SsaBlock.{SsaBlock}
 use Rattle.ssa_model.specs.declared.form.SsaExit.{SsaExit}
 use Rattle.ssa_model.specs.declared.form.SsaExit.TheVariants as X
@@ -30,7 +30,7 @@ use Rattle.ssa_model.proofs.Places.{passed_more}
 use Rattle.ssa_laws.proofs.Keeps.{before_first, join_line, no_line}
 use Rattle.ssa_laws.proofs.Runs.{one_further, none_more, append_append}
 use Rattle.opgraph.proofs.Whole.{place_of, in_at}
-use Rattle.heritage_laws.specs.Certificate.{Table, gets, Says, IsMade, IsSource, Makes, Reads, OfConst, OfOne, OfTwo, MakesAll, NoMore, Next, Renders, Finish, Assigns, Copied, Does, Closes, RendersBlock, IsHead, Tables, Passes, Certified}
+use Rattle.heritage_laws.specs.Certificate.{Table, gets, copies, Says, IsMade, IsSource, Makes, Reads, OfConst, OfOne, OfTwo, MakesAll, NoMore, Next, Renders, Finish, Assigns, Copied, Does, Closes, RendersBlock, IsHead, Tables, Passes, Certified}
 
 -- ---- what a table has after an assignment
 
@@ -41,6 +41,19 @@ put_cases t v x y w is = by_case (y == v) is
     by_case : (b : Bool) → cond b (Some x) (t y) ≡ Some w → (x ≡ w) ⊎ (t y ≡ Some w)
     by_case true e = inl (some_same e)
     by_case false e = inr e
+
+-- ---- what an op says
+
+pub said : {l : Listing} {g : Graph} {i : ℕ} {a : List ℕ → Stmt} {vs : List ℕ}
+    → Says l g i a vs
+    → line_of l i (op_at g i) ≡ a vs ∷ []
+said {l = l} {i = i} {a = a} says =
+    ap (line_of l i) says.is ∙ says.line says.row.inputs ∙ ap (λ us. a us ∷ []) says.inputs
+
+pub saying : {l : Listing} {g : Graph} {i : ℕ} {a : List ℕ → Stmt} {vs : List ℕ}
+    → Says l g i a vs
+    → inputs_in (op_at g i) ≡ vs
+saying says = ap inputs_in says.is ∙ says.inputs
 
 module _ (l : Listing) (p : Parts) (whole : IsWhole p.graph) where
   abbrev IsRow : ℕ → OpRow → Type 0
@@ -185,16 +198,16 @@ module _ (l : Listing) (p : Parts) (whole : IsWhole p.graph) where
   IsDone passed before ops v = ReadPassed passed before ops × IsSafe passed (before ++ ops) v
 
   -- an op that is made as the last one
-  pub made_last : (passed before made : List ℕ) (a : Stmt) (vs : List ℕ) (i : ℕ)
+  pub made_last : (passed before made : List ℕ) (a : List ℕ → Stmt) (vs : List ℕ) (i : ℕ)
       → Says l p.graph i a vs
       → ReadPassed passed before made
       → ArePassed passed (before ++ made) vs
       → IsDone passed before (made ++ i ∷ []) i
   made_last passed before made a vs i says read args = (
-    read_append passed before made (i ∷ []) read (says_no_join i a says.line, inputs, tt),
+    read_append passed before made (i ∷ []) read (says_no_join i (a vs) (said says), inputs, tt),
     record {
       value =
-          here passed (before ++ (made ++ i ∷ [])) i (says_row i a says.line).0 (says_row i a says.line).1
+          here passed (before ++ (made ++ i ∷ [])) i (says_row i (a vs) (said says)).0 (says_row i (a vs) (said says)).1
           (in_right i before (made ++ i ∷ []) (in_right i made (i ∷ []) (inl refl)));
       inputs = λ b line w m.
           subst (λ zs. Passed passed zs w) (append_append before made (i ∷ []))
@@ -203,9 +216,9 @@ module _ (l : Listing) (p : Parts) (whole : IsWhole p.graph) where
   )
     where
       inputs : ArePassed passed (before ++ made) (inputs_in (op_at p.graph i))
-      inputs = subst (ArePassed passed (before ++ made)) (sym says.inputs) args
+      inputs = subst (ArePassed passed (before ++ made)) (sym (saying says)) args
 
-  op_made : (passed before made ops : List ℕ) (a : Stmt) (vs : List ℕ) (i : ℕ)
+  op_made : (passed before made ops : List ℕ) (a : List ℕ → Stmt) (vs : List ℕ) (i : ℕ)
       → Says l p.graph i a vs
       → IsMade i before made ops
       → ReadPassed passed before made
@@ -217,8 +230,8 @@ module _ (l : Listing) (p : Parts) (whole : IsWhole p.graph) where
       subst (λ zs. IsDone passed before zs i) (sym h.0) (
         read,
         record {
-          value = here passed (before ++ made) i (says_row i a says.line).0 (says_row i a says.line).1 h.1;
-          inputs = λ b line. subst (ArePassed passed (before ++ made)) (sym says.inputs) args;
+          value = here passed (before ++ made) i (says_row i (a vs) (said says)).0 (says_row i (a vs) (said says)).1 h.1;
+          inputs = λ b line. subst (ArePassed passed (before ++ made)) (sym (saying says)) args;
         },
       )
 
@@ -291,10 +304,10 @@ module _ (l : Listing) (p : Parts) (whole : IsWhole p.graph) where
       → ArePassed passed before (y ∷ [])
   source_passed passed before x y source safe w (inl q) = by_source source.is
     where
-      by_source : (x ≡ y) ⊎ Says l p.graph x (S.Assign x (E.Var y)) (y ∷ []) → Passed passed before w
+      by_source : (x ≡ y) ⊎ Says l p.graph x (copies x) (y ∷ []) → Passed passed before w
       by_source (inl same) = subst (Passed passed before) (same ∙ sym q) safe.value
       by_source (inr copy) =
-          safe.inputs (S.Assign x (E.Var y)) copy.line w (subst (IsIn w) (sym copy.inputs) (inl q))
+          safe.inputs (S.Assign x (E.Var y)) (said copy) w (subst (IsIn w) (sym (saying copy)) (inl q))
   source_passed passed before x y source safe w (inr q) = absurd q
 
   pub renders_safe : (passed : List ℕ) (ws : ℕ → ℕ) (t : Table) (before : List ℕ) (body : List Stmt) (ops : List ℕ) (t' : Table)

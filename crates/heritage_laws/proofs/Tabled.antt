@@ -173,7 +173,7 @@ module _
         ap (λ o. leads (exit_of o) leads_there.0) (sym x.1) ∙ leads_there.1 in
         by_block (block_with b p.blocks) r.0 r.1
         (leads_to r.0 r.2.leaves.vs leads_there.0 d
-        (ap (λ z. leads z leads_there.0) r.2.leaves.same ∙ exit_on_leads x.0.exit r.2.leaves.vs leads_there.0 ∙ there))
+        (ap (λ z. leads z leads_there.0) (r.2.leaves.same r.2.leaves.vs refl) ∙ exit_on_leads x.0.exit r.2.leaves.vs leads_there.0 ∙ there))
       where
         by_block : (o : Option SsaBlock) (e : SsaExit)
             → exit_in o ≡ Some e
