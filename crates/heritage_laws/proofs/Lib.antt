@@ -4,3 +4,4 @@ pub mod Tabled
 pub mod Follows
 pub mod Statements
 pub mod Standing
+pub mod Trivial

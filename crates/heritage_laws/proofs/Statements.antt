@@ -274,7 +274,7 @@ module _
             → (n : ℕ)
             → value_of ws s.env u ≡ Some n
             → z.env y ≡ Some n
-        source_value place after lines s z meets ops left n h = by_source source.is
+        source_value place after lines s z meets ops left n h = by_source source
           where
             there : z.env x ≡ Some n
             there =

@@ -80,7 +80,7 @@ module _ (l : Listing) (p : Parts) (whole : IsWhole p.graph) where
       subst (λ (o : Option OpRow). IsPassed (form_in (op_at p.graph) o) v passed before) (sym is) (inr m)
 
   -- over an edge
-  on : (passed before : List ℕ) (b v : ℕ) → Passed passed (block_at p.graph b) v → Passed (b ∷ passed) before v
+  pub on : (passed before : List ℕ) (b v : ℕ) → Passed passed (block_at p.graph b) v → Passed (b ∷ passed) before v
   on passed before b v h = by_row (op_at p.graph v) refl
     where
       by_row : (o : Option OpRow) → op_at p.graph v ≡ o → Passed (b ∷ passed) before v
@@ -302,7 +302,7 @@ module _ (l : Listing) (p : Parts) (whole : IsWhole p.graph) where
       → IsSource l p.graph x y
       → IsSafe passed before x
       → ArePassed passed before (y ∷ [])
-  source_passed passed before x y source safe w (inl q) = by_source source.is
+  source_passed passed before x y source safe w (inl q) = by_source source
     where
       by_source : (x ≡ y) ⊎ Says l p.graph x (copies x) (y ∷ []) → Passed passed before w
       by_source (inl same) = subst (Passed passed before) (same ∙ sym q) safe.value

@@ -68,10 +68,9 @@ pub record Carries (l : Listing) (g : Graph) (ws : ℕ → ℕ) (a : Stmt) (i : 
 abbrev pub copies : ℕ → List ℕ → Stmt
 copies i us = S.Assign i (input us 0)
 
--- a COPY of x reads x itself, or what x is a COPY of, and never a COPY
-pub record IsSource (l : Listing) (g : Graph) (x y : ℕ) : Type 0 where
-  pub is : (x ≡ y) ⊎ Says l g x (copies x) (y ∷ [])
-  pub no_copy : role_at (op_at g) y ≢ Some Copies
+-- a COPY of x reads x itself, or what x is a COPY of
+abbrev pub IsSource : Listing → Graph → (x y : ℕ) → Type 0
+IsSource l g x y = (x ≡ y) ⊎ Says l g x (copies x) (y ∷ [])
 
 -- ---- expressions, by the widths of the code's variables, the table, and the ops that stand before in the block
 

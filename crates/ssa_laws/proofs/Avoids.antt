@@ -52,7 +52,7 @@ pub record Arrival (blocks : List SsaBlock) (entry : ℕ) (among : List ℕ) (c 
   pub less : (x : ℕ) → IsIn x passed → IsIn x among
 
 -- of a path that passed the block, the part up to its first time there
-cut_at : (blocks : List SsaBlock) (entry c : ℕ) (passed : List ℕ) (b : ℕ)
+pub cut_at : (blocks : List SsaBlock) (entry c : ℕ) (passed : List ℕ) (b : ℕ)
     → Path blocks entry passed b
     → IsIn c passed
     → Arrival blocks entry passed c
