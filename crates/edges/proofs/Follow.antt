@@ -49,7 +49,7 @@ module _ (l : Listing) (k : Blocks) where
   stays s h e = ap (λ o. unless_over o s (exec l k s.block s.rest s.local)) e
 
   -- The next statement, by its parts.
-  does : (b : ℕ) (a : Stmt) (rest : List Stmt) (x : Local)
+  pub does : (b : ℕ) (a : Stmt) (rest : List Stmt) (x : Local)
       → x.world.over ≡ None
       → blocks_step l k (going b (a ∷ rest) x)
       ≡ going b rest

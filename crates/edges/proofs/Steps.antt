@@ -75,7 +75,7 @@ module _ (ws ws' : ℕ → ℕ) where
       ((y : ℕ) × (i ≡ Some v) × (i' ≡ Some y) × (ws v ≡ ws' y) × (f' v ≡ E.Var y))
       ⊎ ((i ≢ Some v) × N v × (f' v ≡ f v) × ((y : ℕ) → i' ≡ Some y → reads (f v) y ≡ 0))
 
-  sees_after : (N N' : ℕ → Type 0) (f f' : ℕ → Expr) (i i' : Option ℕ) (s t : Env) (value : ℕ → ℕ)
+  pub sees_after : (N N' : ℕ → Type 0) (f f' : ℕ → Expr) (i i' : Option ℕ) (s t : Env) (value : ℕ → ℕ)
       → Sees ws' f N s t
       → ((v : ℕ) → N' v → Carried N f f' i i' v)
       → Sees ws' f' N' (put_into ws i value s) (put_into ws' i' value t)
@@ -131,7 +131,7 @@ goes_value : {value value' left left' : ℕ → ℕ} {w w' : World Bytes}
 goes_value e = cc
 
 -- What an assignment gives is its value.
-assign_gives : (l : Listing) (k : Blocks) (v : ℕ) (u : Expr) (a : Stmt) (x : Local) (value : ℕ → ℕ)
+pub assign_gives : (l : Listing) (k : Blocks) (v : ℕ) (u : Expr) (a : Stmt) (x : Local) (value : ℕ → ℕ)
     → IsAssign v u a
     → Gives l k a x value
     → (w : ℕ) → value_of k.widths x.env u ≡ Some (value w)

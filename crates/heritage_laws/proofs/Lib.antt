@@ -1,1 +1,7 @@
 pub mod Strict
+pub mod Made
+pub mod Tabled
+pub mod Follows
+pub mod Statements
+pub mod Standing
+pub mod Trivial

@@ -16,7 +16,7 @@ use Rattle.blockcode.specs.Run.{widths}
 use Rattle.parts.specs.Stmts.{target_of}
 use Rattle.node_lists.specs.Chains.{IsIn, Apart}
 use Rattle.node_lists.proofs.Chains.{in_left, in_right, in_either, apart_left, apart_right}
-use Rattle.opgraph.specs.Graph.{OpRow, op_at, block_at, inputs_in, in_block, IsWhole}
+use Rattle.opgraph.specs.Graph.{OpRow, Graph, op_at, block_at, inputs_in, in_block, IsWhole}
 use Rattle.ssa_model.specs.declared.form.SsaBlock.{SsaBlock}
 use Rattle.ssa_model.specs.declared.form.SsaExit.{SsaExit}
 use Rattle.ssa_model.specs.declared.form.SsaExit.TheVariants as X
@@ -30,7 +30,7 @@ use Rattle.ssa_model.proofs.Places.{passed_more}
 use Rattle.ssa_laws.proofs.Keeps.{before_first, join_line, no_line}
 use Rattle.ssa_laws.proofs.Runs.{one_further, none_more, append_append}
 use Rattle.opgraph.proofs.Whole.{place_of, in_at}
-use Rattle.heritage_laws.specs.Certificate.{Table, gets, Says, IsMade, IsSource, Makes, Reads, OfConst, OfOne, OfTwo, MakesAll, NoMore, Next, Renders, Finish, Assigns, Copied, Does, Closes, RendersBlock, IsHead, Tables, Passes, Certified}
+use Rattle.heritage_laws.specs.Certificate.{Table, gets, copies, Says, IsMade, IsSource, Makes, Reads, OfConst, OfOne, OfTwo, MakesAll, NoMore, Next, Renders, Finish, Assigns, Copied, Does, Closes, RendersBlock, IsHead, Tables, Passes, Certified}
 
 -- ---- what a table has after an assignment
 
@@ -41,6 +41,19 @@ put_cases t v x y w is = by_case (y == v) is
     by_case : (b : Bool) → cond b (Some x) (t y) ≡ Some w → (x ≡ w) ⊎ (t y ≡ Some w)
     by_case true e = inl (some_same e)
     by_case false e = inr e
+
+-- ---- what an op says
+
+pub said : {l : Listing} {g : Graph} {i : ℕ} {a : List ℕ → Stmt} {vs : List ℕ}
+    → Says l g i a vs
+    → line_of l i (op_at g i) ≡ a vs ∷ []
+said {l = l} {i = i} {a = a} says =
+    ap (line_of l i) says.is ∙ says.line says.row.inputs ∙ ap (λ us. a us ∷ []) says.inputs
+
+pub saying : {l : Listing} {g : Graph} {i : ℕ} {a : List ℕ → Stmt} {vs : List ℕ}
+    → Says l g i a vs
+    → inputs_in (op_at g i) ≡ vs
+saying says = ap inputs_in says.is ∙ says.inputs
 
 module _ (l : Listing) (p : Parts) (whole : IsWhole p.graph) where
   abbrev IsRow : ℕ → OpRow → Type 0
@@ -58,16 +71,16 @@ module _ (l : Listing) (p : Parts) (whole : IsWhole p.graph) where
   abbrev IsJoinAt : ℕ → Type 0
   IsJoinAt v = (r : OpRow) × IsRow v r × IsJoin (role_of r.code)
 
-  more : (passed before behind : List ℕ) (v : ℕ) → Passed passed before v → Passed passed (before ++ behind) v
+  pub more : (passed before behind : List ℕ) (v : ℕ) → Passed passed before v → Passed passed (before ++ behind) v
   more passed before behind v h =
       passed_more ((outline (form p)).forms v) v passed before (before ++ behind) (in_left v before behind) h
 
-  here : (passed before : List ℕ) (v : ℕ) (r : OpRow) → IsRow v r → IsIn v before → Passed passed before v
+  pub here : (passed before : List ℕ) (v : ℕ) (r : OpRow) → IsRow v r → IsIn v before → Passed passed before v
   here passed before v r is m =
       subst (λ (o : Option OpRow). IsPassed (form_in (op_at p.graph) o) v passed before) (sym is) (inr m)
 
   -- over an edge
-  on : (passed before : List ℕ) (b v : ℕ) → Passed passed (block_at p.graph b) v → Passed (b ∷ passed) before v
+  pub on : (passed before : List ℕ) (b v : ℕ) → Passed passed (block_at p.graph b) v → Passed (b ∷ passed) before v
   on passed before b v h = by_row (op_at p.graph v) refl
     where
       by_row : (o : Option OpRow) → op_at p.graph v ≡ o → Passed (b ∷ passed) before v
@@ -106,10 +119,10 @@ module _ (l : Listing) (p : Parts) (whole : IsWhole p.graph) where
     inputs = λ a line w m. more passed before behind w (s.inputs a line w m);
   }
 
-  table_more : (passed before behind : List ℕ) (t : Table) → AreSafe passed before t → AreSafe passed (before ++ behind) t
+  pub table_more : (passed before behind : List ℕ) (t : Table) → AreSafe passed before t → AreSafe passed (before ++ behind) t
   table_more passed before behind t h x v is = safe_more passed before behind v (h x v is)
 
-  put_safe : (passed before : List ℕ) (t : Table) (v x : ℕ)
+  pub put_safe : (passed before : List ℕ) (t : Table) (v x : ℕ)
       → AreSafe passed before t
       → IsSafe passed before x
       → AreSafe passed before (put t v (Some x))
@@ -119,7 +132,7 @@ module _ (l : Listing) (p : Parts) (whole : IsWhole p.graph) where
       by_case (inl e) = subst (IsSafe passed before) e s
       by_case (inr e) = h y w e
 
-  gets_safe : (passed before : List ℕ) (t : Table) (target : Option ℕ) (i : ℕ)
+  pub gets_safe : (passed before : List ℕ) (t : Table) (target : Option ℕ) (i : ℕ)
       → AreSafe passed before t
       → IsSafe passed before i
       → AreSafe passed before (gets t target i)
@@ -173,7 +186,7 @@ module _ (l : Listing) (p : Parts) (whole : IsWhole p.graph) where
   says_no_join i a line j =
       no_line (sym (join_line l i j.0.inputs (role_of j.0.code) j.0.width j.2) ∙ sym (ap (line_of l i) j.1) ∙ line)
 
-  says_row : (i : ℕ) (a : Stmt) → line_of l i (op_at p.graph i) ≡ a ∷ [] → (r : OpRow) × IsRow i r
+  pub says_row : (i : ℕ) (a : Stmt) → line_of l i (op_at p.graph i) ≡ a ∷ [] → (r : OpRow) × IsRow i r
   says_row i a line = by_row (op_at p.graph i) refl
     where
       by_row : (o : Option OpRow) → op_at p.graph i ≡ o → (r : OpRow) × IsRow i r
@@ -185,16 +198,16 @@ module _ (l : Listing) (p : Parts) (whole : IsWhole p.graph) where
   IsDone passed before ops v = ReadPassed passed before ops × IsSafe passed (before ++ ops) v
 
   -- an op that is made as the last one
-  made_last : (passed before made : List ℕ) (a : Stmt) (vs : List ℕ) (i : ℕ)
+  pub made_last : (passed before made : List ℕ) (a : List ℕ → Stmt) (vs : List ℕ) (i : ℕ)
       → Says l p.graph i a vs
       → ReadPassed passed before made
       → ArePassed passed (before ++ made) vs
       → IsDone passed before (made ++ i ∷ []) i
   made_last passed before made a vs i says read args = (
-    read_append passed before made (i ∷ []) read (says_no_join i a says.line, inputs, tt),
+    read_append passed before made (i ∷ []) read (says_no_join i (a vs) (said says), inputs, tt),
     record {
       value =
-          here passed (before ++ (made ++ i ∷ [])) i (says_row i a says.line).0 (says_row i a says.line).1
+          here passed (before ++ (made ++ i ∷ [])) i (says_row i (a vs) (said says)).0 (says_row i (a vs) (said says)).1
           (in_right i before (made ++ i ∷ []) (in_right i made (i ∷ []) (inl refl)));
       inputs = λ b line w m.
           subst (λ zs. Passed passed zs w) (append_append before made (i ∷ []))
@@ -203,9 +216,9 @@ module _ (l : Listing) (p : Parts) (whole : IsWhole p.graph) where
   )
     where
       inputs : ArePassed passed (before ++ made) (inputs_in (op_at p.graph i))
-      inputs = subst (ArePassed passed (before ++ made)) (sym says.inputs) args
+      inputs = subst (ArePassed passed (before ++ made)) (sym (saying says)) args
 
-  op_made : (passed before made ops : List ℕ) (a : Stmt) (vs : List ℕ) (i : ℕ)
+  op_made : (passed before made ops : List ℕ) (a : List ℕ → Stmt) (vs : List ℕ) (i : ℕ)
       → Says l p.graph i a vs
       → IsMade i before made ops
       → ReadPassed passed before made
@@ -217,12 +230,12 @@ module _ (l : Listing) (p : Parts) (whole : IsWhole p.graph) where
       subst (λ zs. IsDone passed before zs i) (sym h.0) (
         read,
         record {
-          value = here passed (before ++ made) i (says_row i a says.line).0 (says_row i a says.line).1 h.1;
-          inputs = λ b line. subst (ArePassed passed (before ++ made)) (sym says.inputs) args;
+          value = here passed (before ++ made) i (says_row i (a vs) (said says)).0 (says_row i (a vs) (said says)).1 h.1;
+          inputs = λ b line. subst (ArePassed passed (before ++ made)) (sym (saying says)) args;
         },
       )
 
-  makes_safe : (passed : List ℕ) (ws : ℕ → ℕ) (t : Table) (before : List ℕ) (e : Expr) (ops : List ℕ) (v : ℕ)
+  pub makes_safe : (passed : List ℕ) (ws : ℕ → ℕ) (t : Table) (before : List ℕ) (e : Expr) (ops : List ℕ) (v : ℕ)
       → Makes l p.graph ws t before e ops v
       → AreSafe passed before t
       → IsDone passed before ops v
@@ -254,7 +267,7 @@ module _ (l : Listing) (p : Parts) (whole : IsWhole p.graph) where
       both w (inr (inl is)) h g = subst (Passed passed (b ++ (m ++ n))) (sym is) g
       both w (inr (inr q)) h g = absurd q
 
-  all_safe : (passed : List ℕ) (ws : ℕ → ℕ) (t : Table) (before : List ℕ) (es : List Expr) (ops vs : List ℕ)
+  pub all_safe : (passed : List ℕ) (ws : ℕ → ℕ) (t : Table) (before : List ℕ) (es : List Expr) (ops vs : List ℕ)
       → MakesAll l p.graph ws t before es ops vs
       → AreSafe passed before t
       → ReadPassed passed before ops × ArePassed passed (before ++ ops) vs
@@ -285,19 +298,19 @@ module _ (l : Listing) (p : Parts) (whole : IsWhole p.graph) where
   )
 
   -- what a COPY reads was passed
-  source_passed : (passed before : List ℕ) (x y : ℕ)
+  pub source_passed : (passed before : List ℕ) (x y : ℕ)
       → IsSource l p.graph x y
       → IsSafe passed before x
       → ArePassed passed before (y ∷ [])
-  source_passed passed before x y source safe w (inl q) = by_source source.is
+  source_passed passed before x y source safe w (inl q) = by_source source
     where
-      by_source : (x ≡ y) ⊎ Says l p.graph x (S.Assign x (E.Var y)) (y ∷ []) → Passed passed before w
+      by_source : (x ≡ y) ⊎ Says l p.graph x (copies x) (y ∷ []) → Passed passed before w
       by_source (inl same) = subst (Passed passed before) (same ∙ sym q) safe.value
       by_source (inr copy) =
-          safe.inputs (S.Assign x (E.Var y)) copy.line w (subst (IsIn w) (sym copy.inputs) (inl q))
+          safe.inputs (S.Assign x (E.Var y)) (said copy) w (subst (IsIn w) (sym (saying copy)) (inl q))
   source_passed passed before x y source safe w (inr q) = absurd q
 
-  renders_safe : (passed : List ℕ) (ws : ℕ → ℕ) (t : Table) (before : List ℕ) (body : List Stmt) (ops : List ℕ) (t' : Table)
+  pub renders_safe : (passed : List ℕ) (ws : ℕ → ℕ) (t : Table) (before : List ℕ) (body : List Stmt) (ops : List ℕ) (t' : Table)
       → Renders l p.graph ws t before body ops t'
       → AreSafe passed before t
       → AreDone passed before ops t'
@@ -380,7 +393,7 @@ module _ (l : Listing) (p : Parts) (whole : IsWhole p.graph) where
         × RendersBlock l p.graph ws (c.heads b) b x e (c.at b) (c.now b)
 
     -- a block with an exit to another one is one of the code
-    leads_block : (b d : ℕ) → Leads p.blocks b d → IsBlock b
+    pub leads_block : (b d : ℕ) → Leads p.blocks b d → IsBlock b
     leads_block b d lead = by_block (slice_get k.blocks b) refl
       where
         by_exit : (o : Option SsaBlock) → exit_in o ≡ None → IsIn d (targets_in o) → ⊥
@@ -401,12 +414,12 @@ module _ (l : Listing) (p : Parts) (whole : IsWhole p.graph) where
       where
         by_head : (r : OpRow)
             → IsRow v r
-            → IsHead r
+            → IsHead k.entry b r
             → (a : Stmt)
             → line_of l v (op_at p.graph v) ≡ a ∷ []
             → ArePassed passed (c.heads b) (inputs_in (op_at p.graph v))
         by_head r is (inl j) a line w q = absurd (says_no_join v a line (r, is, j))
-        by_head r is (inr s) a line w q = absurd (subst (IsIn w) (ap inputs_in is ∙ s.1) q)
+        by_head r is (inr s) a line w q = absurd (subst (IsIn w) (ap inputs_in is ∙ s.2) q)
 
     -- over an edge
     edge_safe : (passed : List ℕ) (from to : ℕ)
@@ -433,7 +446,7 @@ module _ (l : Listing) (p : Parts) (whole : IsWhole p.graph) where
               inputs = λ b line w m. on passed (c.heads to) from w (s.inputs b line w m);
             }
 
-    at_safe : (passed : List ℕ) (b : ℕ) → IsPath passed b → AreSafe passed (c.heads b) (c.at b)
+    pub at_safe : (passed : List ℕ) (b : ℕ) → IsPath passed b → AreSafe passed (c.heads b) (c.at b)
     at_safe passed b Start a v is =
         subst (λ d. IsSafe [] (c.heads d) v) (sym certified.entry)
         (head_safe [] k.entry v (certified.first a v (subst (λ d. c.at d a ≡ Some v) certified.entry is)).0)
@@ -453,7 +466,7 @@ module _ (l : Listing) (p : Parts) (whole : IsWhole p.graph) where
         by_block (Some y) some = (y, some)
 
     -- An op of a block is a head, or no MULTIEQUAL, and on each path what it reads was passed before it.
-    in_place : (x : ℕ) (r : OpRow) (passed : List ℕ)
+    pub in_place : (x : ℕ) (r : OpRow) (passed : List ℕ)
         → IsRow x r
         → IsPath passed r.block
         → IsIn x (c.heads r.block)
@@ -495,9 +508,9 @@ module _ (l : Listing) (p : Parts) (whole : IsWhole p.graph) where
         → Passed passed (before_op x (block_at p.graph r.block)) v
     reads_passed x v r passed is plain m path = by_case (in_place x r passed is path)
       where
-        by_head : (s : OpRow) → IsRow x s → IsHead s → s ≡ r → Passed passed (before_op x (block_at p.graph r.block)) v
+        by_head : (s : OpRow) → IsRow x s → IsHead k.entry r.block s → s ≡ r → Passed passed (before_op x (block_at p.graph r.block)) v
         by_head s at (inl j) same = absurd (plain (subst (λ (z : OpRow). IsJoin (role_of z.code)) same j))
-        by_head s at (inr h) same = absurd (subst (IsIn v) (ap (λ (z : OpRow). z.inputs) (sym same) ∙ h.1) m)
+        by_head s at (inr h) same = absurd (subst (IsIn v) (ap (λ (z : OpRow). z.inputs) (sym same) ∙ h.2) m)
 
         by_case : IsIn x (c.heads r.block)
             ⊎ ((IsJoin (role_of r.code) → ⊥) × ArePassed passed (before_op x (block_at p.graph r.block)) r.inputs)

@@ -1,6 +1,6 @@
 -- When a function in SSA form stands for a code of blocks: at each point of the code some variables have a value of the
 -- function, and what the block's ops say is what its statements say, over these values.
-use Rattle.std.specs.Prelude.{◌≡◌, ◌≢◌, ℕ, ◌<◌, List, [], ◌∷◌, ◌++◌, ◌⊎◌, ◌↔◌, map, Option, Some, None, slice_get}
+use Rattle.std.specs.Prelude.{◌≡◌, ◌≢◌, ℕ, ◌<◌, List, [], ◌∷◌, ◌++◌, ◌⊎◌, ◌↔◌, length, map, Option, Some, None, slice_get}
 use Rattle.bits_core.specs.declared.word.Word.{Word}
 use Rattle.pcode_model.specs.declared.listing.Listing.{Listing}
 use Rattle.pcode_model.specs.declared.storage.ParamStorage.{ParamStorage}
@@ -27,7 +27,7 @@ use Rattle.ssa_model.specs.Roles.{Role, Starts, Copies, role_of}
 use Rattle.ssa_model.specs.Outline.{role_at, width_at, exit_at, predecessors_at, Leads}
 use Rattle.ssa_model.specs.Paths.{IsJoin}
 use Rattle.ssa_model.specs.Formed.{exit_role}
-use Rattle.ssa_model.specs.Lines.{line_of, input, exit_over}
+use Rattle.ssa_model.specs.Lines.{line_by, input, exit_over}
 
 -- which value of the function a variable of the code has, where one is known
 abbrev pub Table : Type 0
@@ -40,28 +40,37 @@ gets t (Some v) i = put t v (Some i)
 
 -- ---- ops
 
--- the op says the statement, and reads these values
-pub record Says (l : Listing) (g : Graph) (i : ℕ) (a : Stmt) (vs : List ℕ) : Type 0 where
-  pub line : line_of l i (op_at g i) ≡ a ∷ []
-  pub inputs : inputs_in (op_at g i) ≡ vs
+-- the op says the statement over whatever values it reads, and it reads these
+pub record Says (l : Listing) (g : Graph) (i : ℕ) (a : List ℕ → Stmt) (vs : List ℕ) : Type 0 where
+  pub row : OpRow
+  pub is : op_at g i ≡ Some row
+  pub line : (us : List ℕ) → line_by l i us (role_of row.code) row.width ≡ a us ∷ []
+  pub inputs : row.inputs ≡ vs
 
 -- It is made as the last one, or an equal one that stands before in the block is taken again.
 abbrev pub IsMade : ℕ → (before made ops : List ℕ) → Type 0
 IsMade i before made ops = (ops ≡ made ++ i ∷ []) ⊎ ((ops ≡ made) × IsIn i (before ++ made))
 
--- the op does what the statement does, with these values as its arguments
-pub record Carries (l : Listing) (g : Graph) (ws : ℕ → ℕ) (a : Stmt) (i : ℕ) (vs : List ℕ) : Type 0 where
-  pub line : Stmt
-  pub says : Says l g i line vs
+-- the second statement is the first one with the value i as its target and these values as its arguments
+pub record IsOver (a line : Stmt) (i : ℕ) (us : List ℕ) : Type 0 where
   pub action : action_of line ≡ action_of a
   pub target : target_of line ≡ map_target (λ v. i) (target_of a)
-  pub args : args_of line ≡ map E.Var vs
+  pub args : args_of line ≡ map E.Var us
+
+-- the op does what the statement does, with these values as its arguments
+pub record Carries (l : Listing) (g : Graph) (ws : ℕ → ℕ) (a : Stmt) (i : ℕ) (vs : List ℕ) : Type 0 where
+  pub line : List ℕ → Stmt
+  pub says : Says l g i line vs
+  pub parts : (us : List ℕ) → length us ≡ length vs → IsOver a (line us) i us
   pub width : (v : ℕ) → target_of a ≡ Some v → width_at (op_at g) i ≡ ws v
 
--- a COPY of x reads x itself, or what x is a COPY of, and never a COPY
-pub record IsSource (l : Listing) (g : Graph) (x y : ℕ) : Type 0 where
-  pub is : (x ≡ y) ⊎ Says l g x (S.Assign x (E.Var y)) (y ∷ [])
-  pub no_copy : role_at (op_at g) y ≢ Some Copies
+-- the statement of a COPY
+abbrev pub copies : ℕ → List ℕ → Stmt
+copies i us = S.Assign i (input us 0)
+
+-- a COPY of x reads x itself, or what x is a COPY of
+abbrev pub IsSource : Listing → Graph → (x y : ℕ) → Type 0
+IsSource l g x y = (x ≡ y) ⊎ Says l g x (copies x) (y ∷ [])
 
 -- ---- expressions, by the widths of the code's variables, the table, and the ops that stand before in the block
 
@@ -72,20 +81,20 @@ pub data Makes (l : Listing) (g : Graph) (ws : ℕ → ℕ) (t : Table) : List �
       → width_at (op_at g) v ≡ ws x
       → Makes l g ws t before (E.Var x) [] v
   OfConst : (before ops : List ℕ) (c : Word) (i : ℕ)
-      → Says l g i (S.Assign i (E.Const c)) []
+      → Says l g i (λ us. S.Assign i (E.Const c)) []
       → width_at (op_at g) i ≡ width_of ws (E.Const c)
       → IsMade i before [] ops
       → Makes l g ws t before (E.Const c) ops i
   OfOne : (before made ops : List ℕ) (k : One) (a : Expr) (x i : ℕ)
       → Makes l g ws t before a made x
-      → Says l g i (S.Assign i (one k (E.Var x))) (x ∷ [])
+      → Says l g i (λ us. S.Assign i (one k (input us 0))) (x ∷ [])
       → width_at (op_at g) i ≡ width_of ws (one k a)
       → IsMade i before made ops
       → Makes l g ws t before (one k a) ops i
   OfTwo : (before left right ops : List ℕ) (k : Two) (a b : Expr) (x y i : ℕ)
       → Makes l g ws t before a left x
       → Makes l g ws t (before ++ left) b right y
-      → Says l g i (S.Assign i (two k (E.Var x) (E.Var y))) (x ∷ y ∷ [])
+      → Says l g i (λ us. S.Assign i (two k (input us 0) (input us 1))) (x ∷ y ∷ [])
       → width_at (op_at g) i ≡ width_of ws (two k a b)
       → IsMade i before (left ++ right) ops
       → Makes l g ws t before (two k a b) ops i
@@ -119,7 +128,7 @@ pub data Renders (l : Listing) (g : Graph) (ws : ℕ → ℕ) : Table → List �
       → IsLone e
       → Makes l g ws t before e made x
       → IsSource l g x y
-      → Says l g i (S.Assign i (E.Var y)) (y ∷ [])
+      → Says l g i (copies i) (y ∷ [])
       → Renders l g ws (put t v (Some i)) (before ++ (made ++ i ∷ [])) rest ops t'
       → Renders l g ws t before (a ∷ rest) ((made ++ i ∷ []) ++ ops) t'
   Does : (t t' : Table) (before made ops : List ℕ) (a : Stmt) (rest : List Stmt) (i : ℕ) (vs : List ℕ)
@@ -152,7 +161,7 @@ pub record Leaves (l : Listing) (g : Graph) (ws : ℕ → ℕ) (t : Table) (befo
     pub made : List ℕ
     pub vs : List ℕ
     pub args : MakesAll l g ws t before (exit_args x) made vs
-    pub same : exit_over e vs ≡ exit_on x vs
+    pub same : (us : List ℕ) → length us ≡ length vs → exit_over e us ≡ exit_on x us
     pub closes : Closes g (exit_role e) made vs ops
 
 -- ---- blocks
@@ -167,9 +176,11 @@ pub record RendersBlock (l : Listing) (g : Graph) (ws : ℕ → ℕ) (heads : Li
     pub renders : Renders l g ws t heads x.body body t'
     pub leaves : Leaves l g ws t' (heads ++ body) x.exit e last
 
--- an entry value or a MULTIEQUAL
-abbrev pub IsHead : OpRow → Type 0
-IsHead r = IsJoin (role_of r.code) ⊎ (((s : ParamStorage) × (role_of r.code ≡ Starts s)) × (r.inputs ≡ []))
+-- a MULTIEQUAL, or at the entry an entry value
+abbrev pub IsHead : (entry b : ℕ) → OpRow → Type 0
+IsHead entry b r =
+    IsJoin (role_of r.code)
+    ⊎ ((b ≡ entry) × ((s : ParamStorage) × (role_of r.code ≡ Starts s)) × (r.inputs ≡ []))
 
 -- ---- the whole
 
@@ -209,7 +220,7 @@ pub record Certified (l : Listing) (k : Code) (p : Parts) (c : Tables) : Type 0 
       → (exit_at p.blocks b ≡ None) × (block_at p.graph b ≡ [])
   pub predecessors : (b d : ℕ) → IsIn b (predecessors_at p.blocks d) ↔ Leads p.blocks b d
   -- what a block begins with, each of which some variable has there
-  pub heads : (b v : ℕ) → IsIn v (c.heads b) → (r : OpRow) × (op_at p.graph v ≡ Some r) × IsHead r
+  pub heads : (b v : ℕ) → IsIn v (c.heads b) → (r : OpRow) × (op_at p.graph v ≡ Some r) × IsHead k.entry b r
   pub own : (b v : ℕ) → IsIn v (c.heads b) → (a : ℕ) × (c.at b a ≡ Some v)
   -- at the entry a variable that has a value is a parameter, and over each edge tables fit
   pub first : (a v : ℕ)

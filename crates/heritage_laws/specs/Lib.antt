@@ -1,2 +1,3 @@
 pub mod Certificate
+pub mod Trivial
 pub mod Laws

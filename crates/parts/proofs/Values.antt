@@ -131,13 +131,13 @@ with_each_itself es = with_each_own own es (λ v r. refl)
 
 -- ---- another environment
 
-value_some : (o : Option ℕ) (g : ℕ → Option ℕ) (n : ℕ)
+pub value_some : (o : Option ℕ) (g : ℕ → Option ℕ) (n : ℕ)
     → with_value o g ≡ Some n
     → (x : ℕ) × (o ≡ Some x) × (g x ≡ Some n)
 value_some None g n h = absurd (cc)
 value_some (Some x) g n h = (x, refl, h)
 
-both_some : (o : Option ℕ) (os : Option (List ℕ)) (ns : List ℕ)
+pub both_some : (o : Option ℕ) (os : Option (List ℕ)) (ns : List ℕ)
     → both o os ≡ Some ns
     → (x : ℕ) × (xs : List ℕ) × (o ≡ Some x) × (os ≡ Some xs)
 both_some None os ns h = absurd (cc)

@@ -52,7 +52,7 @@ pub record Arrival (blocks : List SsaBlock) (entry : ℕ) (among : List ℕ) (c 
   pub less : (x : ℕ) → IsIn x passed → IsIn x among
 
 -- of a path that passed the block, the part up to its first time there
-cut_at : (blocks : List SsaBlock) (entry c : ℕ) (passed : List ℕ) (b : ℕ)
+pub cut_at : (blocks : List SsaBlock) (entry c : ℕ) (passed : List ℕ) (b : ℕ)
     → Path blocks entry passed b
     → IsIn c passed
     → Arrival blocks entry passed c
@@ -75,7 +75,7 @@ cut_at blocks entry c (d ∷ passed) b (Step ps from to p lead) m =
     }
     by_case (inr n) (inr k) next = absurd (n k)
 
-arrival : (blocks : List SsaBlock) (entry c : ℕ) (passed : List ℕ)
+pub arrival : (blocks : List SsaBlock) (entry c : ℕ) (passed : List ℕ)
     → Path blocks entry passed c
     → Arrival blocks entry passed c
 arrival blocks entry c passed p = by_case (cases_in c passed)

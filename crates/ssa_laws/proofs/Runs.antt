@@ -107,7 +107,7 @@ one_of_two t u zero c is = inr (inl (cc))
 one_of_two t u (suc n) c is = inl (cc)
 
 -- an exit leads to one of its targets
-leads_to : (x : SsaExit) (vs ns : List ℕ) (c : ℕ) → leads (exit_over x vs) ns ≡ Onto c → IsIn c (targets x)
+pub leads_to : (x : SsaExit) (vs ns : List ℕ) (c : ℕ) → leads (exit_over x vs) ns ≡ Onto c → IsIn c (targets x)
 leads_to X.Return [] ns c is = absurd (cc)
 leads_to X.Return (v ∷ vs) [] c is = absurd (cc)
 leads_to X.Return (v ∷ vs) (n ∷ ns) c is = absurd (cc)
