@@ -76,7 +76,7 @@ module _ (l : Listing) (p : Parts) (e : Entry) (whole : IsWhole p.graph) (ssa : 
   abbrev IsOp : ℕ → Type 0
   IsOp v = (r : OpRow) × (op_at p.graph v ≡ Some r)
 
-  op_low : (v : ℕ) → IsOp v → v < length p.graph.ops
+  pub op_low : (v : ℕ) → IsOp v → v < length p.graph.ops
   op_low v r = by_slot (slice_get p.graph.ops v) refl r.1
     where
       by_slot : (o : Option (Option OpRow))

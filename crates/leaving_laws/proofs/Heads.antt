@@ -67,7 +67,7 @@ module _ (key : ℕ → ℕ) where
       by_case (inl e) next = inl e
       by_case (inr k) next = inr (next k)
 
-  order_in : (v : ℕ) (xs : List ℕ) → IsIn v xs → IsIn v (by_key key xs)
+  pub order_in : (v : ℕ) (xs : List ℕ) → IsIn v xs → IsIn v (by_key key xs)
   order_in v [] m = m
   order_in v (x ∷ xs) (inl e) = placed_in x v (by_key key xs) (inl e)
   order_in v (x ∷ xs) (inr m) = placed_in x v (by_key key xs) (inr (order_in v xs m))
@@ -86,7 +86,7 @@ module _ (keeps : ℕ → Bool) where
       by_kept true is next (inr k) = let h = next k in (inr h.0, h.1)
       by_kept false is next k = let h = next k in (inr h.0, h.1)
 
-  only_in : (v : ℕ) (xs : List ℕ) → IsIn v xs → keeps v ≡ true → IsIn v (only keeps xs)
+  pub only_in : (v : ℕ) (xs : List ℕ) → IsIn v xs → keeps v ≡ true → IsIn v (only keeps xs)
   only_in v [] m h = m
   only_in v (x ∷ xs) m h = by_kept (keeps x) refl (λ k. only_in v xs k h) m
     where
@@ -112,7 +112,7 @@ is_in_list x (y ∷ ys) h = by_same (y == x) refl (is_in_list x ys) h
     by_same true is next q = inl (sym (eqb_is y x is))
     by_same false is next q = inr (next q)
 
-below_in : (c n : ℕ) → c < n → IsIn c (up_to n)
+pub below_in : (c n : ℕ) → c < n → IsIn c (up_to n)
 below_in c zero h = absurd (omega (arith, h))
 below_in c (suc n) h = by_case (cases_eq c n) (below_in c n)
   where

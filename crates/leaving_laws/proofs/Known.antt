@@ -50,6 +50,14 @@ not_joined : (role : Role) (b w : ℕ) (ks : List ℕ)
 not_joined (Joins atom) b w ks n = absurd (n tt)
 not_joined role b w ks n = refl
 
+-- a block with an op is one of the function
+pub in_low : (p : Parts) (b v : ℕ) → IsIn v (block_at p.graph b) → b < length p.graph.blocks
+in_low p b v m = by_list (slice_get p.graph.blocks b) refl m
+  where
+    by_list : (o : Option (List ℕ)) → slice_get p.graph.blocks b ≡ o → IsIn v (list_slot o) → b < length p.graph.blocks
+    by_list None is m = absurd m
+    by_list (Some xs) is m = slice_get_within p.graph.blocks b xs is
+
 module _ (l : Listing) (p : Parts) (e : Entry) (whole : IsWhole p.graph) (ssa : IsSsa (form p)) where
   abbrev k : Blocks
   k = blocks_of l p
@@ -153,15 +161,7 @@ module _ (l : Listing) (p : Parts) (e : Entry) (whole : IsWhole p.graph) (ssa : 
           ∙ ap (λ zs. zs ++ body_of l p.graph c.ys) front
 
       low : b < length p.graph.blocks
-      low =
-          by_list (slice_get p.graph.blocks b) refl ((whole.ops b v).1 (subst (in_block b) (sym h.is) h.place))
-        where
-          by_list : (o : Option (List ℕ))
-              → slice_get p.graph.blocks b ≡ o
-              → IsIn v (list_slot o)
-              → b < length p.graph.blocks
-          by_list None is m = absurd m
-          by_list (Some xs) is m = slice_get_within p.graph.blocks b xs is
+      low = in_low p b v ((whole.ops b v).1 (subst (in_block b) (sym h.is) h.place))
 
       stands : StandsAt l p (state_after l p e i) (c.xs ++ v ∷ []) c.ys
       stands = record {

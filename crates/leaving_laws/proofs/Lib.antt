@@ -5,3 +5,4 @@ pub mod Heads
 pub mod Leads
 pub mod Known
 pub mod Copies
+pub mod Places

@@ -1,0 +1,137 @@
+-- The variables of the code: where each value stands among them, and what it is there.
+use Rattle.std.proofs.Common.{◌≡◌, ◌≢◌, ℕ, zero, suc, ◌+◌, ◌<◌, Bool, true, false, cond, List, [], ◌∷◌, ◌++◌, ◌⊎◌, inl, inr, length, map, Option, Some, None, refl, sym, ap, ◌∙◌, subst, slice_get, arith, true≢false}
+use Rattle.std.specs.Prelude.{◌-◌, ◌≤◌, ◌==◌, nat_lt}
+use Rattle.std.specs.List.{flat_map}
+use Rattle.std.proofs.lemmas.Bool.{cases_eq, eq-eqb, lt-ltb, ltb-true}
+use Rattle.std.proofs.lemmas.Option.{slice_get_past}
+use Rattle.heap_nodes.proofs.Places.{some_same, none_some}
+use Rattle.bits_core.specs.declared.word.Width.{Width}
+use Rattle.bits_core.specs.declared.word.Word.{Word}
+use Rattle.pcode_model.specs.declared.listing.Listing.{Listing}
+use Rattle.pcode_model.specs.World.{Entry}
+use Rattle.blockcode.specs.declared.code.Variable.{Variable}
+use Rattle.blockcode.specs.Run as code
+use Rattle.node_lists.specs.Chains.{IsIn}
+use Rattle.node_lists.proofs.Chains.{eqb_is, eqb_not, in_left, in_right}
+use Rattle.opgraph.specs.Graph.{OpRow, op_slot, op_at, block_at, in_block, IsWhole}
+use Rattle.ssa_model.specs.declared.form.Parts.{Parts}
+use Rattle.ssa_model.specs.Roles.{Role, Constant, Starts, Joins, role_of}
+use Rattle.ssa_model.specs.Outline.{bytes_of, width_in, width_at, form, ids, only, role_at, role_in}
+use Rattle.ssa_model.specs.Paths.{IsJoin}
+use Rattle.ssa_model.specs.Edits.{IsSsa}
+use Rattle.ssa_model.specs.Run.{first_by, first_word}
+use Rattle.ssa_model.specs.Starting.{is_start, start_rank, all_ops, starting}
+use Rattle.leaving_laws.specs.Values.{fresh, variable_width}
+use Rattle.leaving_laws.specs.Copied.{up_to}
+use Rattle.leaving_laws.specs.Left.{Held, local_of, held_by, held_in, parameter_by, parameter_in, held_of, place, held_numbers, name_of, constant_by, constant_in}
+use Rattle.leaving_laws.proofs.Heads.{order_in, only_in, below_in}
+use Rattle.leaving_laws.proofs.Known.{in_low}
+use Rattle.leaving_laws.proofs.Copies.{op_low}
+
+-- ---- lists
+
+-- what holds of each variable of a list
+abbrev pub Each : (Held → Type 0) → List Held → Type 0
+Each P [] = Unit {0}
+Each P (h ∷ hs) = P h × Each P hs
+
+each_append : (P : Held → Type 0) (xs ys : List Held) → Each P xs → Each P ys → Each P (xs ++ ys)
+each_append P [] ys h k = k
+each_append P (x ∷ xs) ys h k = (h.0, each_append P xs ys h.1 k)
+
+each_by : (P : Held → Type 0) (f : ℕ → List Held) → ((x : ℕ) → Each P (f x)) → (xs : List ℕ) → Each P (flat_map f xs)
+each_by P f all [] = tt
+each_by P f all (x ∷ xs) = each_append P (f x) (flat_map f xs) (all x) (each_by P f all xs)
+
+abbrev numbers : List Held → List ℕ
+numbers hs = map (λ (h : Held). h.number) hs
+
+abbrev variables : List Held → List Variable
+variables hs = map (λ (h : Held). h.variable) hs
+
+numbers_append : (xs ys : List Held) → numbers (xs ++ ys) ≡ numbers xs ++ numbers ys
+numbers_append [] ys = refl
+numbers_append (x ∷ xs) ys = ap (λ zs. x.number ∷ zs) (numbers_append xs ys)
+
+numbers_by : (f : ℕ → List Held) (v x : ℕ) (xs : List ℕ)
+    → IsIn x xs
+    → IsIn v (numbers (f x))
+    → IsIn v (numbers (flat_map f xs))
+numbers_by f v x [] m k = absurd m
+numbers_by f v x (y ∷ ys) (inl e) k =
+    subst (IsIn v) (sym (numbers_append (f y) (flat_map f ys)))
+    (in_left v (numbers (f y)) (numbers (flat_map f ys)) (subst (λ z. IsIn v (numbers (f z))) e k))
+numbers_by f v x (y ∷ ys) (inr m) k =
+    subst (IsIn v) (sym (numbers_append (f y) (flat_map f ys)))
+    (in_right v (numbers (f y)) (numbers (flat_map f ys)) (numbers_by f v x ys m k))
+
+-- two numbers of a list that stand at one place are one
+pub same_place : (v w : ℕ) (xs : List ℕ) → IsIn v xs → IsIn w xs → place v xs ≡ place w xs → v ≡ w
+same_place v w [] m k e = absurd m
+same_place v w (x ∷ xs) m k e = by_both (cases_eq x v) (cases_eq x w) m k e (same_place v w xs)
+  where
+    by_both : (x ≡ v) ⊎ (x ≡ v → ⊥)
+        → (x ≡ w) ⊎ (x ≡ w → ⊥)
+        → IsIn v (x ∷ xs)
+        → IsIn w (x ∷ xs)
+        → cond (x == v) 0 (suc (place v xs)) ≡ cond (x == w) 0 (suc (place w xs))
+        → (IsIn v xs → IsIn w xs → place v xs ≡ place w xs → v ≡ w)
+        → v ≡ w
+    by_both (inl h) (inl i) a b q next = sym h ∙ i
+    by_both (inl h) (inr n) a b q next =
+        absurd (omega (arith, sym (ap (λ c. cond c 0 (suc (place v xs))) (eq-eqb x v h))
+        ∙ q
+        ∙ ap (λ c. cond c 0 (suc (place w xs))) (eqb_not x w n)))
+    by_both (inr n) (inl i) a b q next =
+        absurd (omega (arith, sym (ap (λ c. cond c 0 (suc (place v xs))) (eqb_not x v n))
+        ∙ q
+        ∙ ap (λ c. cond c 0 (suc (place w xs))) (eq-eqb x w i)))
+    by_both (inr n) (inr o) (inl a) b q next = absurd (n (sym a))
+    by_both (inr n) (inr o) (inr a) (inl b) q next = absurd (o (sym b))
+    by_both (inr n) (inr o) (inr a) (inr b) q next =
+        next a b
+        (omega (arith, sym (ap (λ c. cond c 0 (suc (place v xs))) (eqb_not x v n))
+        ∙ q
+        ∙ ap (λ c. cond c 0 (suc (place w xs))) (eqb_not x w o)))
+
+-- at the place of a number stands a variable of that number
+pub at_place : (P : Held → Type 0) (v : ℕ) (hs : List Held)
+    → Each P hs
+    → IsIn v (numbers hs)
+    → (h : Held) × (P h × ((h.number ≡ v) × (slice_get (variables hs) (place v (numbers hs)) ≡ Some h.variable)))
+at_place P v [] all m = absurd m
+at_place P v (h ∷ hs) all m = by_case (cases_eq h.number v) m (at_place P v hs all.1)
+  where
+    by_case : (h.number ≡ v) ⊎ (h.number ≡ v → ⊥)
+        → IsIn v (h.number ∷ numbers hs)
+        → (IsIn v (numbers hs) → (g : Held) × (P g × ((g.number ≡ v) × (slice_get (variables hs) (place v (numbers hs)) ≡ Some g.variable))))
+        → (g : Held) × (P g × ((g.number ≡ v) × (slice_get (variables (h ∷ hs)) (place v (numbers (h ∷ hs))) ≡ Some g.variable)))
+    by_case (inl e) k next =
+        (h, (all.0, (e, ap (λ c. slice_get (variables (h ∷ hs)) (cond c 0 (suc (place v (numbers hs))))) (eq-eqb h.number v e))))
+    by_case (inr n) (inl e) next = absurd (n (sym e))
+    by_case (inr n) (inr k) next =
+        let g = next k in
+        (g.0, (g.1.0, (g.1.1.0,
+        ap (λ c. slice_get (variables (h ∷ hs)) (cond c 0 (suc (place v (numbers hs))))) (eqb_not h.number v n)
+        ∙ g.1.1.1)))
+
+in_all : (v b : ℕ) (p : Parts) (bs : List ℕ) → IsIn b bs → IsIn v (block_at p.graph b) → IsIn v (all_ops p.graph bs)
+in_all v b p [] m k = absurd m
+in_all v b p (c ∷ bs) (inl e) k =
+    in_left v (block_at p.graph c) (all_ops p.graph bs) (subst (λ z. IsIn v (block_at p.graph z)) e k)
+in_all v b p (c ∷ bs) (inr m) k = in_right v (block_at p.graph c) (all_ops p.graph bs) (in_all v b p bs m k)
+
+module _ (l : Listing) (p : Parts) (e : Entry) (whole : IsWhole p.graph) (ssa : IsSsa (form p)) where
+  -- a variable has the width and the first word that its number has in the function with copies
+  pub record IsRight (h : Held) : Type 0 where
+    pub width : h.variable.width.bytes ≡ variable_width p h.number
+    pub first : (f : Entry) → code.first_word l f (Some h.variable) ≡ first_word l f (op_at p.graph h.number)
+
+  count : ℕ
+  count = length p.graph.ops
+
+  width_low : (v : ℕ) (r : OpRow) → op_at p.graph v ≡ Some r → variable_width p v ≡ bytes_of r.width
+  width_low v r is =
+      ap (λ c. cond c (width_at (op_at p.graph) v) (width_at (op_at p.graph) (v - length p.graph.ops)))
+      (lt-ltb v (length p.graph.ops) (op_low l p e whole ssa v (r, is)))
+      ∙ ap width_in is
