@@ -121,7 +121,7 @@ module _ (l : Listing) (p : Parts) (e : Entry) (whole : IsWhole p.graph) (ssa : 
       ap (λ cs. cs ++ body_of l p.graph xs) (quiet x (inl refl)) ∙ no_body xs (λ y m. quiet y (inr m))
 
   -- a MULTIEQUAL's value is wide
-  wide_head : (b v : ℕ) (h : Head p b v) → 0 < bytes_of h.row.width
+  pub wide_head : (b v : ℕ) (h : Head p b v) → 0 < bytes_of h.row.width
   wide_head b v h =
       let is = wide_join (role_of h.row.code) (bytes_of h.row.width) (map (width_at (op_at p.graph)) h.row.inputs) h.join
       (ssa.formed.ops v (form_of (op_at p.graph) h.row) (ap (form_in (op_at p.graph)) h.is)) in

@@ -135,3 +135,210 @@ module _ (l : Listing) (p : Parts) (e : Entry) (whole : IsWhole p.graph) (ssa : 
       ap (λ c. cond c (width_at (op_at p.graph) v) (width_at (op_at p.graph) (v - length p.graph.ops)))
       (lt-ltb v (length p.graph.ops) (op_low l p e whole ssa v (r, is)))
       ∙ ap width_in is
+
+  own_right : (x : ℕ) (r : OpRow) (w : Width)
+      → op_at p.graph x ≡ Some r
+      → r.width ≡ Some w
+      → ((f : Entry) → first_by l f (bytes_of r.width) (role_of r.code) ≡ None)
+      → IsRight (local_of x w)
+  own_right x r w is wide none = record {
+    width = sym (width_low x r is ∙ ap bytes_of wide);
+    first = λ f. sym (ap (first_word l f) is ∙ none f);
+  }
+
+  fresh_right : (x : ℕ) (r : OpRow) (w : Width)
+      → op_at p.graph x ≡ Some r
+      → r.width ≡ Some w
+      → IsRight (local_of (fresh p x) w)
+  fresh_right x r w is wide = record {
+    width = sym (by_less (nat_lt (fresh p x) (length p.graph.ops)) refl);
+    first = λ f. sym (ap (λ o. first_word l f (op_slot o)) (slice_get_past p.graph.ops (fresh p x) past));
+  }
+    where
+      past : length p.graph.ops ≤ fresh p x
+      past = omega arith
+
+      back : fresh p x - length p.graph.ops ≡ x
+      back = omega arith
+
+      by_less : (c : Bool)
+          → nat_lt (fresh p x) (length p.graph.ops) ≡ c
+          → cond c (width_at (op_at p.graph) (fresh p x))
+          (width_at (op_at p.graph) (fresh p x - length p.graph.ops))
+          ≡ w.bytes
+      by_less true less = let low = ltb-true (fresh p x) (length p.graph.ops) less in absurd (omega (arith, low))
+      by_less false less = ap (width_at (op_at p.graph)) back ∙ ap width_in is ∙ ap bytes_of wide
+
+  no_first : (role : Role) (r : OpRow)
+      → role_of r.code ≡ role
+      → ((f : Entry) → first_by l f (bytes_of r.width) role ≡ None)
+      → (f : Entry)
+      → first_by l f (bytes_of r.width) (role_of r.code) ≡ None
+  no_first role r same none f = ap (first_by l f (bytes_of r.width)) same ∙ none f
+
+  held_right : (x : ℕ) (r : OpRow) (role : Role) (o : Option Width)
+      → op_at p.graph x ≡ Some r
+      → role_of r.code ≡ role
+      → r.width ≡ o
+      → Each IsRight (held_by p x role o)
+  held_right x r role None is same wide = tt
+  held_right x r (Constant n) (Some w) is same wide = tt
+  held_right x r (Starts s) (Some w) is same wide = tt
+  held_right x r (Joins atom) (Some w) is same wide =
+      (own_right x r w is wide (no_first (Joins atom) r same (λ f. refl)), (fresh_right x r w is wide, tt))
+  held_right x r role (Some w) is same wide = (own_right x r w is wide (no_first role r same (λ f. refl)), tt)
+
+  parameter_right : (x : ℕ) (r : OpRow) (role : Role) (o : Option Width)
+      → op_at p.graph x ≡ Some r
+      → role_of r.code ≡ role
+      → r.width ≡ o
+      → Each IsRight (parameter_by x role o)
+  parameter_right x r (Starts s) None is same wide = tt
+  parameter_right x r (Starts s) (Some w) is same wide = (
+    record {
+      width = sym (width_low x r is ∙ ap bytes_of wide);
+      first = λ f.
+          sym (ap (first_word l f) is ∙ (λ i. first_by l f (bytes_of (wide i)) (same i)));
+    },
+    tt,
+  )
+  parameter_right x r role o is same wide = tt
+
+  all_right : Each IsRight (held_of p)
+  all_right =
+      each_append IsRight (flat_map (λ (x : ℕ). parameter_in x (op_at p.graph x)) (starting p))
+      (flat_map (λ (x : ℕ). held_in p x (op_at p.graph x)) (all_ops p.graph (up_to (length p.graph.blocks))))
+      (each_by IsRight (λ (x : ℕ). parameter_in x (op_at p.graph x)) first_part (starting p))
+      (each_by IsRight (λ (x : ℕ). held_in p x (op_at p.graph x)) later_part
+      (all_ops p.graph (up_to (length p.graph.blocks))))
+    where
+      first_part : (x : ℕ) → Each IsRight (parameter_in x (op_at p.graph x))
+      first_part x = by_row (op_at p.graph x) refl
+        where
+          by_row : (o : Option OpRow) → op_at p.graph x ≡ o → Each IsRight (parameter_in x o)
+          by_row None is = tt
+          by_row (Some r) is = parameter_right x r (role_of r.code) r.width is refl refl
+
+      later_part : (x : ℕ) → Each IsRight (held_in p x (op_at p.graph x))
+      later_part x = by_row (op_at p.graph x) refl
+        where
+          by_row : (o : Option OpRow) → op_at p.graph x ≡ o → Each IsRight (held_in p x o)
+          by_row None is = tt
+          by_row (Some r) is = held_right x r (role_of r.code) r.width is refl refl
+
+  -- What stands at a number's place is what the number is.
+  pub variable_at : (v : ℕ)
+      → IsIn v (held_numbers p)
+      → (h : Held)
+      × (IsRight h × ((h.number ≡ v) × (slice_get (variables (held_of p)) (name_of p v) ≡ Some h.variable)))
+  variable_at v m = at_place IsRight v (held_of p) all_right m
+
+  pub width_there : (v : ℕ)
+      → IsIn v (held_numbers p)
+      → code.widths (variables (held_of p)) (name_of p v) ≡ variable_width p v
+  width_there v m =
+      let h = variable_at v m in
+      ap code.width_in h.1.1.1 ∙ h.1.0.width ∙ ap (variable_width p) h.1.1.0
+
+  pub first_there : (v : ℕ)
+      → IsIn v (held_numbers p)
+      → (f : Entry)
+      → code.first_word l f (slice_get (variables (held_of p)) (name_of p v)) ≡ first_word l f (op_at p.graph v)
+  first_there v m f =
+      let h = variable_at v m in
+      ap (code.first_word l f) h.1.1.1 ∙ h.1.0.first f ∙ ap (λ z. first_word l f (op_at p.graph z)) h.1.1.0
+
+  -- ---- what has a variable
+
+  -- a variable of the code, or a constant
+  abbrev pub HasPlace : ℕ → Type 0
+  HasPlace v = IsIn v (held_numbers p) ⊎ ((w : Word) × (constant_in (op_at p.graph v) ≡ Some w))
+
+  held_later : (v x : ℕ) (r : OpRow)
+      → op_at p.graph x ≡ Some r
+      → IsIn v (numbers (held_by p x (role_of r.code) r.width))
+      → IsIn v (held_numbers p)
+  held_later v x r is m =
+      subst (IsIn v)
+      (sym (numbers_append (flat_map (λ (y : ℕ). parameter_in y (op_at p.graph y)) (starting p)) later))
+      (in_right v (numbers (flat_map (λ (y : ℕ). parameter_in y (op_at p.graph y)) (starting p))) (numbers later)
+      (numbers_by (λ (y : ℕ). held_in p y (op_at p.graph y)) v x (all_ops p.graph (up_to (length p.graph.blocks)))
+      (in_all x r.block p (up_to (length p.graph.blocks)) (below_in r.block (length p.graph.blocks) low) here)
+      (subst (λ o. IsIn v (numbers (held_in p x o))) (sym is) m)))
+    where
+      later : List Held
+      later = flat_map (λ (y : ℕ). held_in p y (op_at p.graph y)) (all_ops p.graph (up_to (length p.graph.blocks)))
+
+      here : IsIn x (block_at p.graph r.block)
+      here = (whole.ops r.block x).1 (subst (in_block r.block) (sym is) refl)
+
+      low : r.block < length p.graph.blocks
+      low = in_low p r.block x here
+
+  held_first : (x : ℕ) (r : OpRow)
+      → op_at p.graph x ≡ Some r
+      → is_start (Some (role_of r.code)) ≡ true
+      → IsIn x (numbers (parameter_by x (role_of r.code) r.width))
+      → IsIn x (held_numbers p)
+  held_first x r is start m =
+      subst (IsIn x) (sym (numbers_append first later))
+      (in_left x (numbers first) (numbers later)
+      (numbers_by (λ (y : ℕ). parameter_in y (op_at p.graph y)) x x (starting p) among
+      (subst (λ o. IsIn x (numbers (parameter_in x o))) (sym is) m)))
+    where
+      first : List Held
+      first = flat_map (λ (y : ℕ). parameter_in y (op_at p.graph y)) (starting p)
+
+      later : List Held
+      later = flat_map (λ (y : ℕ). held_in p y (op_at p.graph y)) (all_ops p.graph (up_to (length p.graph.blocks)))
+
+      here : IsIn x (block_at p.graph r.block)
+      here = (whole.ops r.block x).1 (subst (in_block r.block) (sym is) refl)
+
+      among : IsIn x (starting p)
+      among =
+          order_in (λ y. start_rank (role_at (op_at p.graph) y)) x
+          (only (λ y. is_start (role_at (op_at p.graph) y)) (all_ops p.graph (ids p.blocks)))
+          (only_in (λ y. is_start (role_at (op_at p.graph) y)) x (all_ops p.graph (ids p.blocks))
+          (in_all x r.block p (ids p.blocks) ((ssa.formed.all r.block).1 (in_low p r.block x here)) here)
+          (ap (λ o. is_start (role_in o)) is ∙ start))
+
+  -- Each value has one.
+  pub value_placed : (v : ℕ) (r : OpRow) → op_at p.graph v ≡ Some r → 0 < bytes_of r.width → HasPlace v
+  value_placed v r is wide = by_role (role_of r.code) r.width refl refl wide
+    where
+      in_later : (role : Role) (o : Option Width)
+          → role_of r.code ≡ role
+          → r.width ≡ o
+          → IsIn v (numbers (held_by p v role o))
+          → HasPlace v
+      in_later role o same width m =
+          inl (held_later v v r is
+          (subst (λ z. IsIn v (numbers (held_by p v z r.width))) (sym same)
+          (subst (λ z. IsIn v (numbers (held_by p v role z))) (sym width) m)))
+
+      by_role : (role : Role) (o : Option Width) → role_of r.code ≡ role → r.width ≡ o → 0 < bytes_of o → HasPlace v
+      by_role role None same width h = absurd (omega (arith, h))
+      by_role (Constant n) (Some w) same width h =
+          inr (_, ap constant_in is ∙ (λ i. constant_by (same i) (width i)))
+      by_role (Starts s) (Some w) same width h =
+          inl (held_first v r is (ap (λ z. is_start (Some z)) same)
+          (subst (λ z. IsIn v (numbers (parameter_by v z r.width))) (sym same)
+          (subst (λ z. IsIn v (numbers (parameter_by v (Starts s) z))) (sym width) (inl refl))))
+      by_role role (Some w) same width h = in_later role (Some w) same width (inl refl)
+
+  -- Each MULTIEQUAL has a second one.
+  pub fresh_placed : (v : ℕ) (r : OpRow)
+      → op_at p.graph v ≡ Some r
+      → IsJoin (role_of r.code)
+      → 0 < bytes_of r.width
+      → IsIn (fresh p v) (held_numbers p)
+  fresh_placed v r is join wide = held_later (fresh p v) v r is (by_role (role_of r.code) r.width join wide)
+    where
+      by_role : (role : Role) (o : Option Width)
+          → IsJoin role
+          → 0 < bytes_of o
+          → IsIn (fresh p v) (numbers (held_by p v role o))
+      by_role role None j h = absurd (omega (arith, h))
+      by_role (Joins atom) (Some w) j h = inr (inl refl)
+      by_role role (Some w) j h = absurd j
