@@ -89,7 +89,7 @@ module _ (l : Listing) (p : Parts) (e : Entry) (whole : IsWhole p.graph) (ssa : 
   input_is : (x v : ℕ) (t : OpRow) → op_at p.graph x ≡ Some t → IsIn v t.inputs → IsOp v
   input_is x v t is i = let r = input_value l p e whole ssa x v t is i in (r.0, r.1.0)
 
-  through_is : (b c v : ℕ) → IsOp v → IsOp (through p b c v)
+  pub through_is : (b c v : ℕ) → IsOp v → IsOp (through p b c v)
   through_is b c v r =
       subst IsOp (sym same) (by_side (carried_in v b c (predecessors_at p.blocks c) r.0 (role_of r.0.code)))
     where
@@ -103,7 +103,7 @@ module _ (l : Listing) (p : Parts) (e : Entry) (whole : IsWhole p.graph) (ssa : 
       by_side (inl q) = subst IsOp (sym q) r
       by_side (inr i) = input_is v over r.0 r.1 i
 
-  plain_edge : (b c v : ℕ) → is_head_in c (op_at p.graph v) ≡ false → through p b c v ≡ v
+  pub plain_edge : (b c v : ℕ) → is_head_in c (op_at p.graph v) ≡ false → through p b c v ≡ v
   plain_edge b c v other = by_row (op_at p.graph v) refl
     where
       by_row : (o : Option OpRow) → op_at p.graph v ≡ o → through p b c v ≡ v

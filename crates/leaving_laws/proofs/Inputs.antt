@@ -22,7 +22,7 @@ use Rattle.ssa_model.specs.Run.{blocks_of}
 use Rattle.ssa_laws.proofs.Keeps.{IsBeside, is_beside, carried_plain, carried_join, map_length}
 
 -- one read of one variable
-reads_one : (u v : ℕ) → 0 < reads_all (E.Var u ∷ []) v → v ≡ u
+pub reads_one : (u v : ℕ) → 0 < reads_all (E.Var u ∷ []) v → v ≡ u
 reads_one u v h = read_is u v (omega (arith, h))
 
 reads_none : (v : ℕ) → 0 < reads_all [] v → ⊥

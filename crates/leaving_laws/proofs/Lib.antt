@@ -6,3 +6,5 @@ pub mod Leads
 pub mod Known
 pub mod Copies
 pub mod Places
+pub mod Fitting
+pub mod Placing

@@ -46,7 +46,7 @@ each_by P f all (x ∷ xs) = each_append P (f x) (flat_map f xs) (all x) (each_b
 abbrev numbers : List Held → List ℕ
 numbers hs = map (λ (h : Held). h.number) hs
 
-abbrev variables : List Held → List Variable
+abbrev pub variables : List Held → List Variable
 variables hs = map (λ (h : Held). h.variable) hs
 
 numbers_append : (xs ys : List Held) → numbers (xs ++ ys) ≡ numbers xs ++ numbers ys
@@ -130,7 +130,7 @@ module _ (l : Listing) (p : Parts) (e : Entry) (whole : IsWhole p.graph) (ssa : 
   count : ℕ
   count = length p.graph.ops
 
-  width_low : (v : ℕ) (r : OpRow) → op_at p.graph v ≡ Some r → variable_width p v ≡ bytes_of r.width
+  pub width_low : (v : ℕ) (r : OpRow) → op_at p.graph v ≡ Some r → variable_width p v ≡ bytes_of r.width
   width_low v r is =
       ap (λ c. cond c (width_at (op_at p.graph) v) (width_at (op_at p.graph) (v - length p.graph.ops)))
       (lt-ltb v (length p.graph.ops) (op_low l p e whole ssa v (r, is)))
