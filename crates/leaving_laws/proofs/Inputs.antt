@@ -22,7 +22,7 @@ use Rattle.ssa_model.specs.Run.{blocks_of}
 use Rattle.ssa_laws.proofs.Keeps.{IsBeside, is_beside, carried_plain, carried_join, map_length}
 
 -- one read of one variable
-reads_one : (u v : ℕ) → 0 < reads_all (E.Var u ∷ []) v → v ≡ u
+pub reads_one : (u v : ℕ) → 0 < reads_all (E.Var u ∷ []) v → v ≡ u
 reads_one u v h = read_is u v (omega (arith, h))
 
 reads_none : (v : ℕ) → 0 < reads_all [] v → ⊥
@@ -41,15 +41,15 @@ module _ (l : Listing) (p : Parts) (whole : IsWhole p.graph) (ssa : IsSsa (form 
   -- ---- exits
 
   -- the op by which a block is left
-  record Closing (b : ℕ) (role : Role) : Type 0 where
-    op : ℕ
-    row : OpRow
-    last : last_or None (block_at p.graph b) ≡ Some op
-    is : IsRow op row
-    role_is : role_of row.code ≡ role
-    fitting : fits role (bytes_of row.width) (map (width_at (op_at p.graph)) row.inputs) ≡ true
+  pub record Closing (b : ℕ) (role : Role) : Type 0 where
+    pub op : ℕ
+    pub row : OpRow
+    pub last : last_or None (block_at p.graph b) ≡ Some op
+    pub is : IsRow op row
+    pub role_is : role_of row.code ≡ role
+    pub fitting : fits role (bytes_of row.width) (map (width_at (op_at p.graph)) row.inputs) ≡ true
 
-  closing : (b : ℕ) (e : SsaExit) (role : Role)
+  pub closing : (b : ℕ) (e : SsaExit) (role : Role)
       → exit_in (block_with b p.blocks) ≡ Some e
       → exit_role e ≡ Some role
       → Closing b role

@@ -1,6 +1,6 @@
 //! The laws. Each function does nothing but bring in what is known of its function, and its contract is the law.
 
-ghost use Rattle.leaving_laws.specs.Laws.{IsDefinedFunction};
+ghost use Rattle.leaving_laws.specs.Laws.{IsDefinedFunction, MultiequalsAreCopies};
 
 use pcode_model::Listing;
 use ssa_model::SsaFunction;
@@ -8,6 +8,14 @@ use ssa_model::SsaFunction;
 /// A function in SSA form never ends Undefined.
 pub fn functions_are_defined(listing: &Listing, f: &SsaFunction)
     ensures { IsDefinedFunction listing.now f.now.parts }
+{
+    f.parts().graph.known();
+}
+
+/// A function's MULTIEQUALs are copies through fresh variables: before a block is left each of the next block's takes
+/// its input, and where that block begins each value takes its variable's word.
+pub fn multiequals_are_copies(listing: &Listing, f: &SsaFunction)
+    ensures { MultiequalsAreCopies listing.now f.now.parts }
 {
     f.parts().graph.known();
 }
