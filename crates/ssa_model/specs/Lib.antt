@@ -5,7 +5,6 @@ pub mod Paths
 pub mod Formed
 pub mod Lines
 pub mod Run
-pub mod Text
 pub mod Examples
 pub mod Worked
 pub mod Edits

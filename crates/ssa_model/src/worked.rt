@@ -3,12 +3,7 @@
 ghost use Rattle.ssa_model.specs.Edits.{IsSsa};
 ghost use Rattle.ssa_model.specs.Examples.{sum_loop};
 ghost use Rattle.ssa_model.specs.Outline.{form};
-ghost use Rattle.ssa_model.specs.Worked.{Runs, Texts};
-
-/// A loop with two MULTIEQUALs, an endless loop, and a switch over each other kind of line.
-pub fn texts()
-    ensures { Texts }
-{}
+ghost use Rattle.ssa_model.specs.Worked.{Runs};
 
 /// The loop is strict and formed.
 pub fn sum_is_ssa()

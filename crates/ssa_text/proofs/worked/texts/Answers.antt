@@ -1,6 +1,6 @@
 use Rattle.std.proofs.Common.{refl}
 use Rattle.std.specs.Fmt.{digits}
-use Rattle.ssa_model.proofs.worked.texts.Goals as goal
+use Rattle.ssa_text.proofs.worked.texts.Goals as goal
 
 pub returns : goal.returns
 unfolding digits

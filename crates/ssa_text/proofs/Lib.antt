@@ -1,0 +1,4 @@
+pub mod Placing
+pub mod Ids
+pub mod Meeting
+pub mod Only
