@@ -1,11 +1,11 @@
 -- The function with copies and its code with constants where they are read show the same: a value is seen as its
 -- constant or its variable all along.
-use Rattle.std.proofs.Common.{◌≡◌, ◌≢◌, ℕ, zero, suc, ◌+◌, ◌<◌, Bool, true, false, cond, List, [], ◌∷◌, ◌++◌, ◌⊎◌, inl, inr, length, map, Option, Some, None, refl, sym, ap, ◌∙◌, subst, slice_get, arith, true≢false}
-use Rattle.std.specs.Prelude.{◌≤◌, ◌==◌, nat_lt, option_map}
+use Rattle.std.proofs.Common.{◌≡◌, ℕ, zero, suc, ◌<◌, Bool, true, false, cond, List, [], ◌∷◌, ◌++◌, ◌⊎◌, inl, inr, length, map, Option, Some, None, refl, sym, ap, ◌∙◌, subst, slice_get, arith, true≢false}
+use Rattle.std.specs.Prelude.{◌==◌, nat_lt, option_map}
 use Rattle.std.specs.List.{flat_map}
 use Rattle.std.proofs.lemmas.Bool.{cases_eq, lt-ltb, ltb-true}
 use Rattle.std.proofs.lemmas.List.{length-append, append-nil}
-use Rattle.std.proofs.lemmas.Option.{slice_get_past, slice_get-map, slice_get_within}
+use Rattle.std.proofs.lemmas.Option.{slice_get_past, slice_get-map}
 use Rattle.heap_nodes.proofs.Places.{some_same, none_some}
 use Rattle.bits_core.specs.declared.word.Width.{Width}
 use Rattle.bits_core.specs.declared.word.Word.{Word}
@@ -21,18 +21,16 @@ use Rattle.cmeaning.specs.Value.{width_of, value_of}
 use Rattle.cmeaning.proofs.Value.{value_of_var, width_of_const, width_of_var}
 use Rattle.blockcode.specs.declared.code.Exit.{Exit}
 use Rattle.blockcode.specs.declared.code.Exit.TheVariants as C
-use Rattle.blockcode.specs.declared.code.Block.{Block}
-use Rattle.blockcode.specs.declared.code.Code.{Code}
 use Rattle.blockcode.specs.Run.{call_returns, seen_code}
 use Rattle.blockcode.proofs.Straight.{get_in_front}
-use Rattle.parts.specs.Exprs.{reads, reads_all, with_all, KeepsWidths}
-use Rattle.parts.specs.Stmts.{Action, action_of, target_of, args_of, map_target, changed, IsAssign}
+use Rattle.parts.specs.Exprs.{reads}
+use Rattle.parts.specs.Stmts.{action_of, target_of, map_target, changed, IsAssign}
 use Rattle.parts.proofs.Nodes.{reads_const, with_const}
 use Rattle.parts.proofs.Values.{var_unread, with_itself}
 use Rattle.parts.proofs.Parts.{changed_is}
-use Rattle.edges.specs.Exits.{exit_args, exit_with, Onto, leads, LeadsTo}
+use Rattle.edges.specs.Exits.{exit_args, exit_with, Onto, leads}
 use Rattle.edges.specs.Run.{Blocks, stmts_of, exit_of, stmts_at, exit_at, seen_blocks, blocks_of_code}
-use Rattle.edges.specs.Live.{IsCall, EndsInCall, IsLeftOf, IsDefined, IsBlock}
+use Rattle.edges.specs.Live.{EndsInCall, IsLeftOf, IsDefined}
 use Rattle.edges.specs.Follow.{Link, Needs, In, Copy, copies_of, laid, NothingKnown, IsQuiet, SourceDoes, Follows, Ends, Kept, Gone, StandsFor}
 use Rattle.edges.specs.Leave.{input}
 use Rattle.edges.proofs.Follow.{shows_the_same, target_defined}
@@ -53,11 +51,11 @@ use Rattle.ssa_model.specs.Edits.{IsSsa}
 use Rattle.ssa_model.specs.Run.{blocks_of, first_by, first_word}
 use Rattle.leaving_laws.specs.Values.{fresh, variable_width}
 use Rattle.leaving_laws.specs.Copied.{heads_of, up_to, onward_of, next_of, copied_blocks}
-use Rattle.leaving_laws.specs.Left.{held_of, held_numbers, name_of, constant_by, constant_in, seen_by, seen_value, is_word, sets_constant, placed, placed_block, placed_code}
+use Rattle.leaving_laws.specs.Left.{held_numbers, name_of, constant_by, constant_in, seen_by, seen_value, is_word, sets_constant, placed, placed_block, placed_code}
 use Rattle.leaving_laws.proofs.Sound.{is_block, function_sound}
 use Rattle.leaving_laws.proofs.Heads.{in_next}
 use Rattle.leaving_laws.proofs.Leads.{leads_named}
-use Rattle.leaving_laws.proofs.Places.{variables, HasPlace, same_place, width_low, width_there, first_there}
+use Rattle.leaving_laws.proofs.Places.{HasPlace, same_place, width_low, width_there, first_there}
 use Rattle.leaving_laws.proofs.Fitting.{Fits, AllFit, exit_fits, block_fits}
 
 -- ---- constants
