@@ -1,5 +1,5 @@
 -- The statements of the function with copies, as far as constants and places of variables go.
-use Rattle.std.proofs.Common.{◌≡◌, ℕ, zero, suc, ◌+◌, ◌<◌, List, [], ◌∷◌, ◌++◌, ◌⊎◌, inl, inr, length, map, Option, Some, None, refl, sym, ap, ◌∙◌, subst, arith}
+use Rattle.std.proofs.Common.{◌≡◌, ℕ, ◌<◌, List, [], ◌∷◌, ◌++◌, inl, inr, length, Option, Some, None, refl, sym, ap, ◌∙◌, subst, arith}
 use Rattle.std.specs.Prelude.{◌≤◌}
 use Rattle.std.proofs.lemmas.Option.{slice_get_past}
 use Rattle.heap_nodes.proofs.Places.{some_same, none_some}
@@ -7,7 +7,6 @@ use Rattle.bits_core.specs.declared.word.Width.{Width}
 use Rattle.bits_core.specs.declared.word.Word.{Word}
 use Rattle.pcode_model.specs.declared.listing.Listing.{Listing}
 use Rattle.pcode_model.specs.World.{Entry}
-use Rattle.cmeaning.specs.declared.tree.Expr.{Expr}
 use Rattle.cmeaning.specs.declared.tree.Expr.TheVariants as E
 use Rattle.cmeaning.specs.declared.tree.Stmt.{Stmt}
 use Rattle.cmeaning.specs.declared.tree.Stmt.TheVariants as S
@@ -32,7 +31,7 @@ use Rattle.ssa_model.specs.Run.{blocks_of}
 use Rattle.ssa_laws.proofs.Lines.{IsLine, NoLine, OneLine}
 use Rattle.ssa_laws.proofs.Keeps.{line_at, reads_inputs, target_is, one_line}
 use Rattle.leaving_laws.specs.Values.{fresh}
-use Rattle.leaving_laws.specs.Copied.{heads_of, next_of, shape_of, copied_blocks}
+use Rattle.leaving_laws.specs.Copied.{heads_of, next_of, copied_blocks}
 use Rattle.leaving_laws.specs.Left.{constant_by, constant_in}
 use Rattle.leaving_laws.proofs.Inputs.{reads_one, Joined, exit_reads, edge_input}
 use Rattle.leaving_laws.proofs.Strict.{input_value}

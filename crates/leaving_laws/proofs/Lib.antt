@@ -8,3 +8,4 @@ pub mod Copies
 pub mod Places
 pub mod Fitting
 pub mod Placing
+pub mod Whole

@@ -1,10 +1,9 @@
 -- The variables of the code: where each value stands among them, and what it is there.
-use Rattle.std.proofs.Common.{◌≡◌, ◌≢◌, ℕ, zero, suc, ◌+◌, ◌<◌, Bool, true, false, cond, List, [], ◌∷◌, ◌++◌, ◌⊎◌, inl, inr, length, map, Option, Some, None, refl, sym, ap, ◌∙◌, subst, slice_get, arith, true≢false}
+use Rattle.std.proofs.Common.{◌≡◌, ℕ, suc, ◌<◌, Bool, true, false, cond, List, [], ◌∷◌, ◌++◌, ◌⊎◌, inl, inr, length, map, Option, Some, None, refl, sym, ap, ◌∙◌, subst, slice_get, arith}
 use Rattle.std.specs.Prelude.{◌-◌, ◌≤◌, ◌==◌, nat_lt}
 use Rattle.std.specs.List.{flat_map}
 use Rattle.std.proofs.lemmas.Bool.{cases_eq, eq-eqb, lt-ltb, ltb-true}
 use Rattle.std.proofs.lemmas.Option.{slice_get_past}
-use Rattle.heap_nodes.proofs.Places.{some_same, none_some}
 use Rattle.bits_core.specs.declared.word.Width.{Width}
 use Rattle.bits_core.specs.declared.word.Word.{Word}
 use Rattle.pcode_model.specs.declared.listing.Listing.{Listing}
@@ -12,7 +11,7 @@ use Rattle.pcode_model.specs.World.{Entry}
 use Rattle.blockcode.specs.declared.code.Variable.{Variable}
 use Rattle.blockcode.specs.Run as code
 use Rattle.node_lists.specs.Chains.{IsIn}
-use Rattle.node_lists.proofs.Chains.{eqb_is, eqb_not, in_left, in_right}
+use Rattle.node_lists.proofs.Chains.{eqb_not, in_left, in_right}
 use Rattle.opgraph.specs.Graph.{OpRow, op_slot, op_at, block_at, in_block, IsWhole}
 use Rattle.ssa_model.specs.declared.form.Parts.{Parts}
 use Rattle.ssa_model.specs.Roles.{Role, Constant, Starts, Joins, role_of}
@@ -79,20 +78,29 @@ same_place v w (x ∷ xs) m k e = by_both (cases_eq x v) (cases_eq x w) m k e (s
         → v ≡ w
     by_both (inl h) (inl i) a b q next = sym h ∙ i
     by_both (inl h) (inr n) a b q next =
-        absurd (omega (arith, sym (ap (λ c. cond c 0 (suc (place v xs))) (eq-eqb x v h))
-        ∙ q
-        ∙ ap (λ c. cond c 0 (suc (place w xs))) (eqb_not x w n)))
+        absurd (omega (
+          arith,
+          sym (ap (λ c. cond c 0 (suc (place v xs))) (eq-eqb x v h))
+              ∙ q
+              ∙ ap (λ c. cond c 0 (suc (place w xs))) (eqb_not x w n),
+        ))
     by_both (inr n) (inl i) a b q next =
-        absurd (omega (arith, sym (ap (λ c. cond c 0 (suc (place v xs))) (eqb_not x v n))
-        ∙ q
-        ∙ ap (λ c. cond c 0 (suc (place w xs))) (eq-eqb x w i)))
+        absurd (omega (
+          arith,
+          sym (ap (λ c. cond c 0 (suc (place v xs))) (eqb_not x v n))
+              ∙ q
+              ∙ ap (λ c. cond c 0 (suc (place w xs))) (eq-eqb x w i),
+        ))
     by_both (inr n) (inr o) (inl a) b q next = absurd (n (sym a))
     by_both (inr n) (inr o) (inr a) (inl b) q next = absurd (o (sym b))
     by_both (inr n) (inr o) (inr a) (inr b) q next =
         next a b
-        (omega (arith, sym (ap (λ c. cond c 0 (suc (place v xs))) (eqb_not x v n))
-        ∙ q
-        ∙ ap (λ c. cond c 0 (suc (place w xs))) (eqb_not x w o)))
+        (omega (
+          arith,
+          sym (ap (λ c. cond c 0 (suc (place v xs))) (eqb_not x v n))
+              ∙ q
+              ∙ ap (λ c. cond c 0 (suc (place w xs))) (eqb_not x w o),
+        ))
 
 -- at the place of a number stands a variable of that number
 pub at_place : (P : Held → Type 0) (v : ℕ) (hs : List Held)
@@ -110,10 +118,17 @@ at_place P v (h ∷ hs) all m = by_case (cases_eq h.number v) m (at_place P v hs
         (h, (all.0, (e, ap (λ c. slice_get (variables (h ∷ hs)) (cond c 0 (suc (place v (numbers hs))))) (eq-eqb h.number v e))))
     by_case (inr n) (inl e) next = absurd (n (sym e))
     by_case (inr n) (inr k) next =
-        let g = next k in
-        (g.0, (g.1.0, (g.1.1.0,
-        ap (λ c. slice_get (variables (h ∷ hs)) (cond c 0 (suc (place v (numbers hs))))) (eqb_not h.number v n)
-        ∙ g.1.1.1)))
+        let g = next k in (
+          g.0,
+          (
+            g.1.0,
+            (
+              g.1.1.0,
+              ap (λ c. slice_get (variables (h ∷ hs)) (cond c 0 (suc (place v (numbers hs))))) (eqb_not h.number v n)
+                  ∙ g.1.1.1,
+            ),
+          ),
+        )
 
 in_all : (v b : ℕ) (p : Parts) (bs : List ℕ) → IsIn b bs → IsIn v (block_at p.graph b) → IsIn v (all_ops p.graph bs)
 in_all v b p [] m k = absurd m

@@ -1,11 +1,11 @@
 -- The function with copies and its code with constants where they are read show the same: a value is seen as its
 -- constant or its variable all along.
-use Rattle.std.proofs.Common.{◌≡◌, ◌≢◌, ℕ, zero, suc, ◌+◌, ◌<◌, Bool, true, false, cond, List, [], ◌∷◌, ◌++◌, ◌⊎◌, inl, inr, length, map, Option, Some, None, refl, sym, ap, ◌∙◌, subst, slice_get, arith, true≢false}
-use Rattle.std.specs.Prelude.{◌≤◌, ◌==◌, nat_lt, option_map}
+use Rattle.std.proofs.Common.{◌≡◌, ℕ, zero, suc, ◌<◌, Bool, true, false, cond, List, [], ◌∷◌, ◌++◌, ◌⊎◌, inl, inr, length, map, Option, Some, None, refl, sym, ap, ◌∙◌, subst, slice_get, arith, true≢false}
+use Rattle.std.specs.Prelude.{◌==◌, nat_lt, option_map}
 use Rattle.std.specs.List.{flat_map}
 use Rattle.std.proofs.lemmas.Bool.{cases_eq, lt-ltb, ltb-true}
 use Rattle.std.proofs.lemmas.List.{length-append, append-nil}
-use Rattle.std.proofs.lemmas.Option.{slice_get_past, slice_get-map, slice_get_within}
+use Rattle.std.proofs.lemmas.Option.{slice_get_past, slice_get-map}
 use Rattle.heap_nodes.proofs.Places.{some_same, none_some}
 use Rattle.bits_core.specs.declared.word.Width.{Width}
 use Rattle.bits_core.specs.declared.word.Word.{Word}
@@ -21,19 +21,17 @@ use Rattle.cmeaning.specs.Value.{width_of, value_of}
 use Rattle.cmeaning.proofs.Value.{value_of_var, width_of_const, width_of_var}
 use Rattle.blockcode.specs.declared.code.Exit.{Exit}
 use Rattle.blockcode.specs.declared.code.Exit.TheVariants as C
-use Rattle.blockcode.specs.declared.code.Block.{Block}
-use Rattle.blockcode.specs.declared.code.Code.{Code}
 use Rattle.blockcode.specs.Run.{call_returns, seen_code}
 use Rattle.blockcode.proofs.Straight.{get_in_front}
-use Rattle.parts.specs.Exprs.{reads, reads_all, with_all, KeepsWidths}
-use Rattle.parts.specs.Stmts.{Action, action_of, target_of, args_of, map_target, changed, IsAssign}
+use Rattle.parts.specs.Exprs.{reads}
+use Rattle.parts.specs.Stmts.{action_of, target_of, map_target, changed, IsAssign}
 use Rattle.parts.proofs.Nodes.{reads_const, with_const}
 use Rattle.parts.proofs.Values.{var_unread, with_itself}
 use Rattle.parts.proofs.Parts.{changed_is}
-use Rattle.edges.specs.Exits.{exit_args, exit_with, Onto, leads, LeadsTo}
+use Rattle.edges.specs.Exits.{exit_args, exit_with, Onto, leads}
 use Rattle.edges.specs.Run.{Blocks, stmts_of, exit_of, stmts_at, exit_at, seen_blocks, blocks_of_code}
-use Rattle.edges.specs.Live.{IsCall, EndsInCall, IsLeftOf, IsDefined, IsBlock}
-use Rattle.edges.specs.Follow.{Link, Needs, In, Copy, copies_of, laid, NothingKnown, IsQuiet, Follows, Ends, Kept, Gone, StandsFor}
+use Rattle.edges.specs.Live.{EndsInCall, IsLeftOf, IsDefined}
+use Rattle.edges.specs.Follow.{Link, Needs, In, Copy, copies_of, laid, NothingKnown, IsQuiet, SourceDoes, Follows, Ends, Kept, Gone, StandsFor}
 use Rattle.edges.specs.Leave.{input}
 use Rattle.edges.proofs.Follow.{shows_the_same, target_defined}
 use Rattle.edges.proofs.Codes.{seen_is}
@@ -53,11 +51,11 @@ use Rattle.ssa_model.specs.Edits.{IsSsa}
 use Rattle.ssa_model.specs.Run.{blocks_of, first_by, first_word}
 use Rattle.leaving_laws.specs.Values.{fresh, variable_width}
 use Rattle.leaving_laws.specs.Copied.{heads_of, up_to, onward_of, next_of, copied_blocks}
-use Rattle.leaving_laws.specs.Left.{held_of, held_numbers, name_of, constant_by, constant_in, seen_by, seen_value, is_word, sets_constant, placed, placed_block, placed_code}
+use Rattle.leaving_laws.specs.Left.{held_numbers, name_of, constant_by, constant_in, seen_by, seen_value, is_word, sets_constant, placed, placed_block, placed_code}
 use Rattle.leaving_laws.proofs.Sound.{is_block, function_sound}
 use Rattle.leaving_laws.proofs.Heads.{in_next}
 use Rattle.leaving_laws.proofs.Leads.{leads_named}
-use Rattle.leaving_laws.proofs.Places.{variables, HasPlace, same_place, width_low, width_there, first_there}
+use Rattle.leaving_laws.proofs.Places.{HasPlace, same_place, width_low, width_there, first_there}
 use Rattle.leaving_laws.proofs.Fitting.{Fits, AllFit, exit_fits, block_fits}
 
 -- ---- constants
@@ -189,21 +187,21 @@ module _ (l : Listing) (p : Parts) (e : Entry) (whole : IsWhole p.graph) (ssa : 
           ∙ width_of_const t.widths w
           ∙ sym (word_width v w is)
 
-  first_seen : (v n : ℕ) → Placed v → m.first l e v ≡ Some n → value_of t.widths (t.first l e) (f v) ≡ Some n
-  first_seen v n need h = by_word (constant_in (op_at p.graph v)) refl
+  first_seen : (g : Entry) (v n : ℕ) → Placed v → m.first l g v ≡ Some n → value_of t.widths (t.first l g) (f v) ≡ Some n
+  first_seen g v n need h = by_word (constant_in (op_at p.graph v)) refl
     where
-      no_word : (w : Word) (o : Option OpRow) → constant_in o ≡ Some w → first_word l e o ≡ Some n → ⊥
+      no_word : (w : Word) (o : Option OpRow) → constant_in o ≡ Some w → first_word l g o ≡ Some n → ⊥
       no_word w None c q = none_some c
       no_word w (Some r) c q =
-          none_some (sym (constant_first l e (bytes_of r.width) (role_of r.code) r.width w c) ∙ q)
+          none_some (sym (constant_first l g (bytes_of r.width) (role_of r.code) r.width w c) ∙ q)
 
       by_word : (o : Option Word)
           → constant_in (op_at p.graph v) ≡ o
-          → value_of t.widths (t.first l e) (f v) ≡ Some n
+          → value_of t.widths (t.first l g) (f v) ≡ Some n
       by_word None is =
-          ap (value_of t.widths (t.first l e)) (as_variable v is)
-          ∙ value_of_var t.widths (t.first l e) (name_of p v)
-          ∙ first_there l p e whole ssa v (held v is need) e
+          ap (value_of t.widths (t.first l g)) (as_variable v is)
+          ∙ value_of_var t.widths (t.first l g) (name_of p v)
+          ∙ first_there l p e whole ssa v (held v is need) g
           ∙ h
       by_word (Some w) is = absurd (no_word w (op_at p.graph v) is h)
 
@@ -332,3 +330,137 @@ module _ (l : Listing) (p : Parts) (e : Entry) (whole : IsWhole p.graph) (ssa : 
       by_low false is =
           let high = λ (h : b < count). true≢false (sym (lt-ltb b count h) ∙ is) in
           inr (outside b high).stmts
+
+  -- ---- steps
+
+  none_read : (w : Word) (v : ℕ) → 0 < reads (E.Const w) v → ⊥
+  none_read w v h = let none = reads_const w v in omega (arith, h, none)
+
+  -- what is seen of another variable isn't changed
+  unread : (v x : ℕ)
+      → Placed v
+      → IsIn x (held_numbers p)
+      → (v ≡ x → ⊥)
+      → reads (f v) (name_of p x) ≡ 0
+  unread v x need among other = by_word (constant_in (op_at p.graph v)) refl
+    where
+      by_word : (o : Option Word) → constant_in (op_at p.graph v) ≡ o → reads (f v) (name_of p x) ≡ 0
+      by_word None is =
+          ap (λ u. reads u (name_of p x)) (as_variable v is)
+          ∙ var_unread (name_of p v) (name_of p x)
+          (λ q. other (same_place v x (held_numbers p) (held v is need) among q))
+      by_word (Some w) is = ap (λ u. reads u (name_of p x)) (as_constant v w is) ∙ reads_const w (name_of p x)
+
+  carries : (i : Option ℕ) (v : ℕ)
+      → ((x : ℕ) → i ≡ Some x → IsIn x (held_numbers p) × (constant_in (op_at p.graph x) ≡ None))
+      → Placed v
+      → Carried m.widths t.widths Placed f f i (map_target (name_of p) i) v
+  carries None v into need = inr ((λ q. none_some q), need, refl, λ y q. none_some q)
+  carries (Some x) v into need = by_case (cases_eq x v)
+    where
+      by_case : (x ≡ v) ⊎ (x ≡ v → ⊥) → Carried m.widths t.widths Placed f f (Some x) (Some (name_of p x)) v
+      by_case (inl q) =
+          let plain = ap (λ z. constant_in (op_at p.graph z)) (sym q) ∙ (into x refl).1 in
+          inl (
+            name_of p v,
+            ap Some q,
+            ap (λ z. Some (name_of p z)) q,
+            sym (width_there l p e whole ssa v (held v plain need)),
+            as_variable v plain,
+          )
+      by_case (inr n) =
+          inr (
+            (λ q. n (some_same q)),
+            need,
+            refl,
+            λ y q. subst (λ z. reads (f v) z ≡ 0) (some_same q) (unread v x need (into x refl).0 (λ r. n (sym r))),
+          )
+
+  drops : (b : ℕ) (a : Stmt) (rest : List Stmt) (x : ℕ) (w : Word)
+      → Fits l p e whole ssa a
+      → target_of a ≡ Some x
+      → constant_in (op_at p.graph x) ≡ Some w
+      → SourceDoes l link needs NothingKnown b f f a rest (placed p rest)
+  drops b a rest x w fit is c =
+      source_assigns link needs NothingKnown b l f f x (E.Const w) a rest (placed p rest) (fit.constant x w is c)
+      (quiet_constant a x w (fit.constant x w is c)) (λ v r. absurd (none_read w v r)) (λ v r. absurd (none_read w v r))
+      (as_constant x w c ∙ sym (with_const f w)) (λ v need other. (need, refl))
+
+  stays : (b : ℕ) (a : Stmt) (rest : List Stmt)
+      → Fits l p e whole ssa a
+      → AllFit l p e whole ssa rest
+      → ((x : ℕ) → target_of a ≡ Some x → constant_in (op_at p.graph x) ≡ None)
+      → (exit_at m b ≡ C.Stop → IsLeftOf rest)
+      → KeepsStmt link needs b f f a (changed (name_of p) f a) rest (placed p rest)
+  stays b a rest fit fits plain left =
+      let is = changed_is (name_of p) f a in
+      record {
+        action = sym is.action;
+        returns = λ c q.
+            returns_kept rest (placed p rest) (exit_at m b) (calls_stay rest fits) left
+            ∙ returns_with f (placed p rest) (exit_at m b)
+            ∙ ap (call_returns (placed p rest)) (sym (exit_there b));
+        args = sym is.args;
+        widths = λ v r. width_seen v (fit.reads v r);
+        needed = fit.reads;
+        carried = λ v need.
+            subst (λ i. Carried m.widths t.widths Placed f f (target_of a) i v) (sym is.target)
+            (carries (target_of a) v (λ x q. (held x (plain x q) (fit.target x q), plain x q)) need);
+      }
+
+  leaves : (b : ℕ) → KeepsExit link needs b f
+  leaves b = record {
+    leads = λ ns.
+        ap (λ x. leads x ns) (exit_there b)
+        ∙ exit_with_leads f (exit_at m b) ns
+        ∙ sym (moved_own (leads (exit_at m b) ns));
+    args = sym (exit_with_args f (exit_at m b)) ∙ sym (ap exit_args (exit_there b));
+    widths = λ v r. width_seen v (exit_fits l p e whole ssa b v r);
+    needed = exit_fits l p e whole ssa b;
+    edges = λ c to v need. record { needed = need; same = with_itself (f v); widths = λ y r. refl };
+  }
+
+  follows : (b : ℕ) (rest : List Stmt)
+      → AllFit l p e whole ssa rest
+      → (exit_at m b ≡ C.Stop → IsLeftOf rest)
+      → Follows l link needs NothingKnown b f rest (placed p rest)
+  follows b [] fit left = Ends f [] (both_leave link needs NothingKnown b f (leaves b))
+  follows b (a ∷ rest) fit left = by_step (step_of a rest) (follows b rest fit.1 left_rest)
+    where
+      left_rest : exit_at m b ≡ C.Stop → IsLeftOf rest
+      left_rest q = left_behind a rest (left q)
+
+      by_step : Step a rest
+          → Follows l link needs NothingKnown b f rest (placed p rest)
+          → Follows l link needs NothingKnown b f (a ∷ rest) (placed p (a ∷ rest))
+      by_step (Drops x w is c same) next =
+          subst (Follows l link needs NothingKnown b f (a ∷ rest)) (sym same)
+          (Gone f f a rest (placed p rest) (drops b a rest x w fit.0 is c) next)
+      by_step (Stays plain same) next =
+          subst (Follows l link needs NothingKnown b f (a ∷ rest)) (sym same)
+          (Kept f f a (changed (name_of p) f a) rest (placed p rest)
+          (both_do link needs NothingKnown b f f a (changed (name_of p) f a) rest (placed p rest)
+          (stays b a rest fit.0 fit.1 plain left_rest))
+          next)
+
+  -- ---- the whole
+
+  stands : StandsFor l link needs NothingKnown
+  stands = record {
+    entry = refl;
+    first = λ h v need n q. first_seen h v n need q;
+    blocks = λ b.
+        subst (Follows l link needs NothingKnown b f (stmts_at m b)) (sym (stmts_there b))
+        (follows b (stmts_at m b) (block_fits l p e whole ssa b) (stop_left b));
+  }
+
+  module _ (defined : IsDefined l m e) where
+    -- The code shows what the function with copies shows.
+    pub placed_shows : TwoWay (seen_blocks l m e) (seen_code l (placed_code l p) e)
+    placed_shows =
+        two_way_to (seen_blocks l m e) (seen_blocks l t e) (seen_code l (placed_code l p) e)
+        (shows_the_same l link needs NothingKnown stands e (λ i j. tt) defined)
+        (λ n. sym (seen_is l (placed_code l p) e n))
+
+    pub placed_defined : IsDefined l t e
+    placed_defined = target_defined l link needs NothingKnown stands e (λ i j. tt) defined
