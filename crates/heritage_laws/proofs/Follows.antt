@@ -38,7 +38,7 @@ use Rattle.ssa_model.specs.Run.{blocks_of}
 use Rattle.ssa_laws.specs.Law.{computed_with, value_in, StandsAt, Equations}
 use Rattle.ssa_laws.proofs.Avoids.{arrival, not_passed}
 use Rattle.ssa_laws.proofs.Runs.{equations_hold, row_in, append_append}
-use Rattle.heritage_laws.specs.Certificate.{Table, Says, IsMade, Makes, Reads, OfConst, OfOne, OfTwo, MakesAll, NoMore, Next, Tables, Certified}
+use Rattle.heritage_laws.specs.Certificate.{Table, IsMade, Makes, Reads, OfConst, OfOne, OfTwo, MakesAll, NoMore, Next, Tables, Certified}
 use Rattle.heritage_laws.proofs.Made.{Fits, AreComputed, IsComputed, made_width, one_operand, two_operands, node_one, node_two, made_value}
 use Rattle.heritage_laws.proofs.Strict.{said, AreSafe, here, table_more}
 use Rattle.heritage_laws.proofs.Tabled.{IsBlock, reached}

@@ -23,7 +23,7 @@ use Rattle.node_lists.specs.Chains.{IsIn}
 use Rattle.opgraph.specs.Graph.{OpRow, Graph, op_at, block_at, inputs_in}
 use Rattle.ssa_model.specs.declared.form.SsaExit.{SsaExit}
 use Rattle.ssa_model.specs.declared.form.Parts.{Parts}
-use Rattle.ssa_model.specs.Roles.{Role, Starts, Copies, role_of}
+use Rattle.ssa_model.specs.Roles.{Role, Starts, role_of}
 use Rattle.ssa_model.specs.Outline.{role_at, width_at, exit_at, predecessors_at, Leads}
 use Rattle.ssa_model.specs.Paths.{IsJoin}
 use Rattle.ssa_model.specs.Formed.{exit_role}

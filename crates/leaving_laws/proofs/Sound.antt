@@ -2,7 +2,6 @@
 -- variables have, and a call before each exit Stop.
 use Rattle.std.proofs.Common.{◌≡◌, ℕ, ◌<◌, true, List, [], ◌∷◌, ◌++◌, length, map, Option, Some, None, refl, sym, ap, ◌∙◌, subst}
 use Rattle.std.specs.Prelude.{drop}
-use Rattle.heap_nodes.proofs.Places.{some_same, none_some}
 use Rattle.bits_core.specs.declared.word.Width.{Width}
 use Rattle.bits_core.specs.declared.word.Word.{Word}
 use Rattle.pcode_model.specs.declared.listing.Listing.{Listing}
@@ -16,7 +15,6 @@ use Rattle.cmeaning.specs.declared.tree.Stmt.TheViews.{out-roll-Stmt}
 use Rattle.cmeaning.specs.declared.tree.Stmt.TheOpen.{Stmt-F}
 use Rattle.cmeaning.specs.Value.{with_value, with_values, width_of}
 use Rattle.cmeaning.proofs.Value.{value_of_const, value_of_var}
-use Rattle.blockcode.specs.declared.code.Exit.TheVariants as C
 use Rattle.parts.specs.Exprs.{One, Two, one, two, one_value, two_value, IsTotal, AreTotal}
 use Rattle.parts.specs.Exprs as node
 use Rattle.parts.specs.Stmts.{layer_action, layer_args, is_simple}
@@ -24,14 +22,14 @@ use Rattle.parts.proofs.Nodes.{value_one, value_two}
 use Rattle.parts.proofs.Values.{reads_self, in_one, in_left, in_right}
 use Rattle.edges.specs.Exits.{exit_args}
 use Rattle.edges.specs.Run.{Blocks, stmts_of, exit_of, stmts_at, exit_at}
-use Rattle.edges.specs.Live.{IsCall, EndsInCall, AreSound, IsBlock, IsSound}
+use Rattle.edges.specs.Live.{AreSound, IsBlock, IsSound}
 use Rattle.node_lists.specs.Chains.{last_or}
 use Rattle.opgraph.specs.Graph.{OpRow, op_at, block_at, IsWhole}
 use Rattle.ssa_model.specs.declared.form.SsaExit.{SsaExit}
 use Rattle.ssa_model.specs.declared.form.SsaExit.TheVariants as X
 use Rattle.ssa_model.specs.declared.form.Parts.{Parts}
 use Rattle.ssa_model.specs.Roles.{Role, Constant, Starts, Joins, Copies, Unary, Arithmetic, Shifts, Compares, Signed, Extends, Piece, Part, Overflow, Count, Divides, Loads, Stores, Calls, CallsInd, CallsOther, Extra, Tests, Switches, Returns, role_of}
-use Rattle.ssa_model.specs.Outline.{OpForm, form, form_in, exit_in, block_with}
+use Rattle.ssa_model.specs.Outline.{form, exit_in, block_with}
 use Rattle.ssa_model.specs.Edits.{IsSsa}
 use Rattle.ssa_model.specs.Lines.{said, target, input, line_of, line_by, body_of, exit_over, last_inputs, block_by}
 use Rattle.ssa_model.specs.Run.{blocks_of}

@@ -1,7 +1,5 @@
 -- The heads that were met are the heads among the ops that were met, with their ranks.
 use Rattle.std.proofs.Common.{◌≡◌, ℕ, Bool, true, false, cond, List, [], ◌∷◌, ◌++◌, Option, Some, None, refl, sym, ap, ◌∙◌}
-use Rattle.std.specs.List.{AllByRecursion}
-use Rattle.std.proofs.lemmas.Option.{same_Some}
 use Rattle.sorting.specs.declared.ranked.Ranked.{Ranked}
 use Rattle.sorting.specs.Ranks.{HaveRanks, numbers_of}
 use Rattle.ssa_model.specs.Roles.{Role, Joins, Starts}

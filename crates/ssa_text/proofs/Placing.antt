@@ -1,8 +1,6 @@
 -- The table of places, filled from the last number to the first.
-use Rattle.std.proofs.Common.{◌≡◌, ℕ, zero, suc, ◌+◌, ◌<◌, Bool, true, false, cond, List, [], ◌∷◌, drop, length, get_or, refl, sym, ap, ◌∙◌, arith, rules}
-use Rattle.std.specs.Prelude.{◌==◌, if◌then◌else◌}
-use Rattle.std.proofs.lemmas.Bool.Decides.{nat_tests}
-use Rattle.ssa_text.specs.Text.{one_later, place_at, place_in}
+use Rattle.std.proofs.Common.{◌≡◌, ℕ, zero, suc, ◌+◌, List, drop}
+use Rattle.ssa_text.specs.Text.{place_at, place_in}
 
 -- a place in a list that stands behind so many numbers
 abbrev pub behind : ℕ → ℕ → ℕ

@@ -1,6 +1,5 @@
 -- The text of an SSA function. This project's own.
 use Rattle.std.specs.Prelude.{ℕ, zero, suc, ◌==◌, not, Bool, true, false, if◌then◌else◌, ℤ, pos, negsuc, List, [], ◌∷◌, ◌++◌, codes, decimal, Option, Some, None, slice_get, slice_index_or}
-use Rattle.std.specs.Fmt.{digits}
 use Rattle.bits_core.specs.declared.ops.Unary.TheVariants as U
 use Rattle.bits_core.specs.declared.ops.Binary.TheVariants as B
 use Rattle.pcode_model.specs.declared.listing.Listing.{Listing}

@@ -1,5 +1,5 @@
-use Rattle.std.proofs.Common.{rules, ℕ, Bool, ◌+◌, ◌++◌, ◌∷◌, get_or, drop, List, sym, ap, ◌∙◌, append_assoc}
-use Rattle.std.specs.Prelude.{not, ◌==◌, slice_get, slice_index_or}
+use Rattle.std.proofs.Common.{ℕ, Bool, ◌+◌, ◌++◌, ◌∷◌, drop, sym, ap, ◌∙◌, append_assoc}
+use Rattle.std.specs.Prelude.{not, ◌==◌}
 use Rattle.std.proofs.lemmas.List.{drop_more}
 use Rattle.opgraph.specs.Graph.{op_at}
 use Rattle.ssa_model.specs.Outline.{ids, only, width_at}
