@@ -69,7 +69,7 @@ pub join_line : (l : Listing) (x : ℕ) (vs : List ℕ) (role : Role) (w : Optio
 join_line l x vs (Joins atom) w j = refl
 join_line l x vs role w j = absurd j
 
-target_at : (x v : ℕ) (w : Option Width) → target x w ≡ Some v → v ≡ x
+pub target_at : (x v : ℕ) (w : Option Width) → target x w ≡ Some v → v ≡ x
 target_at x v None h = none_some h
 target_at x v (Some w) h = sym (some_same h)
 

@@ -9,3 +9,4 @@ pub mod Stopping
 pub mod Leaving
 pub mod Renames
 pub mod Replaces
+pub mod Dropped

@@ -121,7 +121,7 @@ no_exit l x vs role w a (X.Switch arms) is h = no_line (ap (λ z. line_by l x vs
 no_exit l x vs role w a X.Stop is h = none_some h
 
 -- an exit that no op has reads nothing
-exit_plain : (e : SsaExit) (vs us : List ℕ) → exit_role e ≡ None → exit_over e vs ≡ exit_over e us
+pub exit_plain : (e : SsaExit) (vs us : List ℕ) → exit_role e ≡ None → exit_over e vs ≡ exit_over e us
 exit_plain X.Return vs us h = none_some (sym h)
 exit_plain (X.Jump to) vs us h = refl
 exit_plain (X.Test taken other) vs us h = none_some (sym h)

@@ -63,7 +63,7 @@ beside_width ws from w u (b ∷ bs) (v ∷ vs) h is =
     by true q here next = ap ws (sym (some_same q)) ∙ here
     by false q here next = next q
 
-carried_width : (ws : ℕ → ℕ) (v from to : ℕ) (bs : List ℕ) (r : OpRow) (role : Role)
+pub carried_width : (ws : ℕ → ℕ) (v from to : ℕ) (bs : List ℕ) (r : OpRow) (role : Role)
     → ws v ≡ bytes_of r.width
     → fits role (bytes_of r.width) (map ws r.inputs) ≡ true
     → ws (carried v from to bs r role) ≡ ws v

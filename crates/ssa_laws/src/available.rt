@@ -1,6 +1,7 @@
 //! The laws. Each function does nothing but bring in what is known of its functions, and its contract is the law.
 
 ghost use Rattle.ssa_laws.specs.Law.{EquationsHold};
+ghost use Rattle.ssa_laws.specs.Quiet.{WithoutQuietShows};
 ghost use Rattle.ssa_laws.specs.Replace.{SameWordRunsAlike};
 ghost use Rattle.ssa_laws.specs.Retarget.{SameValueRunsAlike};
 ghost use Rattle.ssa_laws.specs.Words.{ValuesAreWords};
@@ -35,4 +36,12 @@ pub fn same_word_runs_alike(listing: &Listing, before: &SsaFunction, after: &Ssa
     ensures { SameWordRunsAlike listing.now before.now.parts after.now.parts }
 {
     before.parts().graph.known();
+}
+
+/// Without quiet ops, whose values they alone read, the function shows the same.
+pub fn without_quiet_ops(listing: &Listing, before: &SsaFunction, after: &SsaFunction)
+    ensures { WithoutQuietShows listing.now before.now.parts after.now.parts }
+{
+    before.parts().graph.known();
+    after.parts().graph.known();
 }
