@@ -193,8 +193,7 @@ module _
             let found = row_in l q e whole' ssa' c x.op (last_none (block_at q.graph c) x.op x.last) in
             let place : x.row.block ≡ c = ap (λ (t : OpRow). t.block) (some_same (sym x.at ∙ found.1)) ∙ found.2 in
             let closes = ssa.formed.leaves x.op (form_of (op_at p.graph) x.row) (ap (form_in (op_at p.graph)) row)
-            (ap is_exit_role x.is ∙ exit_is_exit z.exit role has) in
-            (
+            (ap is_exit_role x.is ∙ exit_is_exit z.exit role has) in (
               x.op,
               (x.row, ap (λ d. last_or None (block_at p.graph d)) (sym place) ∙ closes.1.0.0, x.last, row, x.at, n),
             )
