@@ -1,6 +1,6 @@
 -- MULTIEQUALs are copies through fresh variables: what the general lemma on blocks with edges asks of a function.
 use Rattle.std.proofs.Common.{◌≡◌, ℕ, ◌<◌, Bool, true, false, cond, List, [], ◌∷◌, ◌++◌, ◌⊎◌, inl, inr, length, Option, Some, None, refl, sym, ap, ◌∙◌, subst, slice_get, arith}
-use Rattle.std.specs.Prelude.{◌-◌, ◌==◌}
+use Rattle.std.specs.Prelude.{◌-◌}
 use Rattle.std.proofs.lemmas.Bool.{lt-ltb}
 use Rattle.std.proofs.lemmas.Option.{slice_get_within}
 use Rattle.heap_nodes.proofs.Places.{some_same, none_some}
@@ -17,11 +17,12 @@ use Rattle.node_lists.specs.Chains.{IsIn}
 use Rattle.opgraph.specs.Graph.{OpRow, op_slot, op_at, block_at, IsWhole}
 use Rattle.ssa_model.specs.declared.form.SsaExit.{SsaExit}
 use Rattle.ssa_model.specs.declared.form.Parts.{Parts}
-use Rattle.ssa_model.specs.Roles.{Role, Joins, role_of}
+use Rattle.ssa_model.specs.Roles.{role_of}
 use Rattle.ssa_model.specs.Outline.{form, exit_in, block_with, predecessors_at}
 use Rattle.ssa_model.specs.Edits.{IsSsa}
-use Rattle.ssa_model.specs.Lines.{line_of, body_of, block_by, beside, or_else, carried, carried_row, through}
+use Rattle.ssa_model.specs.Lines.{line_of, body_of, block_by, carried, carried_row, through}
 use Rattle.ssa_model.specs.Run.{blocks_of}
+use Rattle.ssa_laws.proofs.Dropped.{carried_is}
 use Rattle.ssa_laws.specs.Law.{NoneAtEntry}
 use Rattle.ssa_laws.proofs.Lines.{IsLine, NoLine, OneLine}
 use Rattle.ssa_laws.proofs.Keeps.{line_at, reads_inputs}
@@ -33,37 +34,6 @@ use Rattle.leaving_laws.proofs.Strict.{input_value, function_defined}
 use Rattle.leaving_laws.proofs.Heads.{in_number, number_in, Head, head_is, is_head, not_head, in_heads, heads_in, in_next, next_in}
 use Rattle.leaving_laws.proofs.Leads.{leads_named}
 use Rattle.leaving_laws.proofs.Known.{inputs_known}
-
--- an input of a MULTIEQUAL is one of its inputs
-beside_in : (from : ℕ) (bs vs : List ℕ) (w : ℕ) → beside from bs vs ≡ Some w → IsIn w vs
-beside_in from [] vs w is = none_some is
-beside_in from (b ∷ bs) [] w is = none_some is
-beside_in from (b ∷ bs) (v ∷ vs) w is = by_same (b == from) is (beside_in from bs vs w)
-  where
-    by_same : (c : Bool)
-        → cond c (Some v) (beside from bs vs) ≡ Some w
-        → (beside from bs vs ≡ Some w → IsIn w vs)
-        → IsIn w (v ∷ vs)
-    by_same true h next = inl (sym (some_same h))
-    by_same false h next = inr (next h)
-
--- over an edge a value is itself or one of its inputs
-carried_in : (v from to : ℕ) (bs : List ℕ) (r : OpRow) (role : Role)
-    → (carried v from to bs r role ≡ v) ⊎ IsIn (carried v from to bs r role) r.inputs
-carried_in v from to bs r (Joins atom) = by_place (r.block == to)
-  where
-    by_input : (o : Option ℕ)
-        → beside from bs r.inputs ≡ o
-        → (or_else o v ≡ v) ⊎ IsIn (or_else o v) r.inputs
-    by_input None is = inl refl
-    by_input (Some w) is = inr (beside_in from bs r.inputs w is)
-
-    by_place : (c : Bool)
-        → (cond c (or_else (beside from bs r.inputs) v) v ≡ v)
-        ⊎ IsIn (cond c (or_else (beside from bs r.inputs) v) v) r.inputs
-    by_place true = by_input (beside from bs r.inputs) refl
-    by_place false = inl refl
-carried_in v from to bs r role = inl refl
 
 module _ (l : Listing) (p : Parts) (e : Entry) (whole : IsWhole p.graph) (ssa : IsSsa (form p)) where
   abbrev k : Blocks
@@ -91,7 +61,7 @@ module _ (l : Listing) (p : Parts) (e : Entry) (whole : IsWhole p.graph) (ssa : 
 
   pub through_is : (b c v : ℕ) → IsOp v → IsOp (through p b c v)
   through_is b c v r =
-      subst IsOp (sym same) (by_side (carried_in v b c (predecessors_at p.blocks c) r.0 (role_of r.0.code)))
+      subst IsOp (sym same) (by_side (carried_is v b c (predecessors_at p.blocks c) r.0 (role_of r.0.code)))
     where
       over : ℕ
       over = carried v b c (predecessors_at p.blocks c) r.0 (role_of r.0.code)

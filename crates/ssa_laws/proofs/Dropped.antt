@@ -1,28 +1,26 @@
 -- A function without quiet ops, whose values they alone read, shows the same. What is needed of the variables are the
 -- values of the ops that stay.
-use Rattle.std.proofs.Common.{◌≡◌, ◌≢◌, ℕ, ◌<◌, ◌+◌, Bool, true, false, List, [], ◌∷◌, ◌++◌, ◌⊎◌, inl, inr, map, Option, Some, None, refl, sym, ap, ◌∙◌, subst, slice_get, arith, true≢false}
+use Rattle.std.proofs.Common.{◌≡◌, ◌≢◌, ℕ, ◌<◌, Bool, true, false, List, [], ◌∷◌, ◌++◌, ◌⊎◌, inl, inr, Option, Some, None, refl, sym, ap, ◌∙◌, subst, arith}
 use Rattle.std.specs.Prelude.{◌==◌, cond}
 use Rattle.heap_nodes.proofs.Places.{some_same, none_some}
-use Rattle.machine.specs.TwoWay.{TwoWay}
 use Rattle.pcode_model.specs.declared.listing.Listing.{Listing}
 use Rattle.pcode_model.specs.World.{Entry}
-use Rattle.cmeaning.specs.declared.tree.Expr.{Expr}
 use Rattle.cmeaning.specs.declared.tree.Expr.TheVariants as E
 use Rattle.cmeaning.specs.declared.tree.Stmt.{Stmt}
 use Rattle.cmeaning.proofs.Value.{value_of_var, width_of_var}
 use Rattle.blockcode.specs.declared.code.Exit.TheVariants as C
 use Rattle.blockcode.specs.Run.{call_returns}
 use Rattle.node_lists.specs.Chains.{IsIn, last_or}
-use Rattle.node_lists.proofs.Chains.{eqb_is, last_none}
+use Rattle.node_lists.proofs.Chains.{last_none}
 use Rattle.parts.specs.Exprs.{reads_all, own, named, KeepsWidths}
-use Rattle.parts.specs.Stmts.{Action, action_of, target_of, args_of}
+use Rattle.parts.specs.Stmts.{action_of, target_of, args_of}
 use Rattle.parts.proofs.Nodes.{with_var}
 use Rattle.parts.proofs.Values.{with_each_itself}
-use Rattle.edges.specs.Exits.{exit_args, leads, LeadsTo}
-use Rattle.edges.specs.Run.{Blocks, stmts_of, exit_of, stmts_at, exit_at, seen_blocks}
+use Rattle.edges.specs.Exits.{exit_args, leads}
+use Rattle.edges.specs.Run.{Blocks, stmts_of, exit_of, stmts_at, exit_at}
 use Rattle.edges.specs.Live.{IsDefined, EndsInCall, IsLeftOf}
 use Rattle.edges.specs.Laws.{Shows}
-use Rattle.edges.specs.Follow.{Link, Needs, NothingKnown, Needed, IsQuiet, Follows, Ends, Kept, Gone, StandsFor}
+use Rattle.edges.specs.Follow.{Link, Needs, NothingKnown, IsQuiet, Follows, Ends, Kept, Gone, StandsFor}
 use Rattle.edges.proofs.Follow.{shows_the_same, target_defined}
 use Rattle.edges.proofs.Dead.{Itself}
 use Rattle.edges.proofs.Returns.{KeepsCalls, Nothing, Both, Less, left_behind, returns_kept, quiet_no_call}
@@ -32,10 +30,10 @@ use Rattle.ssa_model.specs.declared.form.SsaExit.{SsaExit}
 use Rattle.ssa_model.specs.declared.form.SsaExit.TheVariants as X
 use Rattle.ssa_model.specs.declared.form.SsaBlock.{SsaBlock}
 use Rattle.ssa_model.specs.declared.form.Parts.{Parts}
-use Rattle.ssa_model.specs.Roles.{Role, Joins, Tests, Switches, Returns, role_of}
-use Rattle.ssa_model.specs.Outline.{Form, bytes_of, form, form_of, form_in, width_in, exit_in, block_with, predecessors_at}
-use Rattle.ssa_model.specs.Formed.{exit_role, is_exit_role, fits}
-use Rattle.ssa_model.specs.Drops.{is_in, without_all, AreUnread, without_ops}
+use Rattle.ssa_model.specs.Roles.{Role, Joins, role_of}
+use Rattle.ssa_model.specs.Outline.{Form, form, form_of, form_in, width_in, exit_in, block_with, predecessors_at}
+use Rattle.ssa_model.specs.Formed.{exit_role, is_exit_role}
+use Rattle.ssa_model.specs.Drops.{without_all}
 use Rattle.ssa_model.specs.Edits.{IsSsa}
 use Rattle.ssa_model.specs.Lines.{line_of, body_of, exit_over, last_inputs, block_by, beside, or_else, carried, carried_row}
 use Rattle.ssa_model.specs.Run.{first_word, blocks_of}
@@ -45,7 +43,7 @@ use Rattle.ssa_laws.proofs.Lines.{IsLine, NoLine, OneLine}
 use Rattle.ssa_laws.proofs.Keeps.{line_at, reads_inputs, target_at, target_is}
 use Rattle.ssa_laws.proofs.Runs.{row_in}
 use Rattle.ssa_laws.proofs.Retargets.{exit_plain}
-use Rattle.ssa_laws.proofs.Leaving.{Leaves, args_in, leaver, last_is, is_read}
+use Rattle.ssa_laws.proofs.Leaving.{Leaves, args_in, leaver, is_read}
 use Rattle.ssa_laws.proofs.Stopping.{stops_called}
 use Rattle.ssa_laws.proofs.Words.{carried_width}
 
@@ -69,7 +67,8 @@ beside_in from u (b ∷ bs) (v ∷ vs) is = by (b == from) is (beside_in from u 
     by true q next = inl (sym (some_same q))
     by false q next = inr (next q)
 
-carried_is : (v from to : ℕ) (bs : List ℕ) (r : OpRow) (role : Role)
+-- over an edge a value is itself or one of its inputs
+pub carried_is : (v from to : ℕ) (bs : List ℕ) (r : OpRow) (role : Role)
     → (carried v from to bs r role ≡ v) ⊎ IsIn (carried v from to bs r role) r.inputs
 carried_is v from to bs r (Joins atom) = by (r.block == to) (beside from bs r.inputs) refl
   where

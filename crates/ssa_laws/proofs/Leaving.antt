@@ -1,39 +1,23 @@
 -- The op by which a block is left: it has the exit's role, and the exit reads its inputs.
-use Rattle.std.proofs.Common.{◌≡◌, ℕ, zero, suc, ◌<◌, Bool, true, false, List, [], ◌∷◌, ◌++◌, ◌⊎◌, inl, inr, map, Option, Some, None, refl, sym, ap, ◌∙◌, subst, slice_get, arith, true≢false}
-use Rattle.std.specs.Prelude.{◌==◌, cond}
-use Rattle.std.proofs.Math.Path.{fun_ext}
+use Rattle.std.proofs.Common.{◌≡◌, ℕ, ◌<◌, true, List, [], ◌∷◌, inl, map, Option, Some, None, refl, sym, ap, ◌∙◌, subst, arith, true≢false}
 use Rattle.heap_nodes.proofs.Places.{some_same, none_some}
 use Rattle.bits_core.specs.declared.word.Width.{Width}
-use Rattle.machine.specs.Trace.{End, Undefined}
-use Rattle.machine.specs.Machine.{after}
 use Rattle.pcode_model.specs.declared.listing.Listing.{Listing}
-use Rattle.pcode_model.specs.World.{Entry, first_world, unless_over}
-use Rattle.cmeaning.specs.declared.tree.Stmt.{Stmt}
-use Rattle.cmeaning.specs.Do.{Local, ends, values_of, do_simple}
-use Rattle.node_lists.specs.Chains.{IsIn, Apart, last_or}
-use Rattle.node_lists.proofs.Chains.{eqb_is, in_right, apart_sides}
-use Rattle.opgraph.proofs.Relinks.{last_split}
-use Rattle.std.proofs.lemmas.List.{map-append}
+use Rattle.node_lists.specs.Chains.{IsIn, last_or}
 use Rattle.parts.proofs.Values.{read_is}
-use Rattle.blockcode.specs.Run.{call_returns}
-use Rattle.parts.specs.Exprs.{Env, reads_all, named, all_of}
-use Rattle.parts.specs.Stmts.{with_args}
-use Rattle.edges.specs.Exits.{exit_args, exit_with, Where, Onto, Out, leads}
-use Rattle.edges.specs.Run.{Blocks, Going, going, stmts_of, exit_of, exit_at, stmts_at, over_edge, arrives, leaves, returns_at, exec, blocks_step, first_state, start_blocks}
-use Rattle.edges.proofs.Steps.{exit_with_args, exit_with_leads}
-use Rattle.opgraph.specs.Graph.{OpRow, op_at, block_at, inputs_in, IsWhole, renamed, renamed_row}
+use Rattle.parts.specs.Exprs.{reads_all}
+use Rattle.edges.specs.Exits.{exit_args}
+use Rattle.opgraph.specs.Graph.{OpRow, op_at, block_at, inputs_in}
 use Rattle.ssa_model.specs.declared.form.SsaExit.{SsaExit}
 use Rattle.ssa_model.specs.declared.form.SsaExit.TheVariants as X
 use Rattle.ssa_model.specs.declared.form.SsaBlock.{SsaBlock}
 use Rattle.ssa_model.specs.declared.form.Parts.{Parts}
-use Rattle.ssa_model.specs.Roles.{Role, Joins, Tests, Switches, Returns, role_of}
-use Rattle.ssa_model.specs.Outline.{Form, OpForm, bytes_of, form, outline, form_of, form_in, forms_of, width_in, width_at, exit_in, block_with, predecessors_at}
-use Rattle.ssa_model.specs.Paths.{UsedAt, Read, Joined, IsJoin, before_op}
+use Rattle.ssa_model.specs.Roles.{Role, Tests, Switches, Returns, role_of}
+use Rattle.ssa_model.specs.Outline.{OpForm, bytes_of, form, form_of, form_in, forms_of, width_at, exit_in, block_with}
+use Rattle.ssa_model.specs.Paths.{IsJoin}
 use Rattle.ssa_model.specs.Formed.{exit_role, fits}
 use Rattle.ssa_model.specs.Edits.{IsSsa}
-use Rattle.ssa_model.specs.Lines.{line_of, line_by, body_of, exit_over, last_inputs, block_by, beside, or_else, carried, carried_row}
-use Rattle.ssa_model.specs.Run.{first_word, blocks_of}
-use Rattle.ssa_model.proofs.Renaming.{width_kept, either, value_kept}
+use Rattle.ssa_model.specs.Lines.{line_by, exit_over, last_inputs}
 
 -- a test and a switch read something
 abbrev pub IsRead : SsaExit → List ℕ → Type 0
